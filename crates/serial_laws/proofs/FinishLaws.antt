@@ -1,22 +1,21 @@
 -- Finishes on a board of one thread are those that rounds make: a world at rest stays as it is, so a scan that moves nothing there is no
 -- round.
-use Rattle.std.proofs.Common.{◌≡◌, ◌∙◌, ℕ, zero, suc, ◌+◌, ◌<◌, ◌≤◌, Bool, true, false, cond, not, List, [], ◌∷◌, ◌++◌, append_assoc, length, map, Option, Some, None, refl, sym, ap, subst, inl, inr, ◌⊎◌, ⊎_elim, arith}
+use Rattle.std.proofs.Common.{◌≡◌, ◌∙◌, ℕ, zero, suc, ◌+◌, ◌<◌, ◌≤◌, Bool, true, false, cond, not, List, [], ◌∷◌, ◌++◌, append_assoc, length, map, refl, sym, ap, subst, ◌⊎◌, ⊎_elim, arith}
 use Rattle.std.specs.Prelude.{◌==◌, ◌&&◌, ◌||◌, IsTrue, fold}
-use Rattle.std.specs.List.{AllByRecursion, sum_by}
-use Rattle.std.proofs.lemmas.Bool.{both_ways, cases_Bool, cases_eq, eq-eqb, ne_eqb, or_cases, or_left, or_parts, or_right}
+use Rattle.std.specs.List.{AllByRecursion}
+use Rattle.std.proofs.lemmas.Bool.{both_ways, cases_eq, eq-eqb, ne_eqb, or_left, or_right}
 use Rattle.std.proofs.lemmas.List.{append-nil, length-append}
 use Rattle.std.proofs.lemmas.List.Concat.{flat_map-append}
 use Rattle.std.proofs.lemmas.List.Elements.{filter_map-append}
 use Rattle.std.proofs.lemmas.List.Sums.{fold-append, sum_by-append, sum_by-cons}
-use Rattle.base.proofs.OptionLaws.{true_from_not}
 use Rattle.gate_records.specs.declared.entry.Entry.{Entry}
 use Rattle.change_board.specs.Scans.{look_entry}
 use Rattle.change_board.specs.Sights.{sight_entry}
 use Rattle.change_board.specs.Transcripts.{Item, said, entries, entry_in, lines}
-use Rattle.change_engine.specs.Finishing.{EndsAfter, EndsWith, GoesOn, IsScanIn, ScanSeen, all_entries, count_of, ends_finish, rounds_in, seen_entries}
+use Rattle.change_engine.specs.Finishing.{EndsAfter, EndsWith, GoesOn, IsScanIn, ScanSeen, all_entries, count_of, rounds_in, seen_entries}
 use Rattle.change_engine.specs.Passivating.{silent_items}
 use Rattle.change_law.specs.Opening.{fold_of_node}
-use Rattle.change_law.specs.Serial.{FinishesAt, finish_ends}
+use Rattle.change_law.specs.Serial.{finish_ends}
 use Rattle.change_law.specs.Statements.{finish}
 use Rattle.change_script.specs.declared.report.HistoryLine.TheVariants as to
 use Rattle.headline_laws.specs.Pieces.{AreFinishItems, config_at}
@@ -25,13 +24,12 @@ use Rattle.step_board.specs.Playing.{play}
 use Rattle.step_board.specs.RunFacts.{round_goes_on}
 use Rattle.turn_laws.specs.Reached.{IsReached}
 use Rattle.turns.proofs.TurnLaws.{still_rounds_stand}
-use Rattle.turns.specs.Hints.{without_hints}
 use Rattle.turns.specs.Round.{FirstAt, Round, after_rounds, is_at_rest, round, stands_still}
 use Rattle.turns.specs.World.{World, state_of}
 use Rattle.serial_laws.specs.Behind.{AreByRounds, IsPlayedBehind, world_behind}
 use Rattle.serial_laws.proofs.RestedLaws.{seen_at_rest}
 use Rattle.serial_laws.proofs.RunLaws.{scan_leads, true_scan}
-use Rattle.serial_laws.proofs.WorldLaws.{AreSo, behind_both, config_behind, front_of_rounds, reached_behind, sights_leave, so_behind, so_parts}
+use Rattle.serial_laws.proofs.WorldLaws.{AreSo, behind_both, config_behind, front_of_rounds, reached_behind, so_behind, so_parts}
 use Rattle.change_engine.proofs.ItemLaws.{lines_both, silent_entries, silent_lines}
 
 -- what hint_laws says of worlds at rest, and report_laws of what nodes have come to

@@ -1,8 +1,8 @@
 -- What a scan sees at rest is at rest, where it sights each node and looks at each port.
-use Rattle.std.proofs.Common.{◌≡◌, ◌∙◌, ℕ, ◌<◌, Bool, true, false, not, List, [], ◌∷◌, map, length, Option, Some, refl, sym, ap, subst, ⊎_elim, arith}
+use Rattle.std.proofs.Common.{◌≡◌, ◌∙◌, ℕ, ◌<◌, Bool, true, false, not, List, [], ◌∷◌, map, length, Some, refl, sym, ap, subst, arith}
 use Rattle.std.specs.Prelude.{◌==◌, ◌&&◌, ◌||◌, find, option_map}
 use Rattle.std.specs.List.{list_all, range_with_len}
-use Rattle.std.proofs.lemmas.Bool.{both_ways, cases_Bool, false_from_ne_true}
+use Rattle.std.proofs.lemmas.Bool.{both_ways}
 use Rattle.base.proofs.FindLaws.{find-map}
 use Rattle.gate_records.specs.Looks.{is_idle_word}
 use Rattle.change_board.specs.Scans.{Found, SightsAll, all_ports, is_idle_if_live, is_seen_at_rest, live_nodes, ports_of}

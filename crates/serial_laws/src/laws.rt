@@ -23,27 +23,28 @@ pub fn starts_are_played()
         → IsDone alone before (start name args g) t → IsPlayedBehind before (start name args g) t }
 {}
 
-/// And those of a change: it waits for as many rounds, finds the same ports drained, and ends in the same way.
+/// The items of a change are those that rounds make: it waits for as many rounds, finds the same ports drained, and
+/// ends in the same way.
 pub fn changes_are_played()
     ensures change { (alone : Bool) (before t : List Item) (name : List ℕ) (args : List ℤ) (g : Graph) (within : ℕ)
         (moves : List Move) → AreByRounds (before ++ t) → IsDone alone before (change name args g within moves) t
         → IsPlayedBehind before (change name args g within moves) t }
 {}
 
-/// And that of a show.
+/// The items of a show are those that rounds make.
 pub fn shows_are_played()
     ensures show { (alone : Bool) (before t : List Item) → AreByRounds (before ++ t) → IsDone alone before show t
         → IsPlayedBehind before show t }
 {}
 
-/// And those of a run: it makes as many rounds, and tells how many transactions ended.
+/// The items of a run are those that rounds make: as many of them, and how many transactions ended.
 pub fn runs_are_played()
     ensures run { (before t : List Item) (k : ℕ) → AreByRounds (before ++ t) → IsDone true before (run k) t
         → IsPlayedBehind before (run k) t }
 {}
 
-/// And those of a finish: it makes as many rounds, since a scan that moves nothing where all is at rest leaves all as
-/// it is.
+/// The items of a finish are those that rounds make: as many of them, since a scan that moves nothing where all is at
+/// rest leaves all as it is.
 pub fn finishes_are_played()
     ensures finish { (before t : List Item) (n : ℕ) → AreByRounds (before ++ t) → IsDone true before (finish n) t
         → IsPlayedBehind before (finish n) t }
@@ -52,7 +53,8 @@ pub fn finishes_are_played()
     states_are_folds_of_own_events();
 }
 
-/// And those of the stop: it waits for as many rounds, until each port that it closed is drained.
+/// The items of the stop are those that rounds make: it waits for as many rounds, until each port that it closed is
+/// drained.
 pub fn stops_are_played()
     ensures stop { (before t : List Item) → AreByRounds (before ++ t) → AreStopItems before t → StopsBehind before t }
 {}
