@@ -5,4 +5,5 @@ mod PostLemmas
 pub mod PostedLaws
 mod RequestLemmas
 pub mod RestLaws
+mod StayingLemmas
 pub mod StillLaws

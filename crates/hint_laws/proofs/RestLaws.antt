@@ -143,7 +143,7 @@ module _ (w : World) (h : Hinted w) (idle : AreIdle w.machine) where
     pub posts_nothing : post_waiting w n ≡ w
     posts_nothing = nothing_posted 0 (waiting_of w n) none_waits
 
-  box_stays : (n : ℕ) (b : Bool) → cond b (without_hint w n) w ≡ w
+  pub box_stays : (n : ℕ) (b : Bool) → cond b (without_hint w n) w ≡ w
   box_stays n true =
       let same : set w.inboxes n (drop 1 (inbox w n)) ≡ w.inboxes =
       ap (set w.inboxes n) (ap (drop 1) (empty_box n) ∙ sym (empty_box n)) ∙ set-get_or w.inboxes n [] in

@@ -178,7 +178,7 @@ quiet_before w u n h q =
           let grown = h.grows n in no_length (inbox w n) (omega (arith, none_, grown));
     }
 
-moved_on : (allowed : Bool) (ns : List ℕ) (r : Round) → r.moved ≡ true → (fold (give_turn allowed) r ns).moved ≡ true
+pub moved_on : (allowed : Bool) (ns : List ℕ) (r : Round) → r.moved ≡ true → (fold (give_turn allowed) r ns).moved ≡ true
 moved_on allowed [] r h = h
 moved_on allowed (n ∷ ns) r h = moved_on allowed ns (give_turn allowed r n) (ap (λ b. b || is_some (turn r.world n allowed).event) h)
 
