@@ -15,7 +15,7 @@ use Rattle.gate_records.specs.declared.entry.Entry.TheVariants.{Did}
 use Rattle.change_board.specs.Making.{Makes}
 use Rattle.gate_records.specs.Records.{Adds, May}
 use Rattle.change_board.specs.Sights.{sight_entry}
-use Rattle.change_board.specs.Steps.{Deed, DoesEvents, MayDoAll, deed_entries, entries_of}
+use Rattle.change_board.specs.Steps.{Deed, DoesEvents, MayDoAll, deed_entries, entries_of, events_of}
 use Rattle.base.proofs.PlaceLaws.{heads_are}
 use Rattle.change_board.proofs.StepLaws.{alike_deed, may_all_alike}
 
@@ -52,12 +52,12 @@ module _ {B : Type 0} (S : B → List Entry → Type 0) where
   pub does_both : (a b c : B) (es fs : List Event) → DoesEvents S a b es → DoesEvents S b c fs → DoesEvents S a c (es ++ fs)
   does_both a b c es fs x y = record {
     deeds = x.deeds ++ y.deeds;
-    events_are = map-append (λ (d : Deed). d.event) x.deeds y.deeds ∙ ap (λ zs. zs ++ map (λ (d : Deed). d.event) y.deeds) x.events_are ∙ ap (λ zs. es ++ zs) y.events_are;
+    events_are = map-append (λ (d : Deed). d.event) x.deeds y.deeds ∙ ap (λ zs. zs ++ events_of y.deeds) x.events_are ∙ ap (λ zs. es ++ zs) y.events_are;
     adds = subst (λ zs. Adds S a c zs) (sym (flat_map-append deed_entries x.deeds y.deeds)) (adds_both a b c (entries_of x.deeds) (entries_of y.deeds) x.adds y.adds);
   }
 
   -- what may be done next once the first event is done
-  by_deeds : (r : List Entry) (e : Event) (es : List Event) (ds : List Deed) → map (λ (d : Deed). d.event) ds ≡ e ∷ [] → MayDoAll (r ++ Did e ∷ []) es → MayDoAll (r ++ entries_of ds) es
+  by_deeds : (r : List Entry) (e : Event) (es : List Event) (ds : List Deed) → events_of ds ≡ e ∷ [] → MayDoAll (r ++ Did e ∷ []) es → MayDoAll (r ++ entries_of ds) es
   by_deeds r e es [] is h = absurd (omega (arith, ap length is))
   by_deeds r e es (d ∷ []) is h =
       subst (λ zs. MayDoAll (r ++ zs) es) (sym (append-nil (deed_entries d)))

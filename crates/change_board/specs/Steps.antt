@@ -56,6 +56,9 @@ pub record Deed : Type 0 where
   pub event : Event
   pub sights : List Sight
 
+abbrev pub events_of : List Deed → List Event
+events_of deeds = map (λ (d : Deed). d.event) deeds
+
 abbrev pub deed_entries : Deed → List Entry
 deed_entries d = Did d.event ∷ map sight_entry d.sights
 
@@ -65,5 +68,5 @@ entries_of deeds = flat_map deed_entries deeds
 -- these events were done, one after the other
 pub record DoesEvents {B : Type 0} (S : B → List Entry → Type 0) (old new : B) (events : List Event) : Type 0 where
   pub deeds : List Deed
-  pub events_are : map (λ (d : Deed). d.event) deeds ≡ events
+  pub events_are : events_of deeds ≡ events
   pub adds : Adds S old new (entries_of deeds)

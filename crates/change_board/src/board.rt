@@ -57,8 +57,8 @@ pub trait Board {
     /// Nodes take turns in scans of this board and nowhere else.
     ghost alone: { Bool };
 
-    /// Whether nodes take turns in scans of this board alone. That nothing moves any more where a scan moved nothing
-    /// is for a type that answers true to promise.
+    /// Whether nodes take turns in scans of this board alone. Where it is true, a run and a finish end with a scan that
+    /// moved nothing.
     fn is_alone(&self) -> bool
         ensures { result ≡ alone };
 

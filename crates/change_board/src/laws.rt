@@ -10,7 +10,6 @@ ghost use Rattle.quiesce_core.specs.Runs.{done_by, state_after};
 ghost use Rattle.change_board.specs.Bearing.{Bears};
 ghost use Rattle.gate_records.specs.Entries.{config_of, events_in};
 ghost use Rattle.gate_records.specs.declared.entry.Entry.{Entry};
-ghost use Rattle.gate_records.specs.declared.entry.Entry.TheVariants.{Did};
 ghost use Rattle.gate_records.specs.Notes.{is_noted};
 ghost use Rattle.change_board.specs.Sights.{fold_seen};
 ghost use Rattle.change_board.specs.Steps.{MayDoAll, gates_come_last};
