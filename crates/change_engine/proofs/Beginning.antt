@@ -1,10 +1,10 @@
 -- A start on a board for which nothing is recorded.
 use Rattle.std.proofs.Common.{◌≡◌, ℕ, Bool, true, false, cond, List, [], ◌∷◌, ◌++◌, append_assoc, map, Option, Some, None, refl, ap, ◌∙◌, subst}
-use Rattle.std.specs.Prelude.{◌&&◌, ◌||◌, filter, filter_map, option_map}
+use Rattle.std.specs.Prelude.{◌||◌, filter, filter_map, option_map}
 use Rattle.std.specs.List.{cons_option, enumerate_from, list_all, list_any}
 use Rattle.std.proofs.lemmas.Bool.{and_parts, both_ways, or_parts}
 use Rattle.std.proofs.lemmas.List.Elements.{filter-append}
-use Rattle.std.proofs.lemmas.List.Folds.{list_all-append, list_any-append}
+use Rattle.std.proofs.lemmas.List.Folds.{list_any-append}
 use Rattle.config_graph.specs.Graph.{Graph, ports, target_of}
 use Rattle.config_graph.specs.declared.node.Port.{Port}
 use Rattle.config_graph.specs.declared.node.Target.{Target}
@@ -22,6 +22,7 @@ use Rattle.quiesce_core.proofs.SettledLaws.{settled_if}
 use Rattle.quiescence_laws.specs.Starts.{link_of, make_of, reopen_of, start_of}
 use Rattle.change_board.specs.Steps.{MayDoAll, gates_come_last, is_turning}
 use Rattle.change_board.proofs.StepLaws.{may_do_all}
+use Rattle.change_engine.proofs.ItemLaws.{all_mapped, start_is_of_change}
 
 abbrev noted : ℕ → Bool
 noted q = true
@@ -60,22 +61,17 @@ module _ (start : List Event) (allowed : (more_ left : List Event) (e : Event) �
             (steps_from (done ++ e ∷ []) left (append_assoc done (e ∷ []) left ∙ is) ((runs_grow done e).1 (run, ok)) more_own parts.1),
       )
 
--- all of a start is the change's, and its gates are opened last
-all_mapped : {A : Type 0} (test : Event → Bool) (f : A → Event) → ((x : A) → test (f x) ≡ true) → (xs : List A) → list_all test (map f xs) ≡ true
-all_mapped test f h [] = refl
-all_mapped test f h (x ∷ xs) = ap (λ b. b && list_all test (map f xs)) (h x) ∙ all_mapped test f h xs
-
-none_mapped : {A : Type 0} (f : A → Event) → ((x : A) → is_turning (f x) ≡ false) → (xs : List A) → list_any is_turning (map f xs) ≡ false
+-- gates are turned last
+pub none_mapped : {A : Type 0} (f : A → Event) → ((x : A) → is_turning (f x) ≡ false) → (xs : List A) → list_any is_turning (map f xs) ≡ false
 none_mapped f h [] = refl
 none_mapped f h (x ∷ xs) = ap (λ b. b || list_any is_turning (map f xs)) (h x) ∙ none_mapped f h xs
 
-links_are : (g : Graph) (ps : List (ℕ × Port)) → (list_all is_of_change (filter_map (link_of g) ps) ≡ true) × (list_any is_turning (filter_map (link_of g) ps) ≡ false)
-links_are g [] = (refl, refl)
-links_are g (q ∷ ps) = by (target_of g.links q.1.node q.1.require) (links_are g ps)
+links_turn_none : (g : Graph) (ps : List (ℕ × Port)) → list_any is_turning (filter_map (link_of g) ps) ≡ false
+links_turn_none g [] = refl
+links_turn_none g (q ∷ ps) = by (target_of g.links q.1.node q.1.require) (links_turn_none g ps)
   where
-    by : (o : Option Target) → (list_all is_of_change (filter_map (link_of g) ps) ≡ true) × (list_any is_turning (filter_map (link_of g) ps) ≡ false)
-        → (list_all is_of_change (cons_option (option_map (λ (t : Target). Link q.0 t.node t.provide) o) (filter_map (link_of g) ps)) ≡ true)
-        × (list_any is_turning (cons_option (option_map (λ (t : Target). Link q.0 t.node t.provide) o) (filter_map (link_of g) ps)) ≡ false)
+    by : (o : Option Target) → list_any is_turning (filter_map (link_of g) ps) ≡ false
+        → list_any is_turning (cons_option (option_map (λ (t : Target). Link q.0 t.node t.provide) o) (filter_map (link_of g) ps)) ≡ false
     by None rest = rest
     by (Some t) rest = rest
 
@@ -85,30 +81,20 @@ all_turning (y ∷ ys) h =
     let parts = and_parts (is_turning y) (list_all is_turning ys) h in
     ap (λ b. cond b (list_all is_turning ys) (gates_come_last ys)) parts.0 ∙ parts.1
 
-turned_last : (xs ys : List Event) → list_any is_turning xs ≡ false → list_all is_turning ys ≡ true → gates_come_last (xs ++ ys) ≡ true
+pub turned_last : (xs ys : List Event) → list_any is_turning xs ≡ false → list_all is_turning ys ≡ true → gates_come_last (xs ++ ys) ≡ true
 turned_last [] ys h k = all_turning ys k
 turned_last (x ∷ xs) ys h k =
     let parts = or_parts (is_turning x) (list_any is_turning xs) h in
     ap (λ b. cond b (list_all is_turning (xs ++ ys)) (gates_come_last (xs ++ ys))) parts.0 ∙ turned_last xs ys parts.1 k
-
-pub start_is_of_change : (g : Graph) → list_all is_of_change (start_of g) ≡ true
-start_is_of_change g =
-    let makes = map make_of (enumerate_from 0 g.nodes) in
-    let links = filter_map (link_of g) (enumerate_from 0 (ports g.nodes)) in
-    let opens = map reopen_of (enumerate_from 0 (ports g.nodes)) in
-    list_all-append is_of_change (makes ++ links) opens
-    ∙ ap (λ b. b && list_all is_of_change opens) (list_all-append is_of_change makes links
-    ∙ ap (λ b. b && list_all is_of_change links) (all_mapped is_of_change make_of (λ x. refl) (enumerate_from 0 g.nodes)) ∙ (links_are g (enumerate_from 0 (ports g.nodes))).0)
-    ∙ all_mapped is_of_change reopen_of (λ x. refl) (enumerate_from 0 (ports g.nodes))
 
 pub may_start : (g : Graph) → ((more_ left : List Event) (e : Event) → IsRun more_ → filter is_of_change more_ ++ e ∷ left ≡ start_of g → denial (state_after more_) e ≡ None) → MayDoAll [] (start_of g)
 may_start g allowed =
     let makes = map make_of (enumerate_from 0 g.nodes) in
     let links = filter_map (link_of g) (enumerate_from 0 (ports g.nodes)) in
     let opens = map reopen_of (enumerate_from 0 (ports g.nodes)) in
-    let links_ = links_are g (enumerate_from 0 (ports g.nodes)) in
     let last_ : gates_come_last (start_of g) ≡ true =
     turned_last (makes ++ links) opens
-    (list_any-append is_turning makes links ∙ ap (λ b. b || list_any is_turning links) (none_mapped make_of (λ x. refl) (enumerate_from 0 g.nodes)) ∙ links_.1)
+    (list_any-append is_turning makes links ∙ ap (λ b. b || list_any is_turning links) (none_mapped make_of (λ x. refl) (enumerate_from 0 g.nodes))
+    ∙ links_turn_none g (enumerate_from 0 (ports g.nodes)))
     (all_mapped is_turning reopen_of (λ x. refl) (enumerate_from 0 (ports g.nodes))) in
     may_do_all noted [] (start_of g) last_ (λ p n. refl) (steps_from (start_of g) allowed [] (start_of g) refl tt refl (start_is_of_change g))

@@ -1,19 +1,19 @@
 -- How waits break off.
-use Rattle.std.proofs.Common.{◌≡◌, ℕ, ◌<◌, List, [], ◌∷◌, ◌++◌, append_assoc, length, sym, ap, ◌∙◌, subst, inl, inr, arith, Result, Ok, Err}
+use Rattle.std.proofs.Common.{◌≡◌, ℕ, ◌<◌, List, [], ◌∷◌, ◌++◌, append_assoc, length, ap, ◌∙◌, subst, inl, inr, arith, Result, Ok, Err}
 use Rattle.std.specs.Prelude.{◌⊎◌, OnErr}
-use Rattle.std.proofs.lemmas.List.{append-nil}
 use Rattle.std.proofs.lemmas.List.Elements.{filter_map-append}
 use Rattle.change_script.specs.declared.report.HistoryLine.{HistoryLine}
 use Rattle.change_script.specs.declared.report.HistoryLine.TheVariants as to
 use Rattle.gate_records.specs.Entries.{event_in, events_in}
 use Rattle.gate_records.specs.declared.entry.Entry.{Entry}
 use Rattle.gate_records.specs.Records.{Adds}
-use Rattle.change_board.specs.Transcripts.{entries, lines, said}
+use Rattle.change_board.specs.Transcripts.{entries, lines}
 use Rattle.change_engine.specs.Breaking.{BrokeInRound, BrokeInRun, BrokeInScan, BrokeInStop}
 use Rattle.change_engine.specs.Growing.{BrokeOff, Grew}
 use Rattle.change_engine.specs.Passivating.{IsPassivation, Passivation, left_after, passivation_items}
+use Rattle.change_engine.specs.Stopping.{stop_items}
 
-pub stop_told : (h i j : List HistoryLine) (ports : List ℕ) (how : Passivation) → i ≡ h ++ to.Stop ∷ [] → j ≡ i ++ lines (passivation_items ports how) → j ≡ h ++ lines (said to.Stop ∷ passivation_items ports how)
+pub stop_told : (h i j : List HistoryLine) (ports : List ℕ) (how : Passivation) → i ≡ h ++ to.Stop ∷ [] → j ≡ i ++ lines (passivation_items ports how) → j ≡ h ++ lines (stop_items ports how)
 stop_told h i j ports how e f = f ∙ ap (λ ls. ls ++ lines (passivation_items ports how)) e ∙ append_assoc h (to.Stop ∷ []) (lines (passivation_items ports how))
 
 module _ {B : Type 0} (S Broke : B → List Entry → Type 0) where
@@ -35,9 +35,6 @@ module _ {B : Type 0} (S Broke : B → List Entry → Type 0) where
   pub broke_in_stop : (a b : B) (h i j : List HistoryLine) (ports : List ℕ) (within : ℕ) (how : Passivation) → IsPassivation ports within how → i ≡ h ++ to.Stop ∷ [] → j ≡ i ++ lines (passivation_items ports how)
       → ((r : List Entry) → S a r → S b (r ++ entries (passivation_items ports how)) ⊎ Broke b (r ++ entries (passivation_items ports how))) → BrokeInStop S Broke a b h j ports within
   broke_in_stop a b h i j ports within how is e f stands = record { how = how; is_passivation = is; stands = stands; told_all = stop_told h i j ports how e f }
-
-  pub run_broke_off : (a b : B) → BrokeInRun S Broke a b → BrokeOff S Broke a b
-  run_broke_off a b x = record { more_ = x.seen; stands = x.stands }
 
   pub broke_off : (a b : B) (h i : List HistoryLine) (ports : List ℕ) (within : ℕ) → BrokeInRound S Broke a b h i ports within → BrokeOff S Broke a b
   broke_off a b h i ports within x = record { more_ = entries (passivation_items ports x.how); stands = λ r s. inr (x.broke r s) }

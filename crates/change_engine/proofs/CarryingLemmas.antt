@@ -6,7 +6,6 @@ use Rattle.change_law.specs.Members.{lines_of_events}
 use Rattle.change_script.specs.declared.report.HistoryLine.{HistoryLine}
 use Rattle.quiesce_core.specs.declared.event.Event.{Event}
 use Rattle.gate_records.specs.declared.entry.Entry.{Entry}
-use Rattle.gate_records.specs.declared.entry.Entry.TheVariants.{Did}
 use Rattle.change_board.specs.Steps.{DoesEvents, entries_of}
 use Rattle.change_board.specs.Transcripts.{said, entries, lines}
 use Rattle.change_engine.specs.Carrying.{CarriesOut, deed_items}

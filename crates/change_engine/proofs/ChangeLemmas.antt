@@ -1,14 +1,12 @@
 -- An engine whose change is open.
-use Rattle.std.proofs.Common.{◌≡◌, ◌≤◌, ◌<◌, ◌+◌, ℕ, zero, suc, Bool, true, false, cond, List, [], ◌∷◌, ◌++◌, length, map, Option, Some, None, get_or, refl, sym, ap, ◌∙◌, subst, ⊎_elim, arith}
-use Rattle.std.specs.Prelude.{IfErr, IfOk, OnOk, Result, Ok, Err, filter, flat_map, nat_lt, unwrap_or}
-use Rattle.std.specs.List.{AllByRecursion, range_with_len}
-use Rattle.std.specs.Option.{option_map_or}
+use Rattle.std.proofs.Common.{◌≡◌, ◌≤◌, ◌<◌, ◌+◌, ℕ, true, false, List, [], ◌∷◌, ◌++◌, length, map, Option, Some, None, get_or, refl, sym, ap, ◌∙◌, subst, ⊎_elim, arith}
+use Rattle.std.specs.Prelude.{IfErr, IfOk, OnOk, Result, Ok, Err, flat_map}
 use Rattle.std.specs.Global.{Vec}
 use Rattle.std.specs.Vec.{vec_capacity}
 use Rattle.std.proofs.Common.{vec_len}
-use Rattle.std.proofs.lemmas.Bool.{and_from, and_parts, both_ways, lt-ltb, or_cases}
 use Rattle.std.proofs.lemmas.List.{append-nil, get_or-map, length-map, same_lists}
-use Rattle.std.proofs.lemmas.List.Elements.{All-from_recursion, All-head, All-tail}
+use Rattle.std.proofs.lemmas.List.Elements.{All-head, All-tail}
+use Rattle.std.proofs.lemmas.Option.{same_Some}
 use Rattle.change_plan.specs.Refusals.{CanPlan}
 use Rattle.change_plan.specs.declared.plan_data.Move.{Move}
 use Rattle.change_plan.specs.declared.plan_data.Plan.{Plan}
@@ -22,12 +20,12 @@ use Rattle.commit_laws.proofs.MemberLaws.{select, select_apart}
 use Rattle.commit_laws.proofs.TurningLaws.{SameLinks, live_port, same_graph, same_turned}
 use Rattle.config_graph.specs.Graph.{Graph}
 use Rattle.config_graph.specs.declared.node.Port.{Port}
-use Rattle.plan_laws.specs.Commit.{commit_events, is_at, is_one_of, node_path, ports_to_close, stands_in}
+use Rattle.plan_laws.specs.Commit.{commit_events, is_one_of, ports_to_close}
 use Rattle.plan_laws.specs.Committing.{made_in}
 use Rattle.quiesce_core.specs.Effect.{with_closed}
 use Rattle.quiesce_core.specs.Live.{IsGraphOf}
 use Rattle.quiesce_core.specs.Rules.{is_live_port}
-use Rattle.quiesce_core.specs.State.{Configuration, fresh_gate, gate, is_live, owner, slot}
+use Rattle.quiesce_core.specs.State.{Configuration, fresh_gate, gate, owner}
 use Rattle.quiesce_core.specs.WellFormed.{IsSound}
 use Rattle.quiesce_core.specs.declared.event.Event.TheVariants as event
 use Rattle.quiesce_core.specs.declared.state.Slot.{Slot}
@@ -36,7 +34,7 @@ use Rattle.gate_records.specs.declared.entry.Entry.{Entry}
 use Rattle.gate_records.specs.declared.entry.Entry.TheVariants.{Did}
 use Rattle.gate_records.specs.Notes.{is_noted}
 use Rattle.gate_records.specs.Records.{IsRecord}
-use Rattle.change_board.specs.Steps.{HasRoomForAll, Deed, MayDoAll, Room}
+use Rattle.change_board.specs.Steps.{HasRoomForAll, Deed, MayDoAll, Room, events_of}
 use Rattle.change_board.specs.Transcripts.{Item, entries, lines, said}
 use Rattle.change_board.proofs.StepLaws.{config_more}
 use Rattle.change_engine.specs.Carrying.{CarriesOut, deed_items}
@@ -65,7 +63,7 @@ use Rattle.change_engine.proofs.Quieting.{passivation_events}
 use Rattle.change_engine.proofs.StartLemmas.{deeds_events}
 use Rattle.change_engine.proofs.StayingLemmas.{stays_closed}
 use Rattle.change_engine.proofs.ItemLaws.{entries_both, lines_both, carried_entries}
-use Rattle.change_engine.proofs.PassivationLaws.{same_here, closed_links}
+use Rattle.change_engine.proofs.PassivationLaws.{same_here, closed_links, closed_live}
 
 -- The roots that are left, as they are told: they are no entries.
 said_roots : (xs : List LeftRoot) → map said (map root_line xs) ≡ map root_item xs
@@ -79,33 +77,6 @@ same_pending within (x ∷ left) h = ap (λ t. said (to.Pending within) ∷ root
 no_entries : (xs : List LeftRoot) → entries (map root_item xs) ≡ []
 no_entries [] = refl
 no_entries (x ∷ xs) = no_entries xs
-
--- Ports of frozen nodes are live.
-stands_live : (g : Graph) (i : ℕ) (c : Configuration) (n : ℕ) → stands_in g i c n ≡ true → is_live c n ≡ true
-stands_live g i c n h = by (slot c n) h
-  where
-    by : (o : Option Slot) → option_map_or (is_at (node_path g i)) o false ≡ true → option_map_or (λ (m : Slot). m.live) o false ≡ true
-    by None h = h
-    by (Some m) h = (and_parts m.live _ h).0
-
-pub one_live : (g : Graph) (places : List ℕ) (c : Configuration) (n : ℕ) → is_one_of g places c n ≡ true → is_live c n ≡ true
-one_live g [] c n h = absurd (both_ways false refl h)
-one_live g (i ∷ places) c n h = ⊎_elim (stands_live g i c n) (one_live g places c n) (or_cases (stands_in g i c n) (is_one_of g places c n) h)
-
-pub closed_live : (g : Graph) (plan : Plan) (c : Configuration) → AreLivePorts c (ports_to_close g plan c)
-closed_live g plan c = All-from_recursion (λ p. is_live_port c p ≡ true) (ports_to_close g plan c) (from 0 (length c.gates) (omega arith))
-  where
-    test : ℕ → Bool
-    test p = is_one_of g plan.freeze c (owner c p)
-
-    from : (a n : ℕ) → a + n ≤ length c.gates → AllByRecursion (λ p. is_live_port c p ≡ true) (filter test (range_with_len a n))
-    from a zero few = tt
-    from a (suc n) few = by (test a) refl (from (a + 1) n (omega (arith, few)))
-      where
-        by : (b : Bool) → test a ≡ b → AllByRecursion (λ p. is_live_port c p ≡ true) (filter test (range_with_len (a + 1) n))
-            → AllByRecursion (λ p. is_live_port c p ≡ true) (cond b (a ∷ filter test (range_with_len (a + 1) n)) (filter test (range_with_len (a + 1) n)))
-        by true e rest = (and_from (nat_lt a (length c.gates)) (is_live c (owner c a)) (lt-ltb a (length c.gates) (omega (arith, few))) (one_live g plan.freeze c (owner c a) e), rest)
-        by false e rest = rest
 
 -- A layout tells no gate's being closed or open.
 pub same_laid : (l : Layout) (c d : Configuration) (g : Graph) → SameLinks c d → IsLayoutOf l c g → IsLayoutOf l d g
@@ -155,10 +126,7 @@ opens_fit : (ps : List ℕ) (room : Room) → HasRoomForAll room (map event.Reop
 opens_fit [] room = tt
 opens_fit (p ∷ ps) room = (tt, opens_fit ps room)
 
-some_is : {A : Type 0} {x y : A} → Some x ≡ Some y → x ≡ y
-some_is {x = x} e = ap (λ o. unwrap_or o x) e
-
-done_events : (deeds : List Deed) (l : HistoryLine) → events_in (entries (flat_map deed_items deeds ++ said l ∷ [])) ≡ map (λ (d : Deed). d.event) deeds
+done_events : (deeds : List Deed) (l : HistoryLine) → events_in (entries (flat_map deed_items deeds ++ said l ∷ [])) ≡ events_of deeds
 done_events deeds l =
     ap events_in (entries_both (flat_map deed_items deeds) (said l ∷ []) ∙ append-nil (entries (flat_map deed_items deeds)) ∙ carried_entries deeds) ∙ deeds_events deeds
 
@@ -168,7 +136,7 @@ module _ {B : Type 0} (S : B → List Entry → Type 0) (R : B → Room) (runs :
 
   -- the change that is open
   one_change : (t : List Item) (moves : List Move) (plan : Plan) (new : Graph) (change : Change) (h : IsOpen S R e t moves plan new) → e.change ≡ Some change → h.change ≡ change
-  one_change t moves plan new change h open_ = some_is (sym h.open_ ∙ open_)
+  one_change t moves plan new change h open_ = same_Some _ _ (sym h.open_ ∙ open_)
 
   is_for : (t : List Item) (moves : List Move) (plan : Plan) (new : Graph) (change : Change) (h : IsOpen S R e t moves plan new) → e.change ≡ Some change → IsFor e.layout e.graph new plan change
   is_for t moves plan new change h open_ = subst (IsFor e.layout e.graph new plan) (one_change t moves plan new change h open_) h.is_for

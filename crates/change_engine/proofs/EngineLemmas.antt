@@ -25,10 +25,10 @@ use Rattle.change_board.specs.Transcripts.{Item, entries, lines, said}
 use Rattle.gate_records.proofs.RecordLaws.{config_is}
 use Rattle.change_board.specs.declared.board.Collected.{Collected}
 use Rattle.quiesce_core.specs.declared.event.Event.{Event}
-use Rattle.change_engine.specs.Calls.{Continues, HasFinished, HasRun, HasStopped, stop_items}
+use Rattle.change_engine.specs.Calls.{Continues, HasFinished, HasRun, HasStopped}
 use Rattle.change_engine.specs.Ending.{unfinished_after}
 use Rattle.change_engine.specs.Running.{Counts, RunsOn, ScansUntil, ended_since, are_enough}
-use Rattle.change_engine.specs.Stopping.{Stops}
+use Rattle.change_engine.specs.Stopping.{Stops, stop_items}
 use Rattle.change_engine.specs.Engines.{IsIdle, Tells}
 use Rattle.change_engine.specs.Finishing.{Finished, IsScanIn, ScanSeen, all_entries}
 use Rattle.change_engine.specs.Growing.{Grew}

@@ -1,12 +1,12 @@
 -- How records and histories grow.
-use Rattle.std.proofs.Common.{◌≡◌, List, ◌++◌, append_assoc, [], sym, ap, ◌∙◌, subst, inl, inr}
-use Rattle.std.specs.Prelude.{◌⊎◌, OnErr, Result, Ok, Err}
+use Rattle.std.proofs.Common.{◌≡◌, List, ◌++◌, append_assoc, [], sym, ap, ◌∙◌, subst}
+use Rattle.std.specs.Prelude.{OnErr, Result, Ok, Err}
 use Rattle.std.proofs.lemmas.List.{append-nil}
 use Rattle.change_script.specs.declared.report.HistoryLine.{HistoryLine}
 use Rattle.gate_records.specs.declared.entry.Entry.{Entry}
 use Rattle.gate_records.specs.Records.{Adds}
 use Rattle.change_board.specs.Transcripts.{Item, entries, lines}
-use Rattle.change_engine.specs.Growing.{BrokeOff, Grew}
+use Rattle.change_engine.specs.Growing.{Grew}
 use Rattle.change_engine.proofs.ItemLaws.{entries_both, lines_both}
 
 module _ {B : Type 0} (S : B → List Entry → Type 0) where
@@ -26,19 +26,3 @@ grew_none S a h i same = record { adds = λ r s. subst (S a) (sym (append-nil r)
 pub if_err : {A E P : Type 0} → P → (r : Result A E) → OnErr r P
 if_err h (Ok x) = tt
 if_err h (Err e) = h
-
-module _ {B : Type 0} (S Broke : B → List Entry → Type 0) where
-  pub stands_on : (a b : B) (es : List Entry) → Adds S a b es → BrokeOff S Broke a b
-  stands_on a b es x = record { more_ = es; stands = λ r s. inl (x r s) }
-
-  pub nothing_done : (a : B) → BrokeOff S Broke a a
-  nothing_done a = stands_on a a [] (λ r s. subst (S a) (sym (append-nil r)) s)
-
-  pub breaks : (a b : B) → ((r : List Entry) → S a r → Broke b r) → BrokeOff S Broke a b
-  breaks a b h = record { more_ = []; stands = λ r s. inr (subst (Broke b) (sym (append-nil r)) (h r s)) }
-
-  pub breaks_after : (a b c : B) (es : List Entry) → Adds S a b es → BrokeOff S Broke b c → BrokeOff S Broke a c
-  breaks_after a b c es x y = record {
-    more_ = es ++ y.more_;
-    stands = λ r s. subst (λ zs. S c zs ⊎ Broke c zs) (append_assoc r es y.more_) (y.stands (r ++ es) (x r s));
-  }

@@ -1,21 +1,30 @@
--- The entries and the lines of items: of what is seen and not told, and of what a change does.
-use Rattle.std.proofs.Common.{◌≡◌, ◌∙◌, ℕ, List, [], ◌∷◌, ◌++◌, map, Option, Some, None, refl, sym, ap}
-use Rattle.std.specs.Prelude.{flat_map}
-use Rattle.std.specs.List.{cons_option}
+-- The entries and the lines of items: of what is seen, and of what a change does. And all of a start is a change's.
+use Rattle.std.proofs.Common.{◌≡◌, ◌∙◌, ℕ, Bool, true, false, cond, List, [], ◌∷◌, ◌++◌, map, Option, Some, None, refl, sym, ap}
+use Rattle.std.specs.Prelude.{◌&&◌, filter_map, flat_map, option_map}
+use Rattle.std.specs.List.{cons_option, enumerate_from, list_all}
 use Rattle.std.specs.Option.{option_map_or}
 use Rattle.std.proofs.lemmas.List.Concat.{flat_map-cons}
 use Rattle.std.proofs.lemmas.List.Elements.{filter_map-append}
+use Rattle.std.proofs.lemmas.List.Folds.{list_all-append}
+use Rattle.config_graph.specs.Graph.{Graph, ports, target_of}
+use Rattle.config_graph.specs.declared.node.Port.{Port}
+use Rattle.config_graph.specs.declared.node.Target.{Target}
 use Rattle.change_law.specs.Members.{line_of, lines_of_events}
 use Rattle.change_script.specs.declared.report.HistoryLine.{HistoryLine}
 use Rattle.change_script.specs.declared.report.HistoryLine.TheVariants as to
 use Rattle.gate_records.specs.declared.entry.Entry.{Entry}
-use Rattle.gate_records.specs.declared.entry.Entry.TheVariants.{Did}
+use Rattle.gate_records.specs.declared.entry.Entry.TheVariants.{Did, Looked}
+use Rattle.gate_records.specs.Looks.{is_drained_word, serial_of}
+use Rattle.quiesce_core.specs.Doers.{is_of_change}
 use Rattle.quiesce_core.specs.declared.event.Event.{Event}
+use Rattle.quiesce_core.specs.declared.event.Event.TheVariants.{Link}
+use Rattle.quiescence_laws.specs.Starts.{link_of, make_of, reopen_of, start_of}
+use Rattle.change_board.specs.Scans.{Found, look_entry}
 use Rattle.change_board.specs.Sights.{Sight, sight_entry}
-use Rattle.change_board.specs.Steps.{Deed, deed_entries, entries_of}
+use Rattle.change_board.specs.Steps.{Deed, deed_entries, entries_of, events_of}
 use Rattle.change_board.specs.Transcripts.{Item, silent, told, said, entries, entry_in, line_in, lines}
 use Rattle.change_engine.specs.Carrying.{deed_items, event_item, sight_item}
-use Rattle.change_engine.specs.Passivating.{close_item, silent_items}
+use Rattle.change_engine.specs.Passivating.{close_item, item_at, look_item, silent_items}
 
 pub entries_both : (t u : List Item) → entries (t ++ u) ≡ entries t ++ entries u
 entries_both t u = filter_map-append entry_in t u
@@ -40,6 +49,20 @@ said_entries (l ∷ ls) = said_entries ls
 pub said_lines : (ls : List HistoryLine) → lines (map said ls) ≡ ls
 said_lines [] = refl
 said_lines (l ∷ ls) = ap (λ zs. l ∷ zs) (said_lines ls)
+
+-- ---- what looks see
+
+looked : (p w : ℕ) → entry_in (item_at p w) ≡ Some (Looked p w)
+looked p w = by (is_drained_word w)
+  where
+    by : (b : Bool) → entry_in (cond b (told (Looked p w) (to.Drained p (serial_of w))) (silent (Looked p w))) ≡ Some (Looked p w)
+    by true = refl
+    by false = refl
+
+pub look_entries : (found : List Found) → entries (map look_item found) ≡ map look_entry found
+look_entries [] = refl
+look_entries (f ∷ found) =
+    ap (λ o. cons_option o (entries (map look_item found))) (looked f.port f.word) ∙ ap (λ es. look_entry f ∷ es) (look_entries found)
 
 -- ---- what a change does
 
@@ -84,7 +107,7 @@ carried_entries (d ∷ ds) =
     ∙ ap (λ es. es ++ entries (flat_map deed_items ds)) (deed_is d) ∙ ap (λ es. deed_entries d ++ es) (carried_entries ds)
     ∙ sym (flat_map-cons deed_entries d ds)
 
-pub carried_lines : (ds : List Deed) → lines (flat_map deed_items ds) ≡ lines_of_events (map (λ (d : Deed). d.event) ds)
+pub carried_lines : (ds : List Deed) → lines (flat_map deed_items ds) ≡ lines_of_events (events_of ds)
 carried_lines [] = refl
 carried_lines (d ∷ ds) =
     ap lines (flat_map-cons deed_items d ds) ∙ lines_both (deed_items d) (flat_map deed_items ds)
@@ -93,3 +116,29 @@ carried_lines (d ∷ ds) =
 pub close_lines : (ps : List ℕ) → lines (map close_item ps) ≡ map to.Close ps
 close_lines [] = refl
 close_lines (p ∷ ps) = ap (λ ls. to.Close p ∷ ls) (close_lines ps)
+
+-- ---- all of a start is a change's
+
+pub all_mapped : {A : Type 0} (test : Event → Bool) (f : A → Event) → ((x : A) → test (f x) ≡ true) → (xs : List A) → list_all test (map f xs) ≡ true
+all_mapped test f h [] = refl
+all_mapped test f h (x ∷ xs) = ap (λ b. b && list_all test (map f xs)) (h x) ∙ all_mapped test f h xs
+
+links_of_change : (g : Graph) (ps : List (ℕ × Port)) → list_all is_of_change (filter_map (link_of g) ps) ≡ true
+links_of_change g [] = refl
+links_of_change g (q ∷ ps) = by (target_of g.links q.1.node q.1.require) (links_of_change g ps)
+  where
+    by : (o : Option Target) → list_all is_of_change (filter_map (link_of g) ps) ≡ true
+        → list_all is_of_change (cons_option (option_map (λ (t : Target). Link q.0 t.node t.provide) o) (filter_map (link_of g) ps)) ≡ true
+    by None rest = rest
+    by (Some t) rest = rest
+
+pub start_is_of_change : (g : Graph) → list_all is_of_change (start_of g) ≡ true
+start_is_of_change g =
+    let makes = map make_of (enumerate_from 0 g.nodes) in
+    let links = filter_map (link_of g) (enumerate_from 0 (ports g.nodes)) in
+    let opens = map reopen_of (enumerate_from 0 (ports g.nodes)) in
+    list_all-append is_of_change (makes ++ links) opens
+    ∙ ap (λ b. b && list_all is_of_change opens) (list_all-append is_of_change makes links
+    ∙ ap (λ b. b && list_all is_of_change links) (all_mapped is_of_change make_of (λ x. refl) (enumerate_from 0 g.nodes))
+    ∙ links_of_change g (enumerate_from 0 (ports g.nodes)))
+    ∙ all_mapped is_of_change reopen_of (λ x. refl) (enumerate_from 0 (ports g.nodes))

@@ -8,7 +8,7 @@ use Rattle.std.proofs.lemmas.Bool.{both_ways, cases_lt, eq-eqb, eqb-true, le-ltb
 use Rattle.std.proofs.lemmas.List.{append-nil, length-append, length-map, map-append}
 use Rattle.std.proofs.lemmas.List.Elements.{All-tail}
 use Rattle.std.proofs.lemmas.List.Sums.{fold-append}
-use Rattle.std.proofs.lemmas.Option.{get_or_from_slice_get, slice_get-get_or, slice_get-map, slice_get_within}
+use Rattle.std.proofs.lemmas.Option.{get_or_from_slice_get, same_Some, slice_get-get_or, slice_get-map, slice_get_within}
 use Rattle.base.proofs.MapLaws.{map-map, position-map}
 use Rattle.base.proofs.PlaceLaws.{slice_get-append_cases, slice_get-append_front, slice_get-behind, slice_get-front, slice_get-map_at, slice_get-map_some, slice_get-there}
 use Rattle.change_plan.specs.declared.plan_data.Plan.{Plan}
@@ -35,12 +35,9 @@ use Rattle.change_engine.specs.declared.layout.Layout.{Layout}
 use Rattle.change_engine.specs.Layouts.{IsLayoutOf, is_among, is_place, place_at, place_in, port_of}
 use Rattle.change_engine.specs.PlanIn.{IsPlanIn}
 use Rattle.change_engine.specs.Lists.{closed_by, commit_by, is_link_at, is_port_at, is_reopened_at, is_unlinked_at, link_at, link_to, links_by, makes_by, owner_place, place_after, places_after, ports_after, ports_from, ports_in, removes_by, reopens_by, slot_of, source_by, unlinks_by}
-use Rattle.change_engine.proofs.ChangeLemmas.{one_live}
 use Rattle.change_engine.proofs.LayoutLemmas.{has_place, place_there}
+use Rattle.change_engine.proofs.PassivationLaws.{one_live}
 use Rattle.change_engine.proofs.StandLemmas.{one_by_place, path_there, slot_is, stands_by_place}
-
-some_is : {A : Type 0} {x y : A} → Some x ≡ Some y → x ≡ y
-some_is {x = x} e = ap (λ o. unwrap_or o x) e
 
 -- tests that agree below a bound pass the same numbers below it
 pub same_below : (f g : ℕ → Bool) (n : ℕ) → ((p : ℕ) → p < n → f p ≡ g p) → filter f (range_with_len 0 n) ≡ filter g (range_with_len 0 n)
@@ -334,7 +331,7 @@ killed_at rs k [] i m e = absurd (none_some e)
   where
     none_some : None ≡ Some m → ⊥
     none_some e = both_ways true (sym (ap is_some e)) refl
-killed_at rs k (x ∷ ms) zero m e = ap (λ n. Some (cond (list_any (λ r. r == n) rs) (kill x) x)) (omega arith) ∙ ap (λ y. Some (cond (list_any (λ r. r == (k + 0)) rs) (kill y) y)) (some_is e)
+killed_at rs k (x ∷ ms) zero m e = ap (λ n. Some (cond (list_any (λ r. r == n) rs) (kill x) x)) (omega arith) ∙ ap (λ y. Some (cond (list_any (λ r. r == (k + 0)) rs) (kill y) y)) (same_Some _ _ e)
 killed_at rs k (x ∷ ms) (suc i) m e = killed_at rs (k + 1) ms i m e ∙ ap (λ n. Some (cond (list_any (λ r. r == n) rs) (kill m) m)) (omega arith)
 
 -- the slots that makes add are live
@@ -358,7 +355,7 @@ makes_slots old new plan c k (j ∷ js) d =
     }
   where
     live_at : (first : Slot) (rest : List Slot) → first.live ≡ true → ((i : ℕ) (m : Slot) → slice_get rest i ≡ Some m → m.live ≡ true) → (i : ℕ) (m : Slot) → slice_get (first ∷ rest) i ≡ Some m → m.live ≡ true
-    live_at first rest h all zero m e = sym (ap (λ (x : Slot). x.live) (some_is e)) ∙ h
+    live_at first rest h all zero m e = sym (ap (λ (x : Slot). x.live) (same_Some _ _ e)) ∙ h
     live_at first rest h all (suc i) m e = all i m e
 
 -- the owners of the ports that makes add
@@ -545,7 +542,7 @@ module _ (old new : Graph) (plan : Plan) (c : Configuration) (is : IsGraphOf c o
 
       old_port : p < length c.gates → owner at_links p ≡ owner c p
       old_port low =
-          ap (λ (x : Port). x.node) (some_is (sym here
+          ap (λ (x : Port). x.node) (same_Some _ _ (sym here
           ∙ slice_get-append_front (map port_of c.gates) (ports_from new (length (map (place_in old) c.slots)) plan.create) p (subst (λ n. p < n) (sym (length-map c.gates port_of)) low)
           ∙ port_there c old is.paths_rise p low))
 

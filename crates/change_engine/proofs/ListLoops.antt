@@ -1,7 +1,7 @@
 -- Lists that grow with a loop over numbers, behind what was there; and nodes that are made in slots that follow each other.
 use Rattle.std.proofs.Common.{◌≡◌, ℕ, suc, ◌+◌, Bool, List, [], ◌∷◌, ◌++◌, append_assoc, length, map, take, Option, Some, None, refl, sym, ap, ◌∙◌, arith}
 use Rattle.std.specs.Prelude.{filter, filter_map, option_to_list, slice_get, unwrap_or}
-use Rattle.std.specs.List.{cons_option, range_with_len}
+use Rattle.std.specs.List.{range_with_len}
 use Rattle.std.proofs.lemmas.List.{length-take-le, map-append, take_more}
 use Rattle.std.proofs.lemmas.List.Elements.{filter-append, filter_map-append}
 use Rattle.std.proofs.lemmas.Option.{get_or_from_slice_get, slice_get_within}
@@ -16,6 +16,7 @@ use Rattle.quiesce_core.specs.declared.event.Event.{Event}
 use Rattle.quiesce_core.specs.declared.event.Event.TheVariants as event
 use Rattle.plan_laws.specs.Commit.{node_at}
 use Rattle.change_engine.specs.Lists.{makes_by, ports_from, ports_in, source_by}
+use Rattle.change_engine.proofs.Listing.{one_of}
 
 pub passed_on : (f : ℕ → Event) (test : ℕ → Bool) (n : ℕ) (first old new : List Event) → old ≡ first ++ map f (filter test (range_with_len 0 n))
     → new ≡ old ++ map f (filter test (n ∷ [])) → new ≡ first ++ map f (filter test (range_with_len 0 (n + 1)))
@@ -24,10 +25,6 @@ passed_on f test n first old new so_far grown =
     ∙ ap (λ zs. first ++ zs)
     (sym (map-append f (filter test (range_with_len 0 n)) (filter test (n ∷ [])))
     ∙ ap (map f) (sym (filter-append test (range_with_len 0 n) (n ∷ [])) ∙ ap (filter test) (sym (places_more n))))
-
-one_of : {B : Type 0} (o : Option B) → cons_option o [] ≡ option_to_list o
-one_of None = refl
-one_of (Some y) = refl
 
 pub picked_at : (f : ℕ → Option Event) (n : ℕ) (first old new : List Event) → old ≡ first ++ filter_map f (range_with_len 0 n)
     → new ≡ old ++ option_to_list (f n) → new ≡ first ++ filter_map f (range_with_len 0 (n + 1))

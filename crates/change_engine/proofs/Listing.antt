@@ -24,7 +24,7 @@ mapped_on f xs i x first old new y at so_far is grown =
     ∙ ap (λ z. first ++ (map f (take i xs) ++ z ∷ [])) is
     ∙ ap (λ zs. first ++ zs) (sym (map-append f (take i xs) (x ∷ [])) ∙ ap (map f) (sym (next_of xs i x at)))
 
-one_of : {B : Type 0} (o : Option B) → cons_option o [] ≡ option_to_list o
+pub one_of : {B : Type 0} (o : Option B) → cons_option o [] ≡ option_to_list o
 one_of None = refl
 one_of (Some y) = refl
 

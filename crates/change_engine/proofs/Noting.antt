@@ -15,8 +15,8 @@ use Rattle.change_board.specs.Sights.{Sight, sight_entry}
 use Rattle.change_board.specs.Transcripts.{entries}
 use Rattle.change_engine.specs.Passivating.{IsPassivation, IsRound, Passivation, WaitingRound, close_item, is_busy, left_after, look_item, passivation_items, root_of, root_ports, roots_of, round_items}
 use Rattle.change_engine.specs.declared.passivating.LeftRoot.{LeftRoot}
-use Rattle.change_engine.proofs.Passing.{look_entries, roots_cons, round_entries}
-use Rattle.change_engine.proofs.ItemLaws.{entries_both}
+use Rattle.change_engine.proofs.Passing.{roots_cons, round_entries}
+use Rattle.change_engine.proofs.ItemLaws.{entries_both, look_entries}
 use Rattle.change_engine.proofs.PassivationLaws.{left_more}
 
 module _ (p : ℕ) where

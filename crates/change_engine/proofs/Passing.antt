@@ -1,7 +1,6 @@
 -- How looks and rounds make a passivation.
-use Rattle.std.proofs.Common.{◌≡◌, ℕ, ◌+◌, ◌<◌, Bool, true, false, cond, not, List, [], ◌∷◌, ◌++◌, append_assoc, length, map, take, get_or, Some, refl, sym, ap, ◌∙◌, subst, arith}
+use Rattle.std.proofs.Common.{◌≡◌, ℕ, ◌+◌, ◌<◌, Bool, true, false, cond, not, List, [], ◌∷◌, ◌++◌, append_assoc, length, map, take, get_or, refl, sym, ap, ◌∙◌, subst, arith}
 use Rattle.std.specs.Prelude.{◌&&◌, filter, flat_map, nat_lt}
-use Rattle.std.specs.List.{cons_option}
 use Rattle.std.proofs.lemmas.Grind.{flat_map-append}
 use Rattle.std.proofs.lemmas.List.{append-nil, map-append, length-append, take_more}
 use Rattle.std.proofs.lemmas.List.Elements.{All-cons, All-head, All-tail, filter_map-append}
@@ -24,12 +23,12 @@ use Rattle.gate_records.specs.Looks.{is_drained_word, is_idle_word, look_of, ser
 use Rattle.gate_records.specs.Records.{Adds}
 use Rattle.change_board.specs.Scans.{AddsScan, Found, look_entry, ports_of, scan_entries}
 use Rattle.change_board.specs.Sights.{Sight, sight_entry}
-use Rattle.change_board.specs.Transcripts.{silent, told, entries, entry_in, lines}
+use Rattle.change_board.specs.Transcripts.{silent, told, entries, lines}
 use Rattle.change_engine.specs.Growing.{Grew}
 use Rattle.change_engine.specs.Passivating.{AreLivePorts, AreMadePorts, IsPassivation, IsRound, Passed, Rounded, WaitingRound, close_item, is_busy, item_at, left_after, lines_by, look_item, passivation_items, root_of, root_ports, roots_by, roots_of, round_items, silent_items}
 use Rattle.change_engine.specs.declared.passivating.LeftRoot.{LeftRoot}
 use Rattle.change_engine.proofs.Growing.{grew_both}
-use Rattle.change_engine.proofs.ItemLaws.{entries_both, silent_entries, silent_lines, close_lines}
+use Rattle.change_engine.proofs.ItemLaws.{entries_both, look_entries, silent_entries, silent_lines, close_lines}
 use Rattle.change_engine.proofs.PassivationLaws.{same_here, closed_links}
 
 abbrev pub closes : List ℕ → List Entry
@@ -120,18 +119,6 @@ lines_told p w = by (is_drained_word w)
     by false = refl
 
 -- the transcripts of looks, closes and scans
-item_entry : (p w : ℕ) → entry_in (item_at p w) ≡ Some (Looked p w)
-item_entry p w = by (is_drained_word w)
-  where
-    by : (b : Bool) → entry_in (cond b (told (Looked p w) (to.Drained p (serial_of w))) (silent (Looked p w))) ≡ Some (Looked p w)
-    by true = refl
-    by false = refl
-
-pub look_entries : (found : List Found) → entries (map look_item found) ≡ map look_entry found
-look_entries [] = refl
-look_entries (f ∷ found) =
-    ap (λ o. cons_option o (entries (map look_item found))) (item_entry f.port f.word) ∙ ap (λ es. look_entry f ∷ es) (look_entries found)
-
 pub close_entries : (ps : List ℕ) → entries (map close_item ps) ≡ closes ps
 close_entries [] = refl
 close_entries (p ∷ ps) = ap (λ es. Did (event.Close p) ∷ es) (close_entries ps)

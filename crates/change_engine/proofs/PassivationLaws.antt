@@ -1,17 +1,23 @@
 -- The lines of passivations: what their looks find drained, and which roots they leave; and the ports that are closed stay where they
 -- are.
-use Rattle.std.proofs.Common.{◌≡◌, ◌∙◌, ℕ, ◌<◌, Bool, true, false, cond, List, [], ◌∷◌, ◌++◌, append_assoc, map, refl, sym, ap, subst}
-use Rattle.std.specs.Prelude.{filter, filter_map, flat_map}
-use Rattle.std.specs.List.{cons_option}
+use Rattle.std.proofs.Common.{◌≡◌, ◌∙◌, ℕ, zero, suc, ◌+◌, ◌<◌, ◌≤◌, Bool, true, false, not, cond, List, [], ◌∷◌, ◌++◌, append_assoc, length, map, Option, Some, None, refl, sym, ap, subst, ⊎_elim, arith}
+use Rattle.std.specs.Prelude.{◌&&◌, ◌||◌, filter, filter_map, flat_map, nat_lt}
+use Rattle.std.specs.List.{AllByRecursion, cons_option, range_with_len}
+use Rattle.std.specs.Option.{option_map_or}
+use Rattle.std.proofs.lemmas.Bool.{and_from, and_parts, both_ways, lt-ltb, or_cases}
 use Rattle.std.proofs.lemmas.List.{map-append}
-use Rattle.std.proofs.lemmas.List.Elements.{All-head, All-tail}
+use Rattle.std.proofs.lemmas.List.Elements.{All-from_recursion, All-head, All-tail}
 use Rattle.std.proofs.lemmas.List.Sums.{fold_push}
+use Rattle.change_plan.specs.declared.plan_data.Plan.{Plan}
 use Rattle.commit_laws.specs.Steps.{change_all}
 use Rattle.commit_laws.proofs.TurningLaws.{SameLinks, live_port, same_turned}
+use Rattle.config_graph.specs.Graph.{Graph}
+use Rattle.plan_laws.specs.Commit.{is_at, is_one_of, node_path, ports_to_close, stands_in}
 use Rattle.quiesce_core.specs.Effect.{with_closed}
 use Rattle.quiesce_core.specs.Rules.{is_live_port}
-use Rattle.quiesce_core.specs.State.{Configuration}
+use Rattle.quiesce_core.specs.State.{Configuration, is_live, owner, slot}
 use Rattle.quiesce_core.specs.declared.event.Event.TheVariants as event
+use Rattle.quiesce_core.specs.declared.state.Slot.{Slot}
 use Rattle.change_law.specs.Changes.{drained_lines, seen_in_all}
 use Rattle.change_law.specs.Members.{event_of, lines_of_events}
 use Rattle.change_law.specs.Scene.{Seen, drained_line, root_line}
@@ -125,3 +131,39 @@ closed_links c d (p ∷ ps) h same =
     let here = All-head (λ q. is_live_port c q ≡ true) p ps h in
     closed_links c (with_closed d p true) ps (All-tail (λ q. is_live_port c q ≡ true) p ps h)
     (same_turned c d p true (subst (λ n. p < n) (sym same.long) (live_port c p here).made) same)
+
+-- ---- a word that isn't drained, at a port that is closed
+
+pub root_by : (closed idle within : Bool) → closed ≡ true → (closed && (idle || within)) ≡ false → (not idle && not within) ≡ true
+root_by true true within e h = absurd (both_ways true h refl)
+root_by true false true e h = absurd (both_ways true h refl)
+root_by true false false e h = refl
+root_by false idle within e h = absurd (both_ways false refl e)
+
+-- ---- ports of frozen nodes are live
+
+stands_live : (g : Graph) (i : ℕ) (c : Configuration) (n : ℕ) → stands_in g i c n ≡ true → is_live c n ≡ true
+stands_live g i c n h = by (slot c n) h
+  where
+    by : (o : Option Slot) → option_map_or (is_at (node_path g i)) o false ≡ true → option_map_or (λ (m : Slot). m.live) o false ≡ true
+    by None h = h
+    by (Some m) h = (and_parts m.live _ h).0
+
+pub one_live : (g : Graph) (places : List ℕ) (c : Configuration) (n : ℕ) → is_one_of g places c n ≡ true → is_live c n ≡ true
+one_live g [] c n h = absurd (both_ways false refl h)
+one_live g (i ∷ places) c n h = ⊎_elim (stands_live g i c n) (one_live g places c n) (or_cases (stands_in g i c n) (is_one_of g places c n) h)
+
+pub closed_live : (g : Graph) (plan : Plan) (c : Configuration) → AreLivePorts c (ports_to_close g plan c)
+closed_live g plan c = All-from_recursion (λ p. is_live_port c p ≡ true) (ports_to_close g plan c) (from 0 (length c.gates) (omega arith))
+  where
+    test : ℕ → Bool
+    test p = is_one_of g plan.freeze c (owner c p)
+
+    from : (a n : ℕ) → a + n ≤ length c.gates → AllByRecursion (λ p. is_live_port c p ≡ true) (filter test (range_with_len a n))
+    from a zero few = tt
+    from a (suc n) few = by (test a) refl (from (a + 1) n (omega (arith, few)))
+      where
+        by : (b : Bool) → test a ≡ b → AllByRecursion (λ p. is_live_port c p ≡ true) (filter test (range_with_len (a + 1) n))
+            → AllByRecursion (λ p. is_live_port c p ≡ true) (cond b (a ∷ filter test (range_with_len (a + 1) n)) (filter test (range_with_len (a + 1) n)))
+        by true e rest = (and_from (nat_lt a (length c.gates)) (is_live c (owner c a)) (lt-ltb a (length c.gates) (omega (arith, few))) (one_live g plan.freeze c (owner c a) e), rest)
+        by false e rest = rest

@@ -1,7 +1,7 @@
 -- A plan's commit on a board.
 use Rattle.std.proofs.Common.{◌≡◌, ℕ, ◌<◌, ◌≤◌, Bool, true, false, cond, not, ◌||◌, List, [], ◌∷◌, ◌++◌, append_assoc, length, map, None, refl, sym, ap, ◌∙◌, subst, inl, inr, ⊎_elim, arith}
 use Rattle.std.specs.Prelude.{◌⊎◌, ◌==◌, filter, nat_lt}
-use Rattle.std.specs.List.{list_all, list_any}
+use Rattle.std.specs.List.{list_any}
 use Rattle.std.proofs.lemmas.Bool.{both_ways, cases_Bool, cases_lt, eqb-true, lt-ltb, not-true, not_from_false, or_cases, or_left, or_parts}
 use Rattle.std.proofs.lemmas.List.{append-nil}
 use Rattle.std.proofs.lemmas.List.Folds.{list_any-append}
@@ -35,6 +35,8 @@ use Rattle.gate_records.proofs.NoteLaws.{noted_is_drained}
 use Rattle.gate_records.proofs.RecordLaws.{changes_of, config_is}
 use Rattle.change_board.proofs.StepLaws.{may_do_all}
 use Rattle.change_engine.specs.Planning.{MayCarryOut}
+use Rattle.change_engine.proofs.Beginning.{none_mapped, turned_last}
+use Rattle.change_engine.proofs.ItemLaws.{all_mapped}
 
 -- A port that isn't made when a run ends was never reopened in it.
 record IsReopen (e : Event) : Type 0 where
@@ -94,24 +96,6 @@ fresh_noted r m p h past =
     (not_from_false (list_any (reopens p) (events_in r)) (ap (list_any (reopens p)) (sym (changes_of r m h)) ∙ none_kept (reopens p) is_of_change (events m) none_))
 
 -- Gates are turned after all else of a commit.
-none_turn : {A : Type 0} (f : A → Event) → ((x : A) → is_turning (f x) ≡ false) → (xs : List A) → list_any is_turning (map f xs) ≡ false
-none_turn f h [] = refl
-none_turn f h (x ∷ xs) = ap (λ b. b || list_any is_turning (map f xs)) (h x) ∙ none_turn f h xs
-
-all_turn : (ps : List ℕ) → list_all is_turning (map Reopen ps) ≡ true
-all_turn [] = refl
-all_turn (p ∷ ps) = all_turn ps
-
-only_turns : (ps : List ℕ) → gates_come_last (map Reopen ps) ≡ true
-only_turns [] = refl
-only_turns (p ∷ ps) = all_turn ps
-
-turns_last : (xs : List Event) (ps : List ℕ) → list_any is_turning xs ≡ false → gates_come_last (xs ++ map Reopen ps) ≡ true
-turns_last [] ps h = only_turns ps
-turns_last (x ∷ xs) ps h =
-    let parts = or_parts (is_turning x) (list_any is_turning xs) h in
-    ap (λ b. cond b (list_all is_turning (xs ++ map Reopen ps)) (gates_come_last (xs ++ map Reopen ps))) parts.0 ∙ turns_last xs ps parts.1
-
 none_both : (xs ys : List Event) → list_any is_turning xs ≡ false → list_any is_turning ys ≡ false → list_any is_turning (xs ++ ys) ≡ false
 none_both xs ys h k = list_any-append is_turning xs ys ∙ ap (λ b. b || list_any is_turning ys) h ∙ k
 
@@ -121,11 +105,12 @@ commit_turns_last old new plan c =
     let unlinks = map Unlink w.unlinks in
     let removes = map Remove w.removes in
     let makes = map make_new w.makes in
-    turns_last (commit_steps old new plan c) (reopened_ports old new plan c)
+    turned_last (commit_steps old new plan c) (map Reopen (reopened_ports old new plan c))
     (none_both (unlinks ++ (removes ++ makes)) (map link_new (new_links new plan (change_all c (unlinks ++ (removes ++ makes)))))
-    (none_both unlinks (removes ++ makes) (none_turn Unlink (λ x. refl) w.unlinks)
-    (none_both removes makes (none_turn Remove (λ x. refl) w.removes) (none_turn make_new (λ x. refl) w.makes)))
-    (none_turn link_new (λ x. refl) (new_links new plan (change_all c (unlinks ++ (removes ++ makes))))))
+    (none_both unlinks (removes ++ makes) (none_mapped Unlink (λ x. refl) w.unlinks)
+    (none_both removes makes (none_mapped Remove (λ x. refl) w.removes) (none_mapped make_new (λ x. refl) w.makes)))
+    (none_mapped link_new (λ x. refl) (new_links new plan (change_all c (unlinks ++ (removes ++ makes))))))
+    (all_mapped is_turning Reopen (λ p. refl) (reopened_ports old new plan c))
 
 module _ (old new : Graph) (moves : List Move) (plan : Plan) (r : List Entry) (m : List Moment) (h : IsRecordOf r m) (x : MayCarryOut old new moves plan r) where
   same : config_of r ≡ (state_after (events m)).config

@@ -96,5 +96,4 @@ module _ {B : Type 0} (S : B → List Entry → Type 0) where
         → HasPlace f.history change
         → HasPrepared S R e f name args plan new
     has_prepared e f name args plan new change adds history graph layout open_ for_ room place =
-        let is_ = prepared e f name args plan new change adds history graph layout open_ for_ room place in
-        record { graph_is = graph; opens = λ t moves x planned. (is_ t moves x planned).is_open; prepares = is_ }
+        record { graph_is = graph; prepares = prepared e f name args plan new change adds history graph layout open_ for_ room place }

@@ -1,6 +1,6 @@
 -- What a look behind a close finds, where the port isn't drained: a root.
-use Rattle.std.proofs.Common.{◌≡◌, ℕ, Bool, true, false, cond, not, List, [], ◌∷◌, ◌++◌, append_assoc, map, refl, sym, ap, ◌∙◌, subst, inl, inr, ⊎_elim}
-use Rattle.std.specs.Prelude.{◌&&◌, ◌||◌, flat_map}
+use Rattle.std.proofs.Common.{◌≡◌, ℕ, Bool, true, false, cond, List, [], ◌∷◌, ◌++◌, append_assoc, map, refl, sym, ap, ◌∙◌, subst, inl, inr, ⊎_elim}
+use Rattle.std.specs.Prelude.{flat_map}
 use Rattle.std.proofs.lemmas.Bool.{both_ways, cases_Bool}
 use Rattle.std.proofs.lemmas.List.Concat.{flat_map-cons}
 use Rattle.std.proofs.lemmas.List.Elements.{All-head, All-tail, filter_map-append}
@@ -26,17 +26,17 @@ use Rattle.gate_records.specs.declared.entry.Entry.{Entry}
 use Rattle.gate_records.specs.declared.entry.Entry.TheVariants.{Looked}
 use Rattle.gate_records.specs.Looks.{is_drained_word}
 use Rattle.gate_records.specs.Notes.{is_noted}
-use Rattle.gate_records.specs.Records.{IsRecord, IsRecordOf, IsSo, Moment, by_node, entry, entry_at, event_at, events, state_at}
+use Rattle.gate_records.specs.Records.{IsRecord, IsRecordOf, IsSo, Moment, by_node, entry, event_at, events, state_at}
 use Rattle.gate_records.specs.Records as records
 use Rattle.change_board.specs.Scans.{Found, look_entry, ports_of, scan_entries}
 use Rattle.change_board.specs.Transcripts.{entries}
 use Rattle.gate_records.proofs.NoteLaws.{noted_is_drained}
 use Rattle.gate_records.proofs.RecordLaws.{config_is}
 use Rattle.change_engine.specs.Passivating.{AreLivePorts, IsPassivation, IsRound, Passivation, WaitingRound, close_item, is_busy, left_after, look_item, passivation_items, root_of, root_ports, roots_of, round_items}
-use Rattle.change_engine.proofs.Passing.{close_entries, closes, closes_events, config_over, config_quiet, look_entries, looks_quiet, roots_cons, round_entries}
+use Rattle.change_engine.proofs.Passing.{close_entries, closes, closes_events, config_over, config_quiet, looks_quiet, roots_cons, round_entries}
 use Rattle.change_engine.proofs.Quieting.{rounds_quiet}
-use Rattle.change_engine.proofs.ItemLaws.{entries_both}
-use Rattle.change_engine.proofs.PassivationLaws.{left_more}
+use Rattle.change_engine.proofs.ItemLaws.{entries_both, look_entries}
+use Rattle.change_engine.proofs.PassivationLaws.{left_more, root_by}
 
 -- the moments in front of an entry
 record Before (m : List Moment) (xs : List Entry) (x : Entry) : Type 0 where
@@ -60,12 +60,6 @@ before_entry (entry y ∷ m) (z ∷ xs) ys x h =
       parts = ap (λ zs. entry y ∷ zs) w.parts;
       entries_are = (λ i. heads_are y z (records.entries m) (xs ++ x ∷ ys) h i ∷ w.entries_are i);
     }
-
-root_by : (closed idle within : Bool) → closed ≡ true → (closed && (idle || within)) ≡ false → (not idle && not within) ≡ true
-root_by true true within e h = absurd (both_ways true h refl)
-root_by true false true e h = absurd (both_ways true h refl)
-root_by true false false e h = refl
-root_by false idle within e h = absurd (both_ways false refl e)
 
 -- the run in front of a look, whose word the look loaded
 record LookedAt (before : List Entry) (p w : ℕ) : Type 0 where

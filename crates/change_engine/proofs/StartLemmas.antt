@@ -29,15 +29,14 @@ use Rattle.gate_records.specs.Entries.{config_of, event_in, events_in}
 use Rattle.gate_records.specs.declared.entry.Entry.{Entry}
 use Rattle.gate_records.specs.Records.{Adds}
 use Rattle.change_board.specs.Sights.{Sight, sight_entry}
-use Rattle.change_board.specs.Steps.{HasRoomForAll, Deed, Room, deed_entries, entries_of, less_one}
+use Rattle.change_board.specs.Steps.{HasRoomForAll, Deed, Room, deed_entries, entries_of, less_one, events_of}
 use Rattle.change_board.specs.Transcripts.{entries, lines, said}
 use Rattle.change_engine.specs.Beginning.{Begins, start_items}
 use Rattle.change_engine.specs.Calls.{HasStarted}
 use Rattle.change_engine.specs.Carrying.{CarriesOut, deed_items}
 use Rattle.change_engine.specs.Layouts.{IsLayoutOf}
 use Rattle.change_engine.specs.declared.engine.Engine.{Engine}
-use Rattle.change_engine.proofs.Beginning.{start_is_of_change}
-use Rattle.change_engine.proofs.ItemLaws.{entries_both, carried_entries}
+use Rattle.change_engine.proofs.ItemLaws.{entries_both, carried_entries, start_is_of_change}
 
 -- the events of deeds are those that were done
 deed_events : (d : Deed) → events_in (deed_entries d) ≡ d.event ∷ []
@@ -47,7 +46,7 @@ deed_events d = ap (λ es. d.event ∷ es) (sights d.sights)
     sights [] = refl
     sights (s ∷ ss) = sights ss
 
-pub deeds_events : (ds : List Deed) → events_in (entries_of ds) ≡ map (λ (d : Deed). d.event) ds
+pub deeds_events : (ds : List Deed) → events_in (entries_of ds) ≡ events_of ds
 deeds_events [] = refl
 deeds_events (d ∷ ds) =
     ap events_in (flat_map-cons deed_entries d ds) ∙ filter_map-append event_in (deed_entries d) (entries_of ds)

@@ -1,17 +1,17 @@
 -- How calls break off for want of memory: a run behind looks and scans alone; a wait in a scan, behind closes, looks
 -- and rounds that left roots. What was closed stays closed.
-use Rattle.std.specs.Prelude.{◌≡◌, ◌⊎◌, ◌<◌, ℕ, List, [], ◌∷◌, ◌++◌, length, IsTrue}
+use Rattle.std.specs.Prelude.{◌≡◌, ◌⊎◌, ◌<◌, ℕ, List, [], ◌++◌, length, IsTrue}
 use Rattle.commit_laws.specs.Lists.{In}
 use Rattle.change_script.specs.declared.report.HistoryLine.{HistoryLine}
-use Rattle.change_script.specs.declared.report.HistoryLine.TheVariants as to
 use Rattle.quiesce_core.specs.Runs.{state_after}
 use Rattle.quiesce_core.specs.State.{Configuration, gate}
 use Rattle.gate_records.specs.Entries.{events_in}
 use Rattle.gate_records.specs.declared.entry.Entry.{Entry}
 use Rattle.gate_records.specs.Records.{IsRecordCut}
 use Rattle.gate_records.specs.Records as records
-use Rattle.change_board.specs.Transcripts.{entries, lines, said}
+use Rattle.change_board.specs.Transcripts.{entries, lines}
 use Rattle.change_engine.specs.Passivating.{IsPassivation, Passivation, left_after, passivation_items}
+use Rattle.change_engine.specs.Stopping.{stop_items}
 
 -- No event of the change was done: the board stands for what was seen, looks, sights and the marks of scans, or a
 -- call of it broke off behind that. So the configuration is as it was.
@@ -44,7 +44,7 @@ pub record BrokeInStop {B : Type 0} (S Broke : B → List Entry → Type 0) (old
   pub is_passivation : IsPassivation ports within how
   pub stands : (r : List Entry) → S old r
       → S new (r ++ entries (passivation_items ports how)) ⊎ Broke new (r ++ entries (passivation_items ports how))
-  pub told_all : after ≡ before ++ lines (said to.Stop ∷ passivation_items ports how)
+  pub told_all : after ≡ before ++ lines (stop_items ports how)
 
 -- the port's gate is closed behind all that was done until a call broke off on a board with this record
 abbrev pub IsClosedStill : List Entry → ℕ → Type 0

@@ -19,7 +19,7 @@ use Rattle.change_board.specs.Collecting.{Collects}
 use Rattle.gate_records.specs.Entries.{config_of}
 use Rattle.gate_records.specs.declared.entry.Entry.{Entry}
 use Rattle.change_board.specs.Scans.{Found, all_ports, ended_in, look_entry, ports_of}
-use Rattle.change_board.specs.Steps.{Deed, Room}
+use Rattle.change_board.specs.Steps.{Deed, Room, events_of}
 use Rattle.change_board.specs.Transcripts.{Item, entries, lines, said}
 use Rattle.change_engine.specs.Beginning.{start_items}
 use Rattle.change_engine.specs.Breaking.{BrokeInRun, IsClosedOr, IsClosedStill}
@@ -31,6 +31,7 @@ use Rattle.change_engine.specs.Finishing.{EndsAfter, IsScanIn, ScanSeen, all_ent
 use Rattle.change_engine.specs.Leaving.{IsRootLeft}
 use Rattle.change_engine.specs.Passivating.{IsPassivation, Passivation, last_look, left_after, passivation_items, silent_items}
 use Rattle.change_engine.specs.Running.{RunsOn, ended_since, are_enough}
+use Rattle.change_engine.specs.Stopping.{stop_items}
 use Rattle.change_engine.specs.declared.engine.Engine.{Engine}
 use Rattle.change_engine.specs.declared.passivating.LeftRoot.{LeftRoot}
 
@@ -42,16 +43,19 @@ Continues S old new items = (t : List Item) → IsIdle S old t → IsIdle S new 
 pub record HasStarted {B : Type 0} (S : B → List Entry → Type 0) (e : Engine B) (name : List ℕ) (args : List ℤ) (g : Graph)
     : Type 0 where
   pub deeds : List Deed
-  pub events_are : map (λ (d : Deed). d.event) deeds ≡ start_of g
+  pub events_are : events_of deeds ≡ start_of g
   pub idle : IsIdle S e (start_items name args deeds)
   pub graph_is : e.graph ≡ g
+
+abbrev pub skip_items : List ℕ → List ℤ → List Item
+skip_items name args = said (to.Change name args) ∷ said to.Skipped ∷ []
 
 -- Show and skip: lines alone.
 abbrev pub HasShown : {B : Type 0} → (B → List Entry → Type 0) → Engine B → Engine B → Type 0
 HasShown S old new = Continues S old new (said (to.Show old.graph) ∷ [])
 
 abbrev pub HasSkipped : {B : Type 0} → (B → List Entry → Type 0) → Engine B → Engine B → List ℕ → List ℤ → Type 0
-HasSkipped S old new name args = Continues S old new (said (to.Change name args) ∷ said to.Skipped ∷ [])
+HasSkipped S old new name args = Continues S old new (skip_items name args)
 
 -- Run: a look at each port made, and then scans in which nodes may begin transactions, until the ports show so many
 -- more transactions as ended, or a scan was the last.
@@ -77,12 +81,11 @@ pub record HasFinished {B : Type 0} (S : B → List Entry → Type 0) (alone : B
   pub ends : EndsAfter alone n scans
   pub goes : Continues S old new (silent_items (all_entries scans) ++ said (to.Finish n rounds) ∷ [])
 
--- Run and finish, broken off for want of memory: no event was done and no line told, and the graph, the layout and the
--- change are as they were.
+-- Run and finish, broken off for want of memory: no event was done and no line told, and the layout and the change are
+-- as they were.
 pub record HasRunUntold {B : Type 0} (S Broke : B → List Entry → Type 0) (old new : Engine B) : Type 0 where
   pub broke : BrokeInRun S Broke old.board new.board
   pub history_is : new.history.items ≡ old.history.items
-  pub graph_is : new.graph ≡ old.graph
   pub layout_is : new.layout ≡ old.layout
   pub change_is : new.change ≡ old.change
 
@@ -90,9 +93,6 @@ pub record HasRunUntold {B : Type 0} (S Broke : B → List Entry → Type 0) (ol
 pub record HasPrepared {B : Type 0} (S : B → List Entry → Type 0) (R : B → Room) (old new : Engine B) (name : List ℕ)
     (args : List ℤ) (plan : Plan) (next_ : Graph) : Type 0 where
   pub graph_is : new.graph ≡ old.graph
-  pub opens : (t : List Item) (moves : List Move) → IsIdle S old t
-      → IsPlanned old.graph next_ moves plan (config_of (entries t))
-      → IsOpen S R new (t ++ said (to.Change name args) ∷ []) moves plan next_
   pub prepares : (t : List Item) (moves : List Move) → IsIdle S old t
       → IsPlanned old.graph next_ moves plan (config_of (entries t))
       → IsPrepared S R new (t ++ said (to.Change name args) ∷ []) moves plan next_
@@ -155,7 +155,7 @@ pub record HasCommitted {B : Type 0} (S : B → List Entry → Type 0) (R : B �
     (next_ : Graph) : Type 0 where
   pub deeds : List Deed
   pub events_are : (t : List Item) (moves : List Move) → IsReadyToCommit S R old t moves plan next_
-      → map (λ (d : Deed). d.event) deeds ≡ commit_events old.graph next_ plan (config_of (entries t))
+      → events_of deeds ≡ commit_events old.graph next_ plan (config_of (entries t))
   pub graph_is : new.graph ≡ next_
   pub goes : (t : List Item) (moves : List Move) → IsReadyToCommit S R old t moves plan next_
       → IsIdle S new (t ++ (flat_map deed_items deeds ++ said to.Commit ∷ []))
@@ -165,15 +165,12 @@ pub record HasAbandoned {B : Type 0} (S : B → List Entry → Type 0) (R : B �
     : Type 0 where
   pub deeds : List Deed
   pub events_are : (t : List Item) (moves : List Move) (next_ : Graph) → MayAbandon S R old t moves plan next_
-      → map (λ (d : Deed). d.event) deeds ≡ map event.Reopen (ports_to_close old.graph plan (config_of (entries t)))
+      → events_of deeds ≡ map event.Reopen (ports_to_close old.graph plan (config_of (entries t)))
   pub graph_is : new.graph ≡ old.graph
   pub goes : (t : List Item) (moves : List Move) (next_ : Graph) → MayAbandon S R old t moves plan next_
       → IsIdle S new (t ++ (flat_map deed_items deeds ++ said to.Abandon ∷ []))
 
 -- Stop: the ports of all live nodes were passivated, and all logs taken in.
-abbrev pub stop_items : List ℕ → Passivation → List Item
-stop_items closed how = said to.Stop ∷ passivation_items closed how
-
 pub record HasStopped {B : Type 0} (S : B → List Entry → Type 0) (taken : B → List (List Event)) (old : Engine B)
     (report : Report) (board : B) : Type 0 where
   pub closed : List ℕ

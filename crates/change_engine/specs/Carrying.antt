@@ -7,7 +7,7 @@ use Rattle.quiesce_core.specs.declared.event.Event.{Event}
 use Rattle.gate_records.specs.declared.entry.Entry.{Entry}
 use Rattle.gate_records.specs.declared.entry.Entry.TheVariants.{Did}
 use Rattle.change_board.specs.Sights.{Sight, sight_entry}
-use Rattle.change_board.specs.Steps.{Deed}
+use Rattle.change_board.specs.Steps.{Deed, events_of}
 use Rattle.change_board.specs.Transcripts.{Item, silent, told, said}
 use Rattle.change_engine.specs.Growing.{Grew}
 
@@ -25,5 +25,5 @@ deed_items d = event_item d.event ∷ map sight_item d.sights
 pub record CarriesOut {B : Type 0} (S : B → List Entry → Type 0) (old new : B) (before after : List HistoryLine)
     (head : List HistoryLine) (events : List Event) (tail : List HistoryLine) : Type 0 where
   pub deeds : List Deed
-  pub events_are : map (λ (d : Deed). d.event) deeds ≡ events
+  pub events_are : events_of deeds ≡ events
   pub grew : Grew S old new before after (map said head ++ flat_map deed_items deeds ++ map said tail)

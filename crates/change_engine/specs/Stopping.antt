@@ -8,13 +8,16 @@ use Rattle.change_board.specs.declared.board.Collected.{Collected}
 use Rattle.change_board.specs.Collecting.{Collects}
 use Rattle.gate_records.specs.Entries.{config_of}
 use Rattle.gate_records.specs.declared.entry.Entry.{Entry}
-use Rattle.change_board.specs.Transcripts.{said}
+use Rattle.change_board.specs.Transcripts.{Item, said}
 use Rattle.change_engine.specs.Growing.{Grew}
 use Rattle.change_engine.specs.Passivating.{IsPassivation, Passivation, left_after, passivation_items}
 
 -- these are the ports of all live nodes
 abbrev pub AreAllLive : List Entry → List ℕ → Type 0
 AreAllLive r ports = ports ≡ live_ports (config_of r)
+
+abbrev pub stop_items : List ℕ → Passivation → List Item
+stop_items closed how = said to.Stop ∷ passivation_items closed how
 
 -- a system was stopped: all that it closed was found drained, and then the logs were taken in
 pub record Stops {B : Type 0} (S : B → List Entry → Type 0) (old new : B) (taken : List (List Event))
@@ -23,5 +26,5 @@ pub record Stops {B : Type 0} (S : B → List Entry → Type 0) (old new : B) (t
   pub is_passivation : IsPassivation ports within how
   pub none_left : left_after how.first how.rounds ≡ []
   pub quiet : B
-  pub grew : Grew S old quiet before after (said to.Stop ∷ passivation_items ports how)
+  pub grew : Grew S old quiet before after (stop_items ports how)
   pub collected : Collects S quiet new taken x

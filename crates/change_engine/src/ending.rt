@@ -1,12 +1,11 @@
 //! The stop of a system, and its report.
 
-ghost use Rattle.std.specs.Prelude.{◌≡◌, ◌<◌, ◌^◌, ◌-◌, length, List, IfOk, OnErr};
+ghost use Rattle.std.specs.Prelude.{◌≡◌, ◌<◌, ◌^◌, ◌-◌, length, List, IfOk};
 ghost use Rattle.std.specs.List.{list_any};
 ghost use Rattle.change_law.specs.Endings as endings;
 ghost use Rattle.change_law.specs.Members as members;
 ghost use Rattle.gate_records.specs.declared.entry.Entry.{Entry};
 ghost use Rattle.change_engine.specs.Ending.{is_finish_line, unfinished_after};
-ghost use Rattle.change_engine.specs.Growing.{BrokeOff};
 ghost use Rattle.change_engine.specs.Layouts.{live_at};
 ghost use Rattle.change_engine.specs.Stopping.{AreAllLive, Stops};
 
@@ -28,7 +27,6 @@ pub(crate) fn take_logs<B: Board>(
     ensures ok { IfOk result
         (λ x. Stops B.stands_for board.old board.new (B.taken board.new) history.old.items history.new.items
         (live_at layout.now.places.items layout.now.ports.items) (2 ^ 64 - 1) x) }
-    ensures err { OnErr result (BrokeOff B.stands_for B.broke_off board.old board.new) }
 {
     let alloc = *history.allocator();
     let ports = layout.live_ports(alloc)?;

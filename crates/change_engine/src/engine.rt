@@ -1,6 +1,6 @@
 //! A system on a board, between its start and its stop.
 
-ghost use Rattle.std.specs.Prelude.{◌≡◌, ◌≤◌, ◌∷◌, [], ℕ, length, List, IfErr, IfOk, OnErr, OnOk};
+ghost use Rattle.std.specs.Prelude.{◌≡◌, ◌≤◌, [], length, List, IfErr, IfOk, OnErr};
 ghost use Rattle.change_plan.specs.declared.plan_data.Move.{Move};
 ghost use Rattle.config_graph.specs.Graph.{Graph, ports};
 ghost use Rattle.config_graph.specs.Sound.{Sound};
@@ -98,7 +98,6 @@ impl<B: Board + Drop> Engine<B> {
         requires idle { (t : List Item) × IsIdle B.stands_for self.old t }
         ensures ok { IfOk result (λ ended. HasRun B.stands_for B.alone self.old self.new k ended) }
         ensures graph { self.new.graph ≡ self.old.graph }
-        ensures err { OnErr result (BrokeOff B.stands_for B.broke_off self.old.board self.new.board) }
         ensures untold { OnErr result (HasRunUntold B.stands_for B.broke_off self.old self.new) }
     {
         let shown = running::count_ended(&mut self.board, self.layout.port_count());
@@ -113,7 +112,6 @@ impl<B: Board + Drop> Engine<B> {
         requires idle { (t : List Item) × IsIdle B.stands_for self.old t }
         ensures ok { IfOk result (λ rounds. HasFinished B.stands_for B.alone self.old self.new n rounds) }
         ensures graph { self.new.graph ≡ self.old.graph }
-        ensures err { OnErr result (BrokeOff B.stands_for B.broke_off self.old.board self.new.board) }
         ensures untold { OnErr result (HasRunUntold B.stands_for B.broke_off self.old self.new) }
     {
         finishing::finish(&mut self.board, &mut self.history, n)
@@ -138,13 +136,15 @@ impl<B: Board + Drop> Engine<B> {
         ensures graph { self.new.graph ≡ self.old.graph }
         ensures err { OnErr result (Continues B.stands_for self.old self.new []) }
     {
-        let mut lines = Vec::with_capacity(*self.history.allocator(), 2)?;
-        lines.push(HistoryLine::Change {
-            name,
-            args: List::of(args),
-        })?;
-        lines.push(HistoryLine::Skipped)?;
-        self.history.append(&mut lines)?;
+        self.history.reserve(2)?;
+        put(
+            &mut self.history,
+            HistoryLine::Change {
+                name,
+                args: List::of(args),
+            },
+        );
+        put(&mut self.history, HistoryLine::Skipped);
         Ok(())
     }
 

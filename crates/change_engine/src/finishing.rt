@@ -17,8 +17,7 @@ fn count_of(scan: Scan) -> u32
     if !scan.moved && scan.done { 0 } else { 1 }
 }
 
-/// Whether a finish ends with this scan: all was seen at rest, or it can't come to that, since nothing moved where
-/// nodes take turns in scans alone.
+/// Whether a finish ends with this scan: all was seen at rest, or nothing moved where nodes take turns in scans alone.
 fn ends_finish(alone: bool, scan: Scan) -> bool
     ensures { result ≡ finishing.ends_finish alone scan }
 {

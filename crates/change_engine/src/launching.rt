@@ -6,7 +6,6 @@ ghost use Rattle.config_graph.specs.Graph.{IsGraph, ports};
 ghost use Rattle.config_graph.specs.Sound.{Sound};
 ghost use Rattle.config_graph.specs.declared.TheConstants.{MAX_NODES, MAX_PORTS};
 ghost use Rattle.change_law.specs.Members.{lines_of_events};
-ghost use Rattle.quiescence_laws.specs.Starts.{start_of};
 ghost use Rattle.change_script.specs.declared.report.HistoryLine.TheVariants as to;
 ghost use Rattle.change_engine.specs.Beginning.{Begins};
 

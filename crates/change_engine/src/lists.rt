@@ -1,6 +1,6 @@
 //! The lists of a plan on a board: what is closed for it, what its commit does, and what is made after it.
 
-ghost use Rattle.std.specs.Prelude.{◌≡◌, ◌^◌, ◌<◌, ◌+◌, ◌++◌, ◌∷◌, [], filter, filter_map, find, length, map, nat_lt, option_and_then, option_to_list, true, All, IfOk, IsTrue, OnOk};
+ghost use Rattle.std.specs.Prelude.{◌≡◌, ◌^◌, ◌<◌, ◌+◌, ◌++◌, ◌∷◌, [], filter, find, length, map, nat_lt, option_and_then, option_to_list, true, All, IfOk, IsTrue, OnOk};
 ghost use Rattle.std.specs.List.{range_with_len};
 ghost use Rattle.std.specs.Option.{option_map_or};
 ghost use Rattle.change_engine.specs.Layouts.{is_among, place_at};

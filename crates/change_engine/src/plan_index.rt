@@ -1,6 +1,6 @@
 //! A plan with look-ups by the places of nodes.
 
-ghost use Rattle.std.specs.Prelude.{◌≡◌, ◌<◌, ◌==◌, find, length, option_map, All, IfOk};
+ghost use Rattle.std.specs.Prelude.{◌≡◌, ◌<◌, ◌==◌, find, option_map, All, IfOk};
 ghost use Rattle.std.specs.List.{list_any};
 ghost use Rattle.change_plan.specs.declared.plan_data.Shift.{Shift as PureShift};
 ghost use Rattle.change_engine.specs.Layouts.{is_among};

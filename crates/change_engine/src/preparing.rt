@@ -40,7 +40,7 @@ fn list_lines(
 ) -> Result<Vec<HistoryLine>, NoMemory>
     ensures { IfOk result (λ lines. lines.items ≡ lines_of_events events.now ++ last ∷ []) }
 {
-    let mut lines = Vec::with_capacity(alloc, events.len())?;
+    let mut lines = Vec::with_capacity(alloc, events.len().saturating_add(1))?;
     push_lines(&mut lines, events)?;
     lines.push(last)?;
     Ok(lines)

@@ -31,8 +31,8 @@ fn ended_by(look: Look) -> u32
     }
 }
 
-/// Whether a run ends with this scan, since later ones end no more transactions: where nodes take turns in scans alone
-/// it moved nothing, and elsewhere it saw all at rest.
+/// Whether a run ends with this scan: where nodes take turns in scans alone it moved nothing, and elsewhere it saw all
+/// at rest.
 fn ends_run(alone: bool, scan: Scan) -> bool
     ensures { result ≡ running.ends_run alone scan }
 {

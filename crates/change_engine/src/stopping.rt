@@ -3,7 +3,7 @@
 ghost use Rattle.std.specs.Prelude.{◌≡◌, ◌⊎◌, ◌+◌, ◌*◌, ◌-◌, ◌^◌, ◌<◌, [], length, List, IfOk, OnErr};
 ghost use Rattle.gate_records.specs.declared.entry.Entry.{Entry};
 ghost use Rattle.change_engine.specs.Breaking.{BrokeInStop};
-ghost use Rattle.change_engine.specs.Growing.{BrokeOff, Grew};
+ghost use Rattle.change_engine.specs.Growing.{Grew};
 ghost use Rattle.change_engine.specs.Stopping.{AreAllLive, Stops};
 
 use crate::passivating::{Waiting, passivate, put};
@@ -31,7 +31,6 @@ pub fn stop<B: Board>(
     ensures ok { IfOk result
         (λ x. Stops B.stands_for board.old board.new (B.taken board.new) history.old.items history.new.items
         ports.now (2 ^ 64 - 1) x) }
-    ensures err { OnErr result (BrokeOff B.stands_for B.broke_off board.old board.new) }
     ensures closes_alone { OnErr result (Grew B.stands_for board.old board.new history.old.items history.new.items []
         ⊎ BrokeInStop B.stands_for B.broke_off board.old board.new history.old.items history.new.items ports.now
         (2 ^ 64 - 1)) }

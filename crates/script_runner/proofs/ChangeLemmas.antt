@@ -12,7 +12,7 @@ use Rattle.quiesce_core.specs.declared.event.Event.TheVariants as event
 use Rattle.change_script.specs.declared.report.HistoryLine.TheVariants as to
 use Rattle.change_law.specs.Scripts.{more_made}
 use Rattle.gate_records.specs.declared.entry.Entry.{Entry}
-use Rattle.change_board.specs.Steps.{Deed, Room}
+use Rattle.change_board.specs.Steps.{Room, events_of}
 use Rattle.change_board.specs.Transcripts.{Item, said}
 use Rattle.change_engine.specs.Calls.{HasAbandoned, HasCommitted, HasLeft, HasPassivated, HasPrepared}
 use Rattle.change_engine.specs.Carrying.{deed_items}
@@ -36,7 +36,7 @@ module _ {B : Type 0} (S : B → List Entry → Type 0) (R : B → Room) (alone 
   begun = t ++ said (to.Change c.name c.args) ∷ []
 
   open_ : IsOpen S R e1 begun c.moves c.plan c.graph
-  open_ = prepared.opens t c.moves idle planned
+  open_ = (prepared.prepares t c.moves idle planned).is_open
 
   -- what is closed is what the plan freezes
   same_closed : (closed : List ℕ) → closed ≡ ports_to_close e1.graph c.plan (config_at begun) → closed ≡ ports_to_close e.graph c.plan (config_at t)
@@ -52,7 +52,7 @@ module _ {B : Type 0} (S : B → List Entry → Type 0) (R : B → Room) (alone 
       let may_ : IsReadyToCommit S R mid (begun ++ p) c.moves c.plan c.graph = x.opens begun c.moves c.graph open_ in
       let done_ : IsIdle S f ((begun ++ p) ++ rest) = y.goes (begun ++ p) c.moves may_ in
       let same_graph : mid.graph ≡ e.graph = x.graph_is ∙ prepared.graph_is in
-      let events : map (λ (d : Deed). d.event) y.deeds ≡ commit_events e.graph c.graph c.plan (config_at (t ++ opened)) =
+      let events : events_of y.deeds ≡ commit_events e.graph c.graph c.plan (config_at (t ++ opened)) =
       y.events_are (begun ++ p) c.moves may_ ∙ ap (λ g. commit_events g c.graph c.plan (config_at (begun ++ p))) same_graph
       ∙ ap (λ u. commit_events e.graph c.graph c.plan (config_at u)) place in
       let here : (t ++ opened) ++ rest ≡ t ++ (opened ++ rest) = append_assoc t opened rest in
@@ -105,7 +105,7 @@ module _ {B : Type 0} (S : B → List Entry → Type 0) (R : B → Room) (alone 
       let done_ : IsIdle S f ((begun ++ (p ++ pend)) ++ last) = y.goes (begun ++ (p ++ pend)) c.moves c.graph may_ in
       let same_graph : mid.graph ≡ e.graph = x.graph_is ∙ prepared.graph_is in
       let are = same_closed x.closed (x.closed_are begun c.moves c.graph open_) in
-      let events : map (λ (d : Deed). d.event) y.deeds ≡ map event.Reopen x.closed =
+      let events : events_of y.deeds ≡ map event.Reopen x.closed =
       y.events_are (begun ++ (p ++ pend)) c.moves c.graph may_
       ∙ ap (map event.Reopen) (ap (λ g. ports_to_close g c.plan (config_at (begun ++ (p ++ pend)))) same_graph
       ∙ ap (λ u. ports_to_close e.graph c.plan (config_at u)) place

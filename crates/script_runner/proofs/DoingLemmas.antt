@@ -7,28 +7,24 @@ use Rattle.change_script.specs.declared.report.HistoryLine.TheVariants as to
 use Rattle.gate_records.specs.declared.entry.Entry.{Entry}
 use Rattle.change_board.specs.Scans.{look_entry}
 use Rattle.change_board.specs.Transcripts.{Item, said}
-use Rattle.change_engine.specs.Calls.{HasFinished, HasRun, HasShown, HasSkipped}
+use Rattle.change_engine.specs.Calls.{HasFinished, HasRun, HasShown, HasSkipped, skip_items}
 use Rattle.change_engine.specs.Engines.{IsIdle}
 use Rattle.change_engine.specs.Finishing.{all_entries}
 use Rattle.change_engine.specs.Passivating.{silent_items}
 use Rattle.change_engine.specs.declared.engine.Engine.{Engine}
-use Rattle.headline_laws.specs.Pieces.{skip_items}
 use Rattle.headline_laws.proofs.ConfigLaws.{finish_config, run_config, said_config}
 use Rattle.headline_laws.proofs.PendingLaws.{pending_both, quiet_none}
 use Rattle.script_runner.specs.Doing.{Carried, is_given_up}
 use Rattle.script_steps.specs.declared.steps.Replacement.{Replacement}
 use Rattle.script_steps.specs.declared.steps.Step.TheVariants as steps
+use Rattle.std.proofs.Math.Bool.{or-false}
 
 pub in_ok : {A E : Type 0} (P Q : A → Type 0) → ((x : A) → P x → Q x) → (r : Result A E) → IfOk r P → IfOk r Q
 in_ok P Q f (Ok x) h = f x h
 in_ok P Q f (Err e) h = tt
 
-nothing_more : (b : Bool) → (b || false) ≡ b
-nothing_more true = refl
-nothing_more false = refl
-
 pub kept : (t u : List Item) → is_given_up u ≡ false → is_given_up (t ++ u) ≡ is_given_up t
-kept t u h = pending_both t u ∙ ap (λ b. is_given_up t || b) h ∙ nothing_more (is_given_up t)
+kept t u h = pending_both t u ∙ ap (λ b. is_given_up t || b) h ∙ or-false (is_given_up t)
 
 module _ {B : Type 0} (S : B → List Entry → Type 0) (alone : Bool) (e f : Engine B) where
   pub ran : (k ended : ℕ) → HasRun S alone e f k ended → f.graph ≡ e.graph → (t : List Item) (given : Bool) → IsIdle S e t → given ≡ is_given_up t → Carried S alone e f t (steps.Run k) given

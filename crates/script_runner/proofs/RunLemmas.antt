@@ -20,7 +20,7 @@ use Rattle.gate_records.specs.Entries.{config_of}
 use Rattle.gate_records.specs.declared.entry.Entry.{Entry}
 use Rattle.change_board.specs.Transcripts.{Item, entries, lines}
 use Rattle.change_engine.specs.Beginning.{start_items}
-use Rattle.change_engine.specs.Calls.{HasStarted, HasStopped, stop_items}
+use Rattle.change_engine.specs.Calls.{HasStarted, HasStopped}
 use Rattle.change_engine.specs.Carrying.{sight_item}
 use Rattle.change_engine.specs.Ending.{unfinished_after}
 use Rattle.change_engine.specs.Engines.{IsIdle}
@@ -36,6 +36,7 @@ use Rattle.script_steps.specs.declared.steps.Start.{Start}
 use Rattle.script_steps.specs.declared.steps.Step.{Step}
 use Rattle.script_steps.specs.declared.steps.Step.TheVariants as steps
 use Rattle.headline_laws.proofs.FollowLaws.{items_pushed}
+use Rattle.change_engine.specs.Stopping.{stop_items}
 
 -- where these steps were done, and the others are left
 pub record Progress {B : Type 0} (S : B → List Entry → Type 0) (alone : Bool) (start : Start) (done_ rest : List Step) (e : Engine B) (given_up : Bool) : Type 0 where

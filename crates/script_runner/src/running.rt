@@ -58,7 +58,7 @@ fn go_through<B: Board + Drop>(
     }
 }
 
-/// Waits for the ports to drain, and carries the plan out or gives it up. Says whether it was given up.
+/// Prepares a change, and goes through with it. Says whether it was given up.
 fn replace<B: Board + Drop>(engine: &mut Engine<B>, change: Replacement) -> Result<bool, NoMemory>
     requires here { (t : List Item) × IsIdle B.stands_for engine.old t × (is_given_up t ≡ false)
         × IsReady engine.old.graph t (to_do.Change change) }

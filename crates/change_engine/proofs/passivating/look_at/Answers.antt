@@ -3,7 +3,8 @@ use Rattle.gate_records.specs.Entries.{events_in}
 use Rattle.change_board.specs.Scans.{Found}
 use Rattle.change_board.specs.Transcripts.{entries}
 use Rattle.change_engine.specs.Passivating.{lines_by, look_item, roots_by, roots_of}
-use Rattle.change_engine.proofs.Passing.{config_quiet, grew_look, lines_told, look_entries, looks_quiet, ports_push, roots_push, roots_told}
+use Rattle.change_engine.proofs.ItemLaws.{look_entries}
+use Rattle.change_engine.proofs.Passing.{config_quiet, grew_look, lines_told, looks_quiet, ports_push, roots_push, roots_told}
 use Rattle.change_engine.proofs.passivating.look_at.Goals as goal
 
 pub look-look-requires : goal.look-look-requires

@@ -1,5 +1,5 @@
-use Rattle.std.proofs.Common.{◌≡◌, ◌∷◌, ◌++◌, ◌-◌, ◌^◌, [], List, ℕ, length, true, vec_len, refl, sym, ap, ◌∙◌, subst, inl, inr, arith, Result, Ok, Err}
-use Rattle.std.specs.Prelude.{◌==◌, IfOk}
+use Rattle.std.proofs.Common.{◌≡◌, ◌∷◌, ◌++◌, ◌-◌, ◌^◌, [], List, ℕ, length, true, vec_len, refl, sym, ap, ◌∙◌, subst, inl, inr, arith}
+use Rattle.std.specs.Prelude.{◌==◌}
 use Rattle.std.proofs.lemmas.Bool.{eqb-true}
 use Rattle.base.proofs.MapLaws.{no_length}
 use Rattle.change_board.specs.Collecting.{Collects}
@@ -8,14 +8,11 @@ use Rattle.change_board.specs.Transcripts.{entries}
 use Rattle.change_script.specs.declared.report.HistoryLine.TheVariants as to
 use Rattle.change_engine.specs.Passivating.{AreLivePorts, passivation_items}
 use Rattle.change_engine.specs.Stopping.{Stops}
-use Rattle.change_engine.proofs.Breaking.{broke_in_stop, broke_off, on_err}
-use Rattle.change_engine.proofs.Growing.{breaks, breaks_after, grew_none, if_err, nothing_done, stands_on}
+use Rattle.change_engine.proofs.Breaking.{broke_in_stop, on_err}
+use Rattle.change_engine.proofs.EngineLemmas.{in_ok}
+use Rattle.change_engine.proofs.Growing.{grew_none, if_err}
 use Rattle.change_engine.proofs.Quieting.{all_live, all_noted, stop_grew}
 use Rattle.change_engine.proofs.stopping.stop.Goals as goal
-
-in_ok : {A E : Type 0} (P Q : A → Type 0) → ((x : A) → P x → Q x) → (r : Result A E) → IfOk r P → IfOk r Q
-in_ok P Q f (Ok x) h = f x h
-in_ok P Q f (Err e) h = tt
 
 nothing_left : {A : Type 0} (xs : List A) (n : ℕ) → n ≡ length xs → (n == 0) ≡ true → xs ≡ []
 nothing_left xs n e h = no_length xs (sym e ∙ eqb-true n 0 h)
@@ -69,29 +66,6 @@ returns-then-is_empty-clause-ok g c =
       collected = collected;
     })
     c.collect.result c.collect.ensures.ok
-
-pub returns-then-is_empty-clause-err : goal.returns-then-is_empty-clause-err
-returns-then-is_empty-clause-err g c =
-    let S = g.B.Board.stands_for in
-    let K = g.B.Board.broke_off in
-    let b = c.passivate.new.board in
-    let d = c.collect.new.self in
-    on_err (λ broke. breaks_after S K c.args.board.now b d _ c.in_ok-passivate.ensures.ok.grew.adds (breaks S K b d broke)) c.collect.result c.collect.ensures.err
-
-pub returns-clause-err : goal.returns-clause-err
-returns-clause-err g c =
-    stands_on g.B.Board.stands_for g.B.Board.broke_off c.args.board.now c.passivate.new.board _ c.in_ok-passivate.ensures.ok.grew.adds
-
-pub returns-in_err-waiting-clause-err : goal.returns-in_err-waiting-clause-err
-returns-in_err-waiting-clause-err g c = if_err (nothing_done g.B.Board.stands_for g.B.Board.broke_off c.args.board.now) c.from_residual.result
-
-pub returns-in_err-reserve-clause-err : goal.returns-in_err-reserve-clause-err
-returns-in_err-reserve-clause-err g c = if_err (nothing_done g.B.Board.stands_for g.B.Board.broke_off c.args.board.now) c.from_residual-in_err-reserve.result
-
-pub returns-in_err-passivate-clause-err : goal.returns-in_err-passivate-clause-err
-returns-in_err-passivate-clause-err g c =
-    if_err (broke_off g.B.Board.stands_for g.B.Board.broke_off c.args.board.now c.passivate.new.board c.put.new.list.items c.passivate.new.history.items c.args.ports.now (2 ^ 64 - 1) c.in_err-passivate.ensures.err)
-    c.from_residual-in_err-passivate.result
 
 pub returns-then-is_empty-clause-closes_alone : goal.returns-then-is_empty-clause-closes_alone
 returns-then-is_empty-clause-closes_alone g c =

@@ -2,7 +2,7 @@ use Rattle.std.proofs.Common.{refl}
 use Rattle.change_engine.specs.Calls.{HasFinished}
 use Rattle.change_engine.specs.Finishing.{Finished}
 use Rattle.change_engine.specs.declared.engine.Engine.{Engine}
-use Rattle.change_engine.proofs.Breaking.{on_both_errs, on_err, run_broke_off}
+use Rattle.change_engine.proofs.Breaking.{on_both_errs}
 use Rattle.change_engine.proofs.EngineLemmas.{has_finished, in_ok}
 use Rattle.change_engine.proofs.engine.Engine.finish.Goals as goal
 
@@ -15,10 +15,6 @@ returns-clause-ok g c =
     in_ok (λ rounds. Finished S alone e.board f.board e.history.items f.history.items c.args.n rounds) (λ rounds. HasFinished S alone e f c.args.n rounds)
     (λ rounds x. has_finished S alone e f c.args.n rounds refl refl refl x) c.finish.result c.finish.ensures.ok
 
-pub returns-clause-err : goal.returns-clause-err
-returns-clause-err g c =
-    on_err (run_broke_off g.B.Board.stands_for g.B.Board.broke_off c.args.self.now.board c.finish.new.board) c.finish.result c.finish.ensures.err
-
 pub returns-clause-untold : goal.returns-clause-untold
 returns-clause-untold g c =
-    on_both_errs (λ broke history. record { broke = broke; history_is = history; graph_is = refl; layout_is = refl; change_is = refl }) c.finish.result c.finish.ensures.err c.finish.ensures.untold
+    on_both_errs (λ broke history. record { broke = broke; history_is = history; layout_is = refl; change_is = refl }) c.finish.result c.finish.ensures.err c.finish.ensures.untold

@@ -3,8 +3,8 @@ use Rattle.gate_records.specs.Entries.{config_of}
 use Rattle.change_board.specs.Transcripts.{entries}
 use Rattle.change_engine.specs.declared.engine.Engine.{Engine}
 use Rattle.change_engine.proofs.EngineLemmas.{as_many, few_ports, has_run}
-use Rattle.change_engine.proofs.Breaking.{run_broke_off, saw_alone, saw_before}
-use Rattle.change_engine.proofs.Growing.{breaks_after, if_err, stands_on}
+use Rattle.change_engine.proofs.Breaking.{saw_alone, saw_before}
+use Rattle.change_engine.proofs.Growing.{if_err}
 use Rattle.change_engine.proofs.Passing.{looks_quiet}
 use Rattle.change_engine.proofs.Scanning.{all_quiet}
 use Rattle.change_engine.proofs.engine.Engine.run.Goals as goal
@@ -29,21 +29,12 @@ returns-clause-ok g c =
     (λ t h. c.port_count.ensures ∙ as_many e.layout e.graph (config_of (entries t)) h.tells.layout)
     c.count_ended-shown.ensures.counts c.in_ok-ended.ensures.ok c.in_ok-push.ensures.items
 
-pub returns-in_err-ended-clause-err : goal.returns-in_err-ended-clause-err
-returns-in_err-ended-clause-err g c =
-    let S = g.B.Board.stands_for in
-    let K = g.B.Board.broke_off in
-    let b = c.count_ended-shown.new.board in
-    if_err (breaks_after S K c.args.self.now.board b c.scan_until.new.board _ c.count_ended-shown.ensures.counts.adds
-    (run_broke_off S K b c.scan_until.new.board c.in_err-ended.ensures.err)) c.from_residual.result
-
 pub returns-in_err-ended-clause-untold : goal.returns-in_err-ended-clause-untold
 returns-in_err-ended-clause-untold g c =
     let x = c.count_ended-shown.ensures.counts in
     if_err (record {
       broke = saw_before g.B.Board.stands_for g.B.Board.broke_off c.args.self.now.board c.count_ended-shown.new.board c.scan_until.new.board _ (looks_quiet x.looks) x.adds c.in_err-ended.ensures.err;
       history_is = refl;
-      graph_is = refl;
       layout_is = refl;
       change_is = refl;
     }) c.from_residual.result
@@ -58,14 +49,6 @@ returns-in_err-push-clause-untold g c =
       broke = saw_before S K c.args.self.now.board c.count_ended-shown.new.board c.scan_until.new.board _ (looks_quiet x.looks) x.adds
           (saw_alone S K c.count_ended-shown.new.board c.scan_until.new.board _ (all_quiet y.scans) y.adds);
       history_is = c.in_err-push.ensures.items;
-      graph_is = refl;
       layout_is = refl;
       change_is = refl;
     }) c.from_residual-in_err-push.result
-
-pub returns-in_err-push-clause-err : goal.returns-in_err-push-clause-err
-returns-in_err-push-clause-err g c =
-    let S = g.B.Board.stands_for in
-    let K = g.B.Board.broke_off in
-    if_err (breaks_after S K c.args.self.now.board c.count_ended-shown.new.board c.scan_until.new.board _ c.count_ended-shown.ensures.counts.adds
-    (stands_on S K c.count_ended-shown.new.board c.scan_until.new.board _ c.in_ok-ended.ensures.ok.adds)) c.from_residual-in_err-push.result
