@@ -16,12 +16,13 @@ use Rattle.gate_records.specs.declared.entry.Entry.{Entry}
 use Rattle.gate_records.specs.declared.entry.Entry.TheVariants.{Did}
 use Rattle.change_board.specs.Scans.{Found, look_entry}
 use Rattle.change_board.specs.Sights.{Sight, sight_entry}
-use Rattle.change_board.specs.Steps.{Deed}
+use Rattle.change_board.specs.Steps.{Deed, events_of}
 use Rattle.change_board.specs.Transcripts.{Item, silent, told, said, entries, entry_in, lines}
+use Rattle.change_engine.specs.Beginning.{start_items}
 use Rattle.change_engine.specs.Carrying.{deed_items, sight_item}
 use Rattle.change_engine.specs.Finishing.{ScanSeen, all_entries}
 use Rattle.change_engine.specs.Passivating.{silent_items}
-use Rattle.headline_laws.specs.Pieces.{config_at, events_of}
+use Rattle.headline_laws.specs.Pieces.{config_at}
 use Rattle.headline_laws.proofs.ItemLemmas.{config_over, fair_events, fair_run, fair_scans}
 use Rattle.change_engine.proofs.ItemLaws.{entries_both, lines_both, silent_entries, silent_lines, sight_entries, sight_lines}
 
@@ -53,16 +54,13 @@ deeds_config before deeds l =
     ∙ ap (change_all (config_at before)) (ap events_in (entries_both (flat_map deed_items deeds) (said l ∷ []))
     ∙ ap events_in (append-nil (entries (flat_map deed_items deeds))) ∙ deed_events deeds)
 
-pub start_config : (name : List ℕ) (args : List ℤ) (deeds : List Deed) → config_at (said (to.Start name args) ∷ (flat_map deed_items deeds ++ said to.Commit ∷ [])) ≡ change_all empty.config (events_of deeds)
+pub start_config : (name : List ℕ) (args : List ℤ) (deeds : List Deed) → config_at (start_items name args deeds) ≡ change_all empty.config (events_of deeds)
 start_config name args deeds = deeds_config (said (to.Start name args) ∷ []) deeds to.Commit
 
 -- ---- lines and looks leave it
 
 pub said_config : (t : List Item) (l : HistoryLine) → config_at (t ++ said l ∷ []) ≡ config_at t
 said_config t l = config_over t (said l ∷ [])
-
-pub skip_config : (t : List Item) (k l : HistoryLine) → config_at (t ++ said k ∷ said l ∷ []) ≡ config_at t
-skip_config t k l = config_over t (said k ∷ said l ∷ [])
 
 quiet_config : (t : List Item) (es : List Entry) (l : HistoryLine) → events_in es ≡ [] → config_at (t ++ (silent_items es ++ said l ∷ [])) ≡ config_at t
 quiet_config t es l h =

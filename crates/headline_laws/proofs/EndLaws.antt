@@ -19,17 +19,19 @@ use Rattle.change_board.specs.Scans.{look_entry}
 use Rattle.change_board.specs.Transcripts.{Item, said, entries, lines}
 use Rattle.change_engine.specs.Carrying.{deed_items, sight_item}
 use Rattle.change_engine.specs.Finishing.{all_entries, rounds_in}
-use Rattle.change_engine.specs.Passivating.{left_after, passivation_items}
+use Rattle.change_engine.specs.Passivating.{left_after}
 use Rattle.change_engine.specs.Ending.{is_finish_line}
 use Rattle.headline_laws.specs.Joining.{AreJoined}
 use Rattle.change_engine.specs.Draining.{pending_items}
-use Rattle.headline_laws.specs.Pieces.{AreCommitItems, IsDone, AreAbandonItems, IsTranscript, AreChangeItems, Piece, config_at, items_of, opening_items}
+use Rattle.headline_laws.specs.Pieces.{AreCommitItems, IsDone, AreAbandonItems, IsTranscript, AreChangeItems, Piece, config_at, items_of, opening_items, IsDonePiece}
 use Rattle.headline_laws.specs.Reports.{IsReport, taken_in}
 use Rattle.headline_laws.proofs.FoldLaws.{undone}
 use Rattle.headline_laws.proofs.FollowLaws.{fair_transcript}
 use Rattle.headline_laws.proofs.ItemLemmas.{is_aside}
 use Rattle.headline_laws.proofs.LineLemmas.{any_line, both_lines, none_both, none_deeds, none_passivation, none_roots, silent_line}
 use Rattle.change_engine.proofs.ItemLaws.{sight_lines}
+use Rattle.change_engine.specs.Stopping.{stop_items}
+use Rattle.std.proofs.Math.Bool.{or-false}
 
 none_aside : (l : HistoryLine) → is_aside l ≡ false → is_finish_line l ≡ false
 none_aside (to.Finish n r) h = absurd (both_ways true h refl)
@@ -64,25 +66,21 @@ piece_ends alone before (run k) t d = ap ends d.are ∙ silent_line is_finish_li
 piece_ends alone before (finish n) t d = ap ends d.are ∙ silent_line is_finish_line (all_entries d.scans) (to.Finish n (rounds_in d.scans))
 piece_ends alone before show t d = ap ends d.are
 
-pieces_end : (alone : Bool) (before ps : List Piece) → EachAfter (λ qs (p : Piece). IsDone alone (items_of qs) p.statement p.items) before ps
+pieces_end : (alone : Bool) (before ps : List Piece) → EachAfter (IsDonePiece alone) before ps
     → ends (items_of ps) ≡ list_any is_finish (map (λ (p : Piece). p.statement) ps)
 pieces_end alone before [] each = refl
 pieces_end alone before (p ∷ ps) each =
     both_lines is_finish_line p.items (items_of ps) ∙ ap (λ b. b || ends (items_of ps)) (piece_ends alone (items_of before) p.statement p.items each.0)
     ∙ ap (λ b. is_finish p.statement || b) (pieces_end alone (before ++ p ∷ []) ps each.1)
 
-nothing_more : (b : Bool) → (b || false) ≡ b
-nothing_more true = refl
-nothing_more false = refl
-
 -- a line of a finish is there exactly where the script has one
 transcript_ends : (alone : Bool) (statements : List Statement) (t : List Item) → IsTranscript alone statements t → ends t ≡ list_any is_finish statements
 transcript_ends alone statements t x =
-    let stopping = said to.Stop ∷ passivation_items x.stops.closed x.stops.how in
+    let stopping = stop_items x.stops.closed x.stops.how in
     let none : ends x.stop ≡ false =
     ap ends x.stops.are ∙ none_both is_finish_line stopping (map sight_item x.stops.sights) (none_passivation is_finish_line none_aside x.stops.closed x.stops.how)
     (ap (list_any is_finish_line) (sight_lines x.stops.sights)) in
-    sym (ap ends x.are) ∙ both_lines is_finish_line (items_of x.pieces) x.stop ∙ ap (λ b. ends (items_of x.pieces) || b) none ∙ nothing_more (ends (items_of x.pieces))
+    sym (ap ends x.are) ∙ both_lines is_finish_line (items_of x.pieces) x.stop ∙ ap (λ b. ends (items_of x.pieces) || b) none ∙ or-false (ends (items_of x.pieces))
     ∙ pieces_end alone [] x.pieces x.done ∙ ap (list_any is_finish) x.statements_are
 
 module _ (alone : Bool) (statements : List Statement) (t : List Item) (m : List Moment) (ms : List Member) (report : Report) (x : IsTranscript alone statements t) (j : AreJoined t m ms)

@@ -1,78 +1,55 @@
 -- A transcript's lines follow the script.
-use Rattle.std.proofs.Common.{◌≡◌, ◌∙◌, ℕ, ◌<◌, Bool, true, false, List, [], ◌∷◌, ◌++◌, append_assoc, length, map, Option, Some, None, refl, sym, ap, subst, ⊎_elim, inl, inr}
-use Rattle.std.specs.Prelude.{ℤ, ◌&&◌, filter_map, flat_map, option_map}
-use Rattle.std.specs.List.{cons_option, enumerate_from, list_all, list_any}
+use Rattle.std.proofs.Common.{◌≡◌, ◌∙◌, ℕ, ◌<◌, Bool, true, false, List, [], ◌∷◌, ◌++◌, append_assoc, length, map, refl, sym, ap, subst, ⊎_elim, inl, inr}
+use Rattle.std.specs.Prelude.{ℤ, ◌&&◌, filter_map, flat_map}
+use Rattle.std.specs.List.{list_all, list_any}
 use Rattle.std.specs.List.Sorted.{IsStrictlyIncreasing}
-use Rattle.std.proofs.lemmas.Bool.{and_from, cases_Bool}
+use Rattle.std.proofs.lemmas.Bool.{cases_Bool}
 use Rattle.std.proofs.lemmas.Grind.{flat_map-append}
 use Rattle.std.proofs.lemmas.List.{append-nil, length-map, map-append}
 use Rattle.std.proofs.lemmas.List.Elements.{filter_map-append}
 use Rattle.std.proofs.lemmas.List.Folds.{list_all-append}
 use Rattle.base.specs.Each.{EachAfter}
-use Rattle.config_graph.specs.Graph.{Graph, ports, target_of}
-use Rattle.config_graph.specs.declared.node.Port.{Port}
-use Rattle.config_graph.specs.declared.node.Target.{Target}
+use Rattle.config_graph.specs.Graph.{Graph}
 use Rattle.change_plan.specs.declared.plan_data.Move.{Move}
 use Rattle.change_plan.specs.declared.plan_data.Plan.{Plan}
 use Rattle.commit_laws.specs.Steps.{change_all, live_ports}
 use Rattle.commit_laws.specs.Work as work_
 use Rattle.plan_laws.specs.Commit.{commit_events, commit_steps, new_links, ports_to_close, reopened_ports, work}
-use Rattle.quiescence_laws.specs.Starts as starts
 use Rattle.quiescence_laws.specs.Starts.{start_of}
 use Rattle.quiesce_core.specs.Doers.{is_of_change}
 use Rattle.quiesce_core.specs.Live.{IsGraphOf}
 use Rattle.quiesce_core.specs.State.{Configuration}
 use Rattle.quiesce_core.specs.declared.event.Event.{Event}
-use Rattle.quiesce_core.specs.declared.event.Event.TheVariants.{Reopen, Unlink, Remove, Link}
+use Rattle.quiesce_core.specs.declared.event.Event.TheVariants.{Reopen, Unlink, Remove}
 use Rattle.change_script.specs.declared.report.HistoryLine.{HistoryLine}
 use Rattle.change_script.specs.declared.report.HistoryLine.TheVariants as to
 use Rattle.change_law.specs.Changes as law
-use Rattle.change_law.specs.Changes.{IsChange, commit_lines, drained_lines, opening_lines, pending_lines, seen_in_all}
+use Rattle.change_law.specs.Changes.{IsChange, drained_lines, opening_lines, seen_in_all}
 use Rattle.change_law.specs.Follows.{Follows, IsRight, IsStop, Part, lines_of, start_lines}
 use Rattle.change_law.specs.Members.{event_of, is_pending, lines_of_events}
 use Rattle.change_law.specs.Scene.{AreSeen, Seen, config_after, drained_line, root_line}
 use Rattle.change_law.specs.Statements.{Statement, start, change, run, finish, show}
 use Rattle.gate_records.specs.declared.entry.Entry.{Entry}
-use Rattle.change_board.specs.Steps.{Deed}
+use Rattle.change_board.specs.Steps.{Deed, events_of}
 use Rattle.change_board.specs.Transcripts.{Item, said, lines}
 use Rattle.change_board.specs.Scans.{look_entry}
 use Rattle.change_engine.specs.Carrying.{deed_items, sight_item}
 use Rattle.change_engine.specs.Finishing.{all_entries, rounds_in}
-use Rattle.change_engine.specs.Passivating.{left_after, passivation_items, silent_items}
+use Rattle.change_engine.specs.Passivating.{left_after, silent_items}
 use Rattle.change_engine.specs.declared.passivating.LeftRoot.{LeftRoot}
-use Rattle.change_engine.specs.Draining.{pending_items, root_item}
-use Rattle.headline_laws.specs.Pieces.{AreCommitItems, IsDone, AreAbandonItems, AreStartItems, AreStopItems, IsTranscript, AreChangeItems, Piece, config_at, events_of, items_of, opening_items}
-use Rattle.headline_laws.proofs.ItemLemmas.{AreFair, fair_both, fair_config, fair_deeds, fair_passivation, fair_run, fair_scans, fair_sights}
+use Rattle.change_engine.specs.Draining.{pending_items}
+use Rattle.headline_laws.specs.Pieces.{AreCommitItems, IsDone, AreAbandonItems, AreStartItems, AreStopItems, IsTranscript, AreChangeItems, Piece, config_at, items_of, opening_items, IsDonePiece}
+use Rattle.headline_laws.proofs.ItemLemmas.{AreFair, fair_both, fair_config, fair_deeds, fair_passivation, fair_run, fair_scans, fair_sights, fair_roots}
 use Rattle.headline_laws.proofs.LookLemmas.{all_are_seen, looks_are, none_left_seen}
 use Rattle.headline_laws.proofs.PortLaws.{closing_rise, config_more, still_to_close}
-use Rattle.change_engine.proofs.ItemLaws.{lines_both, silent_lines, sight_lines, carried_lines}
+use Rattle.change_engine.proofs.ItemLaws.{lines_both, silent_lines, sight_lines, carried_lines, all_mapped, start_is_of_change}
 use Rattle.change_engine.proofs.PassivationLaws.{closed_events, no_events_drained, looks_of, passivation_lines, seen_root, root_lines, reopen_lines}
+use Rattle.change_engine.specs.Stopping.{stop_items}
 
--- ---- the events of starts and commits are all the change's
-
-all_made : {A : Type 0} (f : A → Event) → ((x : A) → is_of_change (f x) ≡ true) → (xs : List A) → list_all is_of_change (map f xs) ≡ true
-all_made f h [] = refl
-all_made f h (x ∷ xs) = and_from (is_of_change (f x)) (list_all is_of_change (map f xs)) (h x) (all_made f h xs)
+-- ---- the events of commits are all the change's
 
 both_all : (xs ys : List Event) → list_all is_of_change xs ≡ true → list_all is_of_change ys ≡ true → list_all is_of_change (xs ++ ys) ≡ true
 both_all xs ys h k = list_all-append is_of_change xs ys ∙ ap (λ b. b && list_all is_of_change ys) h ∙ k
-
-all_linked : (g : Graph) (xs : List (ℕ × Port)) → list_all is_of_change (filter_map (starts.link_of g) xs) ≡ true
-all_linked g [] = refl
-all_linked g (x ∷ xs) = by (target_of g.links x.1.node x.1.require) (all_linked g xs)
-  where
-    by : (o : Option Target) → list_all is_of_change (filter_map (starts.link_of g) xs) ≡ true
-        → list_all is_of_change (cons_option (option_map (λ (t : Target). Link x.0 t.node t.provide) o) (filter_map (starts.link_of g) xs)) ≡ true
-    by None rest = rest
-    by (Some t) rest = rest
-
-start_is_change : (g : Graph) → list_all is_of_change (start_of g) ≡ true
-start_is_change g =
-    let makes = map starts.make_of (enumerate_from 0 g.nodes) in
-    let links = filter_map (starts.link_of g) (enumerate_from 0 (ports g.nodes)) in
-    both_all (makes ++ links) (map starts.reopen_of (enumerate_from 0 (ports g.nodes)))
-    (both_all makes links (all_made starts.make_of (λ x. refl) (enumerate_from 0 g.nodes)) (all_linked g (enumerate_from 0 (ports g.nodes))))
-    (all_made starts.reopen_of (λ x. refl) (enumerate_from 0 (ports g.nodes)))
 
 commit_is_change : (old new : Graph) (plan : Plan) (c : Configuration) → list_all is_of_change (commit_events old new plan c) ≡ true
 commit_is_change old new plan c =
@@ -83,10 +60,10 @@ commit_is_change old new plan c =
     let links = new_links new plan (change_all c (unlinks ++ (removes ++ makes))) in
     both_all (commit_steps old new plan c) (map Reopen (reopened_ports old new plan c))
     (both_all (unlinks ++ (removes ++ makes)) (map work_.link_new links)
-    (both_all unlinks (removes ++ makes) (all_made Unlink (λ x. refl) w.unlinks)
-    (both_all removes makes (all_made Remove (λ x. refl) w.removes) (all_made work_.make_new (λ x. refl) w.makes)))
-    (all_made work_.link_new (λ x. refl) links))
-    (all_made Reopen (λ x. refl) (reopened_ports old new plan c))
+    (both_all unlinks (removes ++ makes) (all_mapped is_of_change Unlink (λ x. refl) w.unlinks)
+    (both_all removes makes (all_mapped is_of_change Remove (λ x. refl) w.removes) (all_mapped is_of_change work_.make_new (λ x. refl) w.makes)))
+    (all_mapped is_of_change work_.link_new (λ x. refl) links))
+    (all_mapped is_of_change Reopen (λ x. refl) (reopened_ports old new plan c))
 
 fair_done : (deeds : List Deed) (es : List Event) → events_of deeds ≡ es → list_all is_of_change es ≡ true → AreFair (flat_map deed_items deeds)
 fair_done deeds es are h = fair_deeds deeds (ap (list_all is_of_change) are ∙ h)
@@ -96,7 +73,7 @@ fair_done deeds es are h = fair_deeds deeds (ap (list_all is_of_change) are ∙ 
 fair_start : (before : List Item) (name : List ℕ) (args : List ℤ) (g : Graph) (t : List Item) → AreStartItems before name args g t → AreFair t
 fair_start before name args g t x =
     let did = flat_map deed_items x.deeds in
-    subst AreFair (sym x.are) (fair_both (said (to.Start name args) ∷ did) (said to.Commit ∷ []) (refl, fair_done x.deeds (start_of g) x.events_are (start_is_change g)) (refl, tt))
+    subst AreFair (sym x.are) (fair_both (said (to.Start name args) ∷ did) (said to.Commit ∷ []) (refl, fair_done x.deeds (start_of g) x.events_are (start_is_of_change g)) (refl, tt))
 
 start_right : (before : List Item) (name : List ℕ) (args : List ℤ) (g : Graph) (t : List Item) → AreStartItems before name args g t → lines t ≡ start_lines name args g
 start_right before name args g t x =
@@ -164,16 +141,12 @@ module _ (before : List Item) (fair : AreFair before) (name : List ℕ) (args : 
   fair_committed y = subst AreFair (sym y.are) (fair_both (flat_map deed_items y.deeds) (said to.Commit ∷ [])
       (fair_done y.deeds _ y.events_are (commit_is_change x.old new x.plan (config_at (before ++ opened)))) (refl, tt))
 
-  fair_roots : (xs : List LeftRoot) → AreFair (map root_item xs)
-  fair_roots [] = tt
-  fair_roots (r ∷ xs) = (refl, fair_roots xs)
-
   fair_given_up : AreAbandonItems x.closed within left x.rest → AreFair x.rest
   fair_given_up y =
       let did = flat_map deed_items y.deeds in
       let roots = pending_items within left in
       subst AreFair (sym y.are) (fair_both (roots ++ did) (said to.Abandon ∷ []) (fair_both roots did (refl, fair_roots left)
-      (fair_done y.deeds _ y.events_are (all_made Reopen (λ p. refl) x.closed))) (refl, tt))
+      (fair_done y.deeds _ y.events_are (all_mapped is_of_change Reopen (λ p. refl) x.closed))) (refl, tt))
 
   pub fair_change : AreFair t
   fair_change = subst AreFair (sym x.are) (fair_both opened x.rest fair_opening
@@ -273,19 +246,16 @@ pub items_pushed : (before : List Piece) (p : Piece) → items_of (before ++ p �
 items_pushed before p = flat_map-append (λ (q : Piece). q.items) before (p ∷ []) ∙ ap (λ t. items_of before ++ t) (append-nil p.items)
 
 module _ (alone : Bool) where
-  abbrev IsDonePiece : List Piece → Piece → Type 0
-  IsDonePiece before p = IsDone alone (items_of before) p.statement p.items
-
-  fair_next : (before : List Piece) (p : Piece) → AreFair (items_of before) → IsDonePiece before p → AreFair (items_of (before ++ p ∷ []))
+  fair_next : (before : List Piece) (p : Piece) → AreFair (items_of before) → IsDonePiece alone before p → AreFair (items_of (before ++ p ∷ []))
   fair_next before p fair d =
       subst AreFair (sym (items_pushed before p)) (fair_both (items_of before) p.items fair (fair_piece alone (items_of before) fair p.statement p.items d))
 
-  pub fair_pieces : (before ps : List Piece) → AreFair (items_of before) → EachAfter IsDonePiece before ps → AreFair (items_of (before ++ ps))
+  pub fair_pieces : (before ps : List Piece) → AreFair (items_of before) → EachAfter (IsDonePiece alone) before ps → AreFair (items_of (before ++ ps))
   fair_pieces before [] fair each = subst (λ qs. AreFair (items_of qs)) (sym (append-nil before)) fair
   fair_pieces before (p ∷ ps) fair each =
       subst (λ qs. AreFair (items_of qs)) (append_assoc before (p ∷ []) ps) (fair_pieces (before ++ p ∷ []) ps (fair_next before p fair each.0) each.1)
 
-  parts_right : (before ps : List Piece) → AreFair (items_of before) → EachAfter IsDonePiece before ps → EachAfter IsRightPart (map part_of before) (map part_of ps)
+  parts_right : (before ps : List Piece) → AreFair (items_of before) → EachAfter (IsDonePiece alone) before ps → EachAfter IsRightPart (map part_of before) (map part_of ps)
   parts_right before [] fair each = tt
   parts_right before (p ∷ ps) fair each = (
     subst (λ ls. IsRight ls p.statement (lines p.items)) (sym (lines_pieces before)) (piece_right alone (items_of before) fair p.statement p.items each.0),
@@ -300,15 +270,15 @@ stop_right before t fair x =
     let closed_same : x.closed ≡ live_ports (config_after (lines before)) = x.closed_are ∙ ap live_ports (fair_config before fair) in
     record {
       seen = seen;
-      are = ap lines x.are ∙ lines_both (said to.Stop ∷ passivation_items x.closed x.how) (map sight_item x.sights)
-          ∙ ap (λ ls. lines (said to.Stop ∷ passivation_items x.closed x.how) ++ ls) (sight_lines x.sights) ∙ append-nil (lines (said to.Stop ∷ passivation_items x.closed x.how))
+      are = ap lines x.are ∙ lines_both (stop_items x.closed x.how) (map sight_item x.sights)
+          ∙ ap (λ ls. lines (stop_items x.closed x.how) ++ ls) (sight_lines x.sights) ∙ append-nil (lines (stop_items x.closed x.how))
           ∙ ap (λ ls. to.Stop ∷ ls) (passivation_lines x.closed x.how) ∙ ap (λ qs. to.Stop ∷ (map to.Close qs ++ map drained_line seen)) closed_same;
       all_seen = subst (λ qs. AreSeen qs seen) closed_same (none_left_seen x.closed x.within x.how x.is_passivation x.none_left);
     }
 
 pub fair_stop : (before t : List Item) → AreStopItems before t → AreFair t
 fair_stop before t x =
-    subst AreFair (sym x.are) (fair_both (said to.Stop ∷ passivation_items x.closed x.how) (map sight_item x.sights) (refl, fair_passivation x.closed x.how) (fair_sights x.sights))
+    subst AreFair (sym x.are) (fair_both (stop_items x.closed x.how) (map sight_item x.sights) (refl, fair_passivation x.closed x.how) (fair_sights x.sights))
 
 pub fair_transcript : (alone : Bool) (statements : List Statement) (t : List Item) → IsTranscript alone statements t → AreFair t
 fair_transcript alone statements t x =

@@ -32,7 +32,7 @@ use Rattle.gate_records.specs.declared.entry.Entry.TheVariants.{Did, Looked, Sig
 use Rattle.gate_records.specs.Looks.{is_drained_word, serial_of}
 use Rattle.gate_records.specs.Records.{IsRecordOf, Moment}
 use Rattle.change_board.specs.Sights.{Sight}
-use Rattle.change_board.specs.Steps.{Deed}
+use Rattle.change_board.specs.Steps.{Deed, events_of}
 use Rattle.change_board.specs.Transcripts.{Item, silent, told, said, entries, lines, tells}
 use Rattle.gate_records.proofs.RecordLaws.{config_is}
 use Rattle.change_engine.specs.Carrying.{deed_items, sight_item}
@@ -42,13 +42,14 @@ use Rattle.change_engine.specs.Passivating.{Passivation, WaitingRound, close_ite
 use Rattle.change_engine.specs.declared.passivating.LeftRoot.{LeftRoot}
 use Rattle.headline_laws.specs.Joining.{AreJoined, Joint, of_node, of_line, of_entry, item_of, items_in, member_of, members_in, moments_in}
 use Rattle.change_engine.specs.Draining.{pending_items, root_item}
-use Rattle.headline_laws.specs.Pieces.{AreCommitItems, IsDone, AreAbandonItems, AreStartItems, IsTranscript, AreChangeItems, Piece, config_at, events_of, items_of, opening_items}
+use Rattle.headline_laws.specs.Pieces.{AreCommitItems, IsDone, AreAbandonItems, AreStartItems, IsTranscript, AreChangeItems, Piece, config_at, items_of, opening_items, IsDonePiece}
 use Rattle.headline_laws.proofs.FollowLaws.{fair_transcript, items_pushed}
-use Rattle.headline_laws.proofs.ItemLemmas.{config_over}
 use Rattle.headline_laws.proofs.JoiningLemmas.{IsKnown, Lifted, each_both, lifted, member_events, member_lines}
 use Rattle.headline_laws.proofs.LawfulLaws.{all_known, line_there}
 use Rattle.change_engine.proofs.ItemLaws.{lines_both, silent_lines, carried_lines}
 use Rattle.change_engine.proofs.PassivationLaws.{looks_of, passivation_lines}
+use Rattle.headline_laws.proofs.ConfigLaws.{said_config}
+use Rattle.change_engine.specs.Stopping.{stop_items}
 
 -- ---- how many statements with a graph begin
 
@@ -247,10 +248,6 @@ last_told : (statements : List Statement) (before front : List Item) (x : Item) 
     → EachAfter (IsGraphTold statements) before (front ++ x ∷ [])
 last_told statements before front x none here = each_joined (IsGraphTold statements) before front (x ∷ []) (all_none statements before front none) (here, tt)
 
--- a line that is no event leaves the configuration
-same_behind : (t : List Item) (l : HistoryLine) → config_at (t ++ said l ∷ []) ≡ config_at t
-same_behind t l = config_over t (said l ∷ [])
-
 module _ (statements : List Statement) (before : List Item) (g : Graph) (there : slice_get (filter_map graph_of statements) (heads_in before) ≡ Some g) where
   -- behind the line that begins a statement the graph that is described is its own
   described_here : (front : List Item) → heads_in front ≡ 1 → described statements (lines (before ++ front)) ≡ Some g
@@ -262,7 +259,7 @@ module _ (statements : List Statement) (before : List Item) (g : Graph) (there :
   told_at front one stands = record {
     graph = g;
     described_so = described_here front one;
-    stands = subst (λ c. IsGraphOf c g) (ap config_at (sym (append_assoc before front (said to.Commit ∷ []))) ∙ same_behind (before ++ front) to.Commit) stands;
+    stands = subst (λ c. IsGraphOf c g) (ap config_at (sym (append_assoc before front (said to.Commit ∷ []))) ∙ said_config (before ++ front) to.Commit) stands;
   }
 
   start_told : (name : List ℕ) (args : List ℤ) (t : List Item) → AreStartItems before name args g t → EachAfter (IsGraphTold statements) before t
@@ -329,11 +326,8 @@ abbrev statements_in : List Piece → List Statement
 statements_in ps = map (λ (p : Piece). p.statement) ps
 
 module _ (alone : Bool) where
-  abbrev IsDonePiece : List Piece → Piece → Type 0
-  IsDonePiece before p = IsDone alone (items_of before) p.statement p.items
-
   -- as many begin as there are statements with a graph
-  heads_next : (before : List Piece) (p : Piece) → heads_in (items_of before) ≡ length (filter_map graph_of (statements_in before)) → IsDonePiece before p
+  heads_next : (before : List Piece) (p : Piece) → heads_in (items_of before) ≡ length (filter_map graph_of (statements_in before)) → IsDonePiece alone before p
       → heads_in (items_of (before ++ p ∷ [])) ≡ length (filter_map graph_of (statements_in (before ++ p ∷ [])))
   heads_next before p h d = omega (
     arith,
@@ -359,7 +353,7 @@ module _ (alone : Bool) where
       ∙ slice_get-behind (filter_map graph_of (statements_in before)) (cons_option (graph_of p.statement) (filter_map graph_of (statements_in ps))) 0 g first
 
   pieces_told : (statements : List Statement) (before ps : List Piece) → statements_in (before ++ ps) ≡ statements
-      → heads_in (items_of before) ≡ length (filter_map graph_of (statements_in before)) → EachAfter IsDonePiece before ps → EachAfter (IsGraphTold statements) (items_of before) (items_of ps)
+      → heads_in (items_of before) ≡ length (filter_map graph_of (statements_in before)) → EachAfter (IsDonePiece alone) before ps → EachAfter (IsGraphTold statements) (items_of before) (items_of ps)
   pieces_told statements before [] are h each = tt
   pieces_told statements before (p ∷ ps) are h each =
       let placed = subst (λ ss. IsPlaced ss (items_of before) p.statement) are (placed_at before ps p h) in
@@ -372,8 +366,8 @@ transcript_told alone statements t x =
     subst (Each (IsGraphTold statements)) x.are
     (each_joined (IsGraphTold statements) [] (items_of x.pieces) x.stop (pieces_told alone statements [] x.pieces x.statements_are refl x.done)
     (subst (EachAfter (IsGraphTold statements) (items_of x.pieces)) (sym x.stops.are)
-    (all_none statements (items_of x.pieces) (said to.Stop ∷ passivation_items x.stops.closed x.stops.how ++ map sight_item x.stops.sights)
-    (none_both (said to.Stop ∷ passivation_items x.stops.closed x.stops.how) (map sight_item x.stops.sights) (none_passivation x.stops.closed x.stops.how) (none_sights x.stops.sights)))))
+    (all_none statements (items_of x.pieces) (stop_items x.stops.closed x.stops.how ++ map sight_item x.stops.sights)
+    (none_both (stop_items x.stops.closed x.stops.how) (map sight_item x.stops.sights) (none_passivation x.stops.closed x.stops.how) (none_sights x.stops.sights)))))
 
 -- ---- the members
 

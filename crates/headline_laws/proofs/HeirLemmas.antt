@@ -18,6 +18,7 @@ use Rattle.quiesce_core.specs.declared.state.Slot.{Slot}
 use Rattle.quiesce_core.proofs.InductionLaws.{IsNext, along, unbarred, none_barred}
 use Rattle.quiesce_core.proofs.RunLaws.{effect_config}
 use Rattle.change_board.specs.Collecting.{took_over}
+use Rattle.std.proofs.Math.Bool.{or-false}
 
 -- the first place at which a test passes, of numbers and of a list's elements
 lower_both : (q n : ℕ) → nat_lt q n ≡ nat_lt (1 + q) (suc n)
@@ -82,12 +83,8 @@ module _ (n : ℕ) where
   stays_from : (es : List Event) (e : Event) → IsNext es e → ((j : ℕ) → makes_from n j e ≡ false) → ((j : ℕ) → is_from n (change_next (state_after es).config e) j ≡ is_from n (state_after es).config j)
       → AreFrom es → AreFrom (es ++ e ∷ [])
   stays_from es e here none same h = λ j.
-      list_any-append (makes_from n j) es (e ∷ []) ∙ ap (λ b. list_any (makes_from n j) es || (b || false)) (none j) ∙ nothing (list_any (makes_from n j) es)
+      list_any-append (makes_from n j) es (e ∷ []) ∙ ap (λ b. list_any (makes_from n j) es || (b || false)) (none j) ∙ or-false (list_any (makes_from n j) es)
       ∙ h j ∙ sym (same j) ∙ sym (ap (λ c. is_from n c j) (config_there es e here))
-    where
-      nothing : (b : Bool) → (b || (false || false)) ≡ b
-      nothing true = refl
-      nothing false = refl
 
   made_from : (es : List Event) (k : ℕ) (node : Node) (from : Option ℕ) → IsNext es (Make k node from) → AreFrom es → AreFrom (es ++ Make k node from ∷ [])
   made_from es k node from here h = λ j.
@@ -101,21 +98,13 @@ module _ (n : ℕ) where
       (λ (same : j ≡ length c.slots).
       parts
       ∙ ap (λ b. b || (makes_from n j (Make k node from) || false)) (h j ∙ ap (λ o. option_map_or (took_over n) o false) (slice_get_past c.slots j (omega (arith, same))))
-      ∙ ap (λ b. cond b (option_map_or (λ i. i == n) from false) false || false) (eq-eqb k j (next ∙ sym same)) ∙ nothing (option_map_or (λ i. i == n) from false)
+      ∙ ap (λ b. cond b (option_map_or (λ i. i == n) from false) false || false) (eq-eqb k j (next ∙ sym same)) ∙ or-false (option_map_or (λ i. i == n) from false)
       ∙ sym (ap (λ o. option_map_or (took_over n) o false) (ap (slice_get (c.slots ++ made ∷ [])) same ∙ slice_get-last c.slots made)) ∙ there)
       (λ (other : j ≡ length c.slots → ⊥).
       parts
       ∙ ap (λ b. list_any (makes_from n j) es || (cond b (option_map_or (λ i. i == n) from false) false || false)) (ne_eqb k j (λ e. other (sym e ∙ next)))
-      ∙ nothing_more (list_any (makes_from n j) es) ∙ h j ∙ sym (ap (λ o. option_map_or (took_over n) o false) (pushed_elsewhere c.slots made j other)) ∙ there)
+      ∙ or-false (list_any (makes_from n j) es) ∙ h j ∙ sym (ap (λ o. option_map_or (took_over n) o false) (pushed_elsewhere c.slots made j other)) ∙ there)
       (cases_eq j (length c.slots))
-    where
-      nothing : (b : Bool) → (b || false) ≡ b
-      nothing true = refl
-      nothing false = refl
-
-      nothing_more : (b : Bool) → (b || (false || false)) ≡ b
-      nothing_more true = refl
-      nothing_more false = refl
 
   next_from : (es : List Event) (e : Event) → IsNext es e → unbarred e ≡ false → AreFrom es → AreFrom (es ++ e ∷ [])
   next_from es (Make k node from) here free h = made_from es k node from here h

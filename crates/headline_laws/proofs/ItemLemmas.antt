@@ -21,13 +21,15 @@ use Rattle.gate_records.specs.declared.entry.Entry.TheVariants.{Looked}
 use Rattle.gate_records.specs.Looks.{is_drained_word, serial_of}
 use Rattle.change_board.specs.Scans.{Found, look_entry, scan_entries}
 use Rattle.change_board.specs.Sights.{Sight, sight_entry}
-use Rattle.change_board.specs.Steps.{Deed}
+use Rattle.change_board.specs.Steps.{Deed, events_of}
 use Rattle.change_board.specs.Transcripts.{Item, silent, told, said, entries, lines, tells}
 use Rattle.change_engine.specs.Carrying.{deed_items, event_item, sight_item}
 use Rattle.change_engine.specs.Finishing.{ScanSeen, all_entries, seen_entries}
 use Rattle.change_engine.specs.Passivating.{Passivation, WaitingRound, close_item, look_item, passivation_items, round_items, silent_items}
-use Rattle.headline_laws.specs.Pieces.{config_at, events_of}
+use Rattle.headline_laws.specs.Pieces.{config_at}
 use Rattle.change_engine.proofs.ItemLaws.{entries_both}
+use Rattle.change_engine.specs.Draining.{root_item}
+use Rattle.change_engine.specs.declared.passivating.LeftRoot.{LeftRoot}
 
 -- ---- items whose lines tell what their entries say
 
@@ -96,6 +98,10 @@ fair_event (End p k v) h = absurd (both_ways false refl h)
 pub fair_sights : (ss : List Sight) → AreFair (map sight_item ss)
 fair_sights [] = tt
 fair_sights (s ∷ ss) = (refl, fair_sights ss)
+
+pub fair_roots : (xs : List LeftRoot) → AreFair (map root_item xs)
+fair_roots [] = tt
+fair_roots (x ∷ xs) = (refl, fair_roots xs)
 
 pub fair_deeds : (deeds : List Deed) → list_all is_of_change (events_of deeds) ≡ true → AreFair (flat_map deed_items deeds)
 fair_deeds [] h = tt

@@ -20,7 +20,7 @@ use Rattle.change_law.specs.Members.{Member, event_of, is_root, without_roots}
 use Rattle.gate_records.specs.Entries.{event_in}
 use Rattle.gate_records.specs.declared.entry.Entry.{Entry}
 use Rattle.gate_records.specs.Records as records
-use Rattle.gate_records.specs.Records.{Moment, IsRecordOf, IsSo, event_at, entry_at}
+use Rattle.gate_records.specs.Records.{Moment, IsRecordOf, IsSo, event_at}
 use Rattle.change_board.specs.Transcripts as transcripts
 use Rattle.change_board.specs.Transcripts.{Item}
 use Rattle.headline_laws.specs.Joining.{Joint, of_node, of_line, of_entry, item_of, items_in, line_member, member_of, members_in, moment_of, moments_in}

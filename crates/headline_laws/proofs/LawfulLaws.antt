@@ -5,7 +5,6 @@ use Rattle.std.proofs.lemmas.Bool.{both_ways}
 use Rattle.std.proofs.lemmas.List.Elements.{All-cons, All-nil}
 use Rattle.std.proofs.lemmas.Option.{none-some, same_Some}
 use Rattle.base.specs.Each.{Each, EachAfter}
-use Rattle.quiesce_core.specs.Doers.{is_of_change}
 use Rattle.quiesce_core.specs.Runs.{IsRun, state_after}
 use Rattle.quiesce_core.specs.State.{exchange}
 use Rattle.quiesce_core.specs.Words.{word_of}
@@ -20,7 +19,7 @@ use Rattle.gate_word.specs.declared.word.Word.{Word}
 use Rattle.change_script.specs.declared.report.HistoryLine.{HistoryLine}
 use Rattle.change_script.specs.declared.report.HistoryLine.TheVariants as to
 use Rattle.change_law.specs.Lawful.{IsDrainedAt, IsOfItsKind}
-use Rattle.change_law.specs.Members.{Member, by_node, of_history, event_of, is_root, line_of, without_roots}
+use Rattle.change_law.specs.Members.{Member, by_node, of_history, is_root, line_of, without_roots}
 use Rattle.change_law.specs.Members as members
 use Rattle.gate_records.specs.declared.entry.Entry.{Entry}
 use Rattle.gate_records.specs.declared.entry.Entry.TheVariants.{Did, Looked, Sighted, Scanned}
@@ -31,19 +30,6 @@ use Rattle.change_board.specs.Transcripts.{Item, entries, lines, tells}
 use Rattle.headline_laws.proofs.ItemLemmas.{AreFair, is_aside}
 use Rattle.headline_laws.specs.Joining.{AreJoined, Joint, of_node, of_line, of_entry, items_in, line_member, member_of, members_in, moments_in}
 use Rattle.headline_laws.proofs.JoiningLemmas.{IsKnown, by_known, joined, known, member_events, member_lines}
-
--- an event of a line is one of the change
-line_is_change : (l : HistoryLine) (e : Event) → event_of l ≡ Some e → is_of_change e ≡ true
-line_is_change l e h = by l h
-  where
-    by : (l : HistoryLine) → event_of l ≡ Some e → is_of_change e ≡ true
-    by (to.Make n made from) h = sym (ap is_of_change (same_Some (event.Make n made from) e h))
-    by (to.Link p n x) h = sym (ap is_of_change (same_Some (event.Link p n x) e h))
-    by (to.Unlink p) h = sym (ap is_of_change (same_Some (event.Unlink p) e h))
-    by (to.Remove n) h = sym (ap is_of_change (same_Some (event.Remove n) e h))
-    by (to.Close p) h = sym (ap is_of_change (same_Some (event.Close p) e h))
-    by (to.Reopen p) h = sym (ap is_of_change (same_Some (event.Reopen p) e h))
-    by _ h = absurd (none-some e h)
 
 -- the member of a line is that line
 same_line : (l : HistoryLine) (x : Member) (b : Bool) → cond b None (Some (of_history l)) ≡ Some x → x ≡ of_history l

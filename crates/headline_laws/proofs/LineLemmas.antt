@@ -11,13 +11,12 @@ use Rattle.change_law.specs.Changes.{drained_lines, seen_in_all}
 use Rattle.change_law.specs.Members.{line_of, lines_of_events}
 use Rattle.change_law.specs.Scene.{drained_line}
 use Rattle.gate_records.specs.declared.entry.Entry.{Entry}
-use Rattle.change_board.specs.Steps.{Deed}
+use Rattle.change_board.specs.Steps.{Deed, events_of}
 use Rattle.change_board.specs.Transcripts.{Item, said, lines}
 use Rattle.change_engine.specs.Carrying.{deed_items}
 use Rattle.change_engine.specs.Passivating.{Passivation, passivation_items, silent_items}
 use Rattle.change_engine.specs.declared.passivating.LeftRoot.{LeftRoot}
 use Rattle.change_engine.specs.Draining.{root_item}
-use Rattle.headline_laws.specs.Pieces.{events_of}
 use Rattle.headline_laws.proofs.ItemLemmas.{is_aside}
 use Rattle.change_engine.proofs.ItemLaws.{lines_both, silent_lines, carried_lines}
 use Rattle.change_engine.proofs.PassivationLaws.{looks_of, passivation_lines}

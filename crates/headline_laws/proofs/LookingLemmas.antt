@@ -1,7 +1,7 @@
 -- How often a port is looked at: in each round of a passivation that leaves it, and in each scan.
-use Rattle.std.proofs.Common.{◌≡◌, ◌∙◌, ℕ, ◌≤◌, Bool, true, false, cond, not, List, [], ◌∷◌, ◌++◌, append_assoc, length, map, Some, refl, sym, ap, subst, arith}
+use Rattle.std.proofs.Common.{◌≡◌, ◌∙◌, ℕ, ◌≤◌, Bool, true, false, cond, not, List, [], ◌∷◌, ◌++◌, append_assoc, length, map, refl, sym, ap, subst, arith}
 use Rattle.std.specs.Prelude.{◌&&◌, ◌==◌, flat_map, nat_lt}
-use Rattle.std.specs.List.{AllByRecursion, cons_option, count_by, range_with_len}
+use Rattle.std.specs.List.{AllByRecursion, count_by, range_with_len}
 use Rattle.std.proofs.lemmas.Bool.{and_parts, eq-eqb, ltb-true}
 use Rattle.std.proofs.lemmas.List.{append-nil}
 use Rattle.std.proofs.lemmas.List.Sums.{sum_by-cons}
@@ -11,29 +11,18 @@ use Rattle.base.proofs.MapLaws.{count_by-append}
 use Rattle.base.proofs.RangeLaws.{range_has}
 use Rattle.quiesce_core.specs.Rules.{is_live_port}
 use Rattle.quiesce_core.specs.State.{Configuration, is_live, owner}
-use Rattle.change_script.specs.declared.report.HistoryLine.TheVariants as to
 use Rattle.change_law.proofs.TestLaws.{some_counted}
 use Rattle.gate_records.specs.declared.entry.Entry.{Entry}
-use Rattle.gate_records.specs.declared.entry.Entry.TheVariants.{Looked, Scanned}
-use Rattle.gate_records.specs.Looks.{is_drained_word, serial_of}
+use Rattle.gate_records.specs.declared.entry.Entry.TheVariants.{Scanned}
 use Rattle.change_board.specs.Bearing.{looks_at}
 use Rattle.change_board.specs.Scans.{Found, look_entry, ports_of, scan_entries}
 use Rattle.change_board.specs.Sights.{sight_entry}
-use Rattle.change_board.specs.Transcripts.{silent, told, entries, entry_in}
+use Rattle.change_board.specs.Transcripts.{entries}
 use Rattle.change_engine.specs.Finishing.{IsScanIn, ScanSeen, all_entries, count_of, rounds_in, seen_entries}
 use Rattle.change_engine.specs.Passivating.{IsRound, WaitingRound, left_after, look_item, root_ports, roots_of, round_items, silent_items}
-use Rattle.change_engine.proofs.ItemLaws.{entries_both}
+use Rattle.change_engine.proofs.ItemLaws.{entries_both, look_entries}
 use Rattle.change_engine.proofs.PassivationLaws.{left_more}
 use Rattle.headline_laws.proofs.LookLemmas.{parted}
-
-entry_of_look : (f : Found) (b : Bool) → entry_in (cond b (told (Looked f.port f.word) (to.Drained f.port (serial_of f.word))) (silent (Looked f.port f.word))) ≡ Some (look_entry f)
-entry_of_look f true = refl
-entry_of_look f false = refl
-
-look_entries : (found : List Found) → entries (map look_item found) ≡ map look_entry found
-look_entries [] = refl
-look_entries (f ∷ found) =
-    ap (λ o. cons_option o (entries (map look_item found))) (entry_of_look f (is_drained_word f.word)) ∙ ap (λ es. look_entry f ∷ es) (look_entries found)
 
 module _ (p : ℕ) where
   abbrev is_port : ℕ → Bool

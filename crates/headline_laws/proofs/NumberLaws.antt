@@ -36,7 +36,7 @@ use Rattle.change_board.specs.Scans.{Found, all_ports, ended_in, look_entry, por
 use Rattle.change_board.specs.Transcripts.{Item, silent, told, said, entries, line_in, lines, tells}
 use Rattle.change_engine.specs.Carrying.{deed_items, sight_item}
 use Rattle.change_engine.specs.Finishing.{IsScanIn, ScanSeen, all_entries, rounds_in}
-use Rattle.change_engine.specs.Passivating.{left_after, passivation_items, silent_items}
+use Rattle.change_engine.specs.Passivating.{left_after, silent_items}
 use Rattle.change_engine.specs.Running.{ended_since}
 use Rattle.headline_laws.specs.Joining.{AreJoined, Joint, of_node, of_line, of_entry, item_of, items_in, member_of, members_in, moment_of, moments_in}
 use Rattle.headline_laws.specs.Numbers.{IsEndedAt}
@@ -51,6 +51,7 @@ use Rattle.headline_laws.proofs.LawfulLaws.{all_known, line_there}
 use Rattle.headline_laws.proofs.LineLemmas.{any_line, none_both, none_deeds, none_passivation, none_roots, none_silent}
 use Rattle.headline_laws.proofs.LookingLemmas.{few_rounds, looked_scans}
 use Rattle.change_engine.proofs.ItemLaws.{sight_lines, silent_entries, silent_lines}
+use Rattle.change_engine.specs.Stopping.{stop_items}
 
 -- ---- joints by their items
 
@@ -282,7 +283,7 @@ pieces_told alone before (p ∷ ps) each =
 
 pub transcript_told : (alone : Bool) (statements : List Statement) (t : List Item) → IsTranscript alone statements t → Each IsNumberTold t
 transcript_told alone statements t x =
-    let stopping = said to.Stop ∷ passivation_items x.stops.closed x.stops.how in
+    let stopping = stop_items x.stops.closed x.stops.how in
     let none : any_line is_number_line x.stop ≡ false =
     ap (any_line is_number_line) x.stops.are ∙ none_both is_number_line stopping (map sight_item x.stops.sights) (none_passivation is_number_line none_aside x.stops.closed x.stops.how)
     (ap (list_any is_number_line) (sight_lines x.stops.sights)) in

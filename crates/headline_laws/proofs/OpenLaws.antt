@@ -39,7 +39,7 @@ use Rattle.gate_records.specs.declared.entry.Entry.{Entry}
 use Rattle.gate_records.specs.declared.entry.Entry.TheVariants.{Did, Looked}
 use Rattle.gate_records.specs.Looks.{is_drained_word, serial_of}
 use Rattle.gate_records.specs.Records as records
-use Rattle.gate_records.specs.Records.{IsRecordOf, IsSo, Moment}
+use Rattle.gate_records.specs.Records.{IsRecordOf, Moment}
 use Rattle.change_board.specs.Bearing.{loads_root, looks_at}
 use Rattle.change_board.specs.Transcripts as transcripts
 use Rattle.change_board.specs.Transcripts.{Item, silent, told, said, entries, lines}
@@ -48,6 +48,7 @@ use Rattle.headline_laws.proofs.ItemLemmas.{AreFair}
 use Rattle.headline_laws.proofs.JoiningLemmas.{IsKnown, member_events, member_lines}
 use Rattle.headline_laws.proofs.LawfulLaws.{all_known, by_nodes, runs}
 use Rattle.change_engine.proofs.ItemLaws.{entries_both, lines_both}
+use Rattle.change_engine.proofs.PassivationLaws.{root_by}
 
 -- ---- the place of an item in the joint list
 
@@ -138,12 +139,6 @@ moment_there (of_entry z None) y x h is = ap (λ v. Some (records.entry v)) (sam
 moment_there (of_entry z (Some l)) y x h is = ap (λ v. Some (records.entry v)) (same_Some z x (ap entry_of (same_Some (told z l) y h) ∙ is))
 
 -- ---- a port's word that isn't drained, while it is closed
-
-root_by : (closed idle within : Bool) → closed ≡ true → (closed && (idle || within)) ≡ false → (not idle && not within) ≡ true
-root_by true true within e h = absurd (both_ways true h refl)
-root_by true false true e h = absurd (both_ways true h refl)
-root_by true false false e h = refl
-root_by false idle within e h = absurd (both_ways false refl e)
 
 busy_has_root : (es : List Event) (p w : ℕ) → IsRun es → w ≡ word_of (state_after es) p → (gate (state_after es).config p).closed ≡ true → is_drained_word w ≡ false
     → has_root (state_after es) p (serial_of w) ≡ true

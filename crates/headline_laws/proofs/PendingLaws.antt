@@ -23,7 +23,7 @@ use Rattle.change_engine.specs.Passivating.{Passivation, silent_items}
 use Rattle.change_engine.specs.declared.passivating.LeftRoot.{LeftRoot}
 use Rattle.change_engine.specs.Draining.{pending_items, root_item}
 use Rattle.headline_laws.specs.Pieces.{config_at, opening_items}
-use Rattle.headline_laws.proofs.ItemLemmas.{AreFair, config_over, is_aside, fair_events, fair_passivation}
+use Rattle.headline_laws.proofs.ItemLemmas.{config_over, is_aside, fair_events, fair_passivation, fair_roots}
 use Rattle.headline_laws.proofs.LineLemmas.{both_lines, none_both, none_deeds, none_passivation, silent_line}
 use Rattle.headline_laws.proofs.PortLaws.{still_to_close}
 use Rattle.change_engine.proofs.PassivationLaws.{closed_events, no_events_drained, looks_of, passivation_lines}
@@ -57,10 +57,6 @@ quiet_none es l h = silent_line is_pending es l ∙ ap (λ b. b || false) h
 
 -- ---- what is closed for a change
 
-fair_left : (xs : List LeftRoot) → AreFair (map root_item xs)
-fair_left [] = tt
-fair_left (x ∷ xs) = (refl, fair_left xs)
-
 no_events : (xs : List LeftRoot) → filter_map event_of (lines (map root_item xs)) ≡ []
 no_events [] = refl
 no_events (x ∷ xs) = no_events xs
@@ -83,6 +79,6 @@ module _ (t : List Item) (name : List ℕ) (args : List ℤ) (closed : List ℕ)
       → ports_to_close old plan (config_at (t ++ opening ++ pending_items within left)) ≡ closed
   still_closed old plan within left are =
       ap (ports_to_close old plan) (config_over (t ++ opening) (pending_items within left)
-      ∙ ap (change_all (config_at (t ++ opening))) (fair_events (pending_items within left) (refl, fair_left left) ∙ no_events left)
+      ∙ ap (change_all (config_at (t ++ opening))) (fair_events (pending_items within left) (refl, fair_roots left) ∙ no_events left)
       ∙ config_opened ∙ ap (λ ps. change_all (config_at t) (map Close ps)) are)
       ∙ still_to_close old plan (config_at t) ∙ sym are

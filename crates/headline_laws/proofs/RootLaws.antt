@@ -48,6 +48,8 @@ use Rattle.headline_laws.proofs.OpenLaws.{loaded_often, stood}
 use Rattle.change_engine.proofs.ItemLaws.{entries_both, sight_lines}
 use Rattle.change_engine.proofs.PassivationLaws.{left_more, looks_of, seen_root}
 use Rattle.headline_laws.proofs.FollowLaws.{items_pushed}
+use Rattle.change_engine.specs.Stopping.{stop_items}
+use Rattle.change_engine.specs.Calls.{skip_items}
 
 -- ---- parts of lists
 
@@ -448,7 +450,7 @@ module _ (t : List Item) (m : List Moment) (ms : List Member) (fair : AreFair t)
       subst (EachAfter IsStoodAt before) (sym d.are)
       (all_none before (said (to.Start name args) ∷ did_ ++ said to.Commit ∷ []) (none_both is_root (said (to.Start name args) ∷ did_) (said to.Commit ∷ []) (none_deeds is_root none_aside d.deeds) refl))
   piece_stands alone before (change name args g within moves) u after d whole = ⊎_elim
-      (λ (skipped : list_any is_pending (lines before) ≡ true). subst (EachAfter IsStoodAt before) (sym (d.0 skipped)) (all_none before (said (to.Change name args) ∷ said to.Skipped ∷ []) refl))
+      (λ (skipped : list_any is_pending (lines before) ≡ true). subst (EachAfter IsStoodAt before) (sym (d.0 skipped)) (all_none before (skip_items name args) refl))
       (λ (tried : list_any is_pending (lines before) ≡ false). tried_stands before name args g within moves u after (d.1 tried) whole)
       (cases_Bool (list_any is_pending (lines before)))
   piece_stands alone before (run k) u after d whole =
@@ -471,7 +473,7 @@ module _ (t : List Item) (m : List Moment) (ms : List Member) (fair : AreFair t)
 
   all_stand : (alone : Bool) (statements : List Statement) → IsTranscript alone statements t → Each IsStoodAt t
   all_stand alone statements x =
-      let stopping = said to.Stop ∷ passivation_items x.stops.closed x.stops.how in
+      let stopping = stop_items x.stops.closed x.stops.how in
       let none : any_line is_root x.stop ≡ false =
       ap (any_line is_root) x.stops.are ∙ none_both is_root stopping (map sight_item x.stops.sights) (none_passivation is_root none_aside x.stops.closed x.stops.how)
       (ap (list_any is_root) (sight_lines x.stops.sights)) in

@@ -14,34 +14,33 @@ use Rattle.plan_laws.specs.Commit.{commit_events, ports_to_close}
 use Rattle.quiescence_laws.specs.Starts.{start_of}
 use Rattle.quiesce_core.specs.Live.{IsGraphOf}
 use Rattle.quiesce_core.specs.State.{Configuration}
-use Rattle.quiesce_core.specs.declared.event.Event.{Event}
 use Rattle.quiesce_core.specs.declared.event.Event.TheVariants as event
 use Rattle.change_law.specs.Members.{is_pending}
 use Rattle.change_law.specs.Statements.{Statement, start, change, run, finish, show}
 use Rattle.gate_records.specs.Entries.{config_of}
 use Rattle.change_board.specs.Scans.{Found, all_ports, ended_in, look_entry, ports_of}
 use Rattle.change_board.specs.Sights.{Sight}
-use Rattle.change_board.specs.Steps.{Deed}
+use Rattle.change_board.specs.Steps.{Deed, events_of}
 use Rattle.change_board.specs.Transcripts.{Item, said, entries, lines}
+use Rattle.change_engine.specs.Beginning.{start_items}
+use Rattle.change_engine.specs.Calls.{skip_items}
 use Rattle.change_engine.specs.Carrying.{deed_items, sight_item}
 use Rattle.change_engine.specs.Draining.{pending_items}
 use Rattle.change_engine.specs.Finishing.{EndsAfter, IsScanIn, ScanSeen, all_entries, rounds_in}
 use Rattle.change_engine.specs.Passivating.{IsPassivation, Passivation, left_after, passivation_items, silent_items}
 use Rattle.change_engine.specs.Running.{RunsOn, ended_since, are_enough}
+use Rattle.change_engine.specs.Stopping.{stop_items}
 use Rattle.change_engine.specs.declared.passivating.LeftRoot.{LeftRoot}
 
 -- the configuration behind items
 abbrev pub config_at : List Item → Configuration
 config_at t = config_of (entries t)
 
-abbrev pub events_of : List Deed → List Event
-events_of deeds = map (λ (d : Deed). d.event) deeds
-
 -- A start: all is made, linked and reopened, and committed; the graph stands then.
 pub record AreStartItems (before : List Item) (name : List ℕ) (args : List ℤ) (g : Graph) (t : List Item) : Type 0 where
   pub deeds : List Deed
   pub events_are : events_of deeds ≡ start_of g
-  pub are : t ≡ said (to.Start name args) ∷ flat_map deed_items deeds ++ said to.Commit ∷ []
+  pub are : t ≡ start_items name args deeds
   pub stands : IsGraphOf (config_at (before ++ t)) g
 
 -- A change that found all ports drained, and took its steps; the new graph stands then.
@@ -79,9 +78,6 @@ pub record AreChangeItems (before : List Item) (name : List ℕ) (args : List �
   pub are : t ≡ opening_items name args closed how ++ rest
   pub ends : AreCommitItems (before ++ opening_items name args closed how) old new plan (left_after how.first how.rounds) rest
       ⊎ ((length how.rounds ≡ within) × AreAbandonItems closed within (left_after how.first how.rounds) rest)
-
-abbrev pub skip_items : List ℕ → List ℤ → List Item
-skip_items name args = said (to.Change name args) ∷ said to.Skipped ∷ []
 
 -- A run: looks at all ports, and scans in which nodes may begin transactions, until the ports show so many more as
 -- ended, or a scan was the last; and the line that tells how many ended.
@@ -128,7 +124,7 @@ pub record AreStopItems (before t : List Item) : Type 0 where
   pub is_passivation : IsPassivation closed within how
   pub none_left : left_after how.first how.rounds ≡ []
   pub sights : List Sight
-  pub are : t ≡ said to.Stop ∷ passivation_items closed how ++ map sight_item sights
+  pub are : t ≡ stop_items closed how ++ map sight_item sights
 
 -- one statement with its items
 pub record Piece : Type 0 where
@@ -138,8 +134,11 @@ pub record Piece : Type 0 where
 abbrev pub items_of : List Piece → List Item
 items_of pieces = flat_map (λ (p : Piece). p.items) pieces
 
+abbrev pub IsDonePiece : Bool → List Piece → Piece → Type 0
+IsDonePiece alone before p = IsDone alone (items_of before) p.statement p.items
+
 abbrev pub AreDone : Bool → List Piece → Type 0
-AreDone alone pieces = Each (λ before p. IsDone alone (items_of before) p.statement p.items) pieces
+AreDone alone pieces = Each (IsDonePiece alone) pieces
 
 -- All of a script, and the stop. `alone` says whether nodes take turns in scans of the board alone.
 pub record IsTranscript (alone : Bool) (statements : List Statement) (t : List Item) : Type 0 where

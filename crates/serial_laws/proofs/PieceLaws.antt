@@ -18,7 +18,7 @@ use Rattle.change_script.specs.declared.report.HistoryLine.{HistoryLine}
 use Rattle.change_script.specs.declared.report.HistoryLine.TheVariants as to
 use Rattle.config_graph.specs.Graph.{Graph}
 use Rattle.change_engine.specs.Draining.{pending_items, root_item}
-use Rattle.headline_laws.specs.Pieces.{AreCommitItems, IsDone, AreAbandonItems, AreShowItems, AreStartItems, AreStopItems, AreChangeItems, config_at, events_of, opening_items}
+use Rattle.headline_laws.specs.Pieces.{AreCommitItems, IsDone, AreAbandonItems, AreShowItems, AreStartItems, AreStopItems, AreChangeItems, config_at, opening_items}
 use Rattle.plan_laws.specs.Commit.{commit_events, ports_to_close}
 use Rattle.quiesce_core.specs.Live.{IsGraphOf}
 use Rattle.quiesce_core.specs.declared.event.Event.{Event}
@@ -30,6 +30,7 @@ use Rattle.serial_laws.proofs.WaitLaws.{Passed, left_ports, passes, some_there}
 use Rattle.serial_laws.proofs.WorldLaws.{AreSo, behind_both, config_behind, front_of_rounds, play_both, play_deeds, play_items, play_sights, reached_behind, so_behind, so_items}
 use Rattle.change_engine.proofs.ItemLaws.{lines_both, sight_lines, carried_lines}
 use Rattle.change_engine.proofs.PassivationLaws.{looks_of, passivation_lines, seen_root, root_lines, reopen_lines}
+use Rattle.change_board.specs.Steps.{events_of}
 
 -- ---- starts and shows
 

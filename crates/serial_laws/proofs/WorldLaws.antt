@@ -11,7 +11,7 @@ use Rattle.gate_records.specs.declared.entry.Entry.TheVariants.{Did, Looked, Sig
 use Rattle.change_board.specs.Scans.{Found, look_entry, scan_entries}
 use Rattle.gate_records.specs.Looks.{is_drained_word, serial_of}
 use Rattle.change_board.specs.Sights.{Sight, sight_entry}
-use Rattle.change_board.specs.Steps.{Deed}
+use Rattle.change_board.specs.Steps.{Deed, events_of}
 use Rattle.change_board.specs.Transcripts.{Item, silent, told, entries, entry_in}
 use Rattle.change_engine.specs.Carrying.{deed_items, sight_item}
 use Rattle.change_engine.specs.Passivating.{close_item, look_item, silent_items}
@@ -19,7 +19,7 @@ use Rattle.change_law.specs.Members.{line_of}
 use Rattle.change_law.specs.Serial.{after_changes}
 use Rattle.change_script.specs.declared.report.HistoryLine.{HistoryLine}
 use Rattle.change_script.specs.declared.report.HistoryLine.TheVariants as to
-use Rattle.headline_laws.specs.Pieces.{config_at, events_of}
+use Rattle.headline_laws.specs.Pieces.{config_at}
 use Rattle.quiesce_core.specs.declared.event.Event.{Event}
 use Rattle.quiesce_core.specs.declared.event.Event.TheVariants.{Close}
 use Rattle.step_board.specs.Playing.{HasWholeRounds, IsSoAt, IsSoIn, play, played}
