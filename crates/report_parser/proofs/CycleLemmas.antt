@@ -1,11 +1,10 @@
 -- The search for a way from a node back to it finds one exactly where there is one.
-use Rattle.std.proofs.Common.{◌≡◌, ◌+◌, ◌<◌, ◌≤◌, ◌↔◌, ℕ, zero, suc, Bool, true, false, not, inl, inr, length, get_or, Option, Some, None, IfSome, IfNone, refl, sym, ap, subst, arith, All}
+use Rattle.std.proofs.Common.{◌≡◌, ◌+◌, ◌<◌, ◌≤◌, ◌↔◌, ℕ, zero, suc, Bool, true, false, not, inl, inr, length, get_or, refl, sym, ap, subst, arith, All}
 use Rattle.std.specs.Prelude.{nat_lt}
-use Rattle.std.specs.Option.{is_none}
 use Rattle.std.proofs.lemmas.Bool.{cases_Bool, cond-true, cond-false, false≢true}
 use Rattle.std.proofs.lemmas.Bool.Decides.{nat_tests}
 use Rattle.base.proofs.RangeLaws.{all_in_range, range_all}
-use Rattle.config_graph.specs.Cycles.{FirstOnCycle, OnCycle, graph_wiring}
+use Rattle.config_graph.specs.Cycles.{HasCycle, OnCycle, graph_wiring}
 use Rattle.config_graph.specs.Graph.{Graph, IsLinkWithin}
 use Rattle.config_graph.specs.Marks.{IsMarked}
 use Rattle.config_graph.specs.Search.{Visited, see_all, successors}
@@ -63,7 +62,9 @@ has_some g within i low way =
       | inr some ↦ some
     ]
 
--- what the search for the first node on a cycle says of it
-pub none_on_cycle : (g : Graph) → All (IsLinkWithin g.nodes) g.links → (o : Option ℕ) → IfSome o (FirstOnCycle g) → IfNone o (HasNoCycle (graph_wiring g)) → is_none o ≡ has_no_cycle g
-none_on_cycle g within None first none = sym (has_none g within (λ i way. none i way))
-none_on_cycle g within (Some i) first none = sym (has_some g within i (CallPath-within g i i first.on_cycle) first.on_cycle)
+-- what the test for a cycle says of it
+pub no_cycle_is : (g : Graph) → All (IsLinkWithin g.nodes) g.links → (b : Bool) → (b ≡ true) ↔ HasCycle g → not b ≡ has_no_cycle g
+no_cycle_is g within false cycle = sym (has_none g within (λ i way. false≢true (cycle.1 (i, way))))
+no_cycle_is g within true cycle =
+    let some_ = cycle.0 refl in
+    sym (has_some g within some_.0 (CallPath-within g some_.0 some_.0 some_.1) some_.1)

@@ -11,7 +11,7 @@ ghost use Rattle.report_parser.specs.TextLines.{lines, tail};
 
 use crate::rest::first_line;
 use config_graph::{
-    Graph, Kind, Link, NoMemory, Node, Port, Target, VALUE_LIMIT, first_on_cycle, graph_text,
+    Graph, Kind, Link, NoMemory, Node, Port, Target, VALUE_LIMIT, graph_text, has_cycle,
 };
 use report_reader::{is_graph_line, node_line, target_word};
 use std::alloc::Global;
@@ -96,7 +96,7 @@ fn has_no_cycle(alloc: Global, graph: &Graph) -> Result<bool, NoMemory>
     requires { All (IsLinkWithin graph.now.nodes) graph.now.links }
     ensures { IfOk result (λ is. is ≡ has_no_cycle graph.now) }
 {
-    Ok(first_on_cycle(alloc, graph)?.is_none())
+    Ok(!has_cycle(alloc, graph)?)
 }
 
 /// The graph of these nodes, with the links that the text says. Links are read against the graph without links, which

@@ -21,8 +21,7 @@ use std::alloc::Global;
 pub const MAX_REPORT: usize = 67_108_864;
 
 /// The report whose text this is, in either version; or the first line that can't stand in its place, or that the
-/// text ends too soon. Its time grows with the text's length, but for a graph that is shown and has a cycle: there it
-/// is that of the search for the first node on one.
+/// text ends too soon. Its time grows with the text's length.
 pub fn parse_report(alloc: Global, text: &[u8]) -> Result<Report, ReportFault>
     requires { length text.now ≤ MAX_REPORT }
     ensures report { IfOk result (λ report. (version : Version) × IsReportText version text.now report) }
