@@ -1,11 +1,11 @@
 -- Words behind a keyword that aren't its body ask for nothing.
-use Rattle.std.proofs.Common.{◌≡◌, ◌∙◌, ℕ, List, [], ◌∷◌, ◌++◌, Some, codes, refl, sym, ap, subst}
+use Rattle.std.proofs.Common.{◌≡◌, ◌∙◌, ℕ, List, ◌∷◌, ◌++◌, Some, codes, sym, ap, subst}
 use Rattle.std.proofs.lemmas.Option.{same_Some}
 use Rattle.std.specs.List.{AllByRecursion}
 use Rattle.command_words.specs.declared.words.Command.{Command}
 use Rattle.command_words.specs.declared.words.TopCall.{TopCall}
-use Rattle.command_words.specs.CommandLine.{keyword, IsBody, IsCall, Asks}
-use Rattle.command_words.proofs.Asking.{head_is, tail_is, call_has_parts, one_parting, no_parting, IsPart, Parted}
+use Rattle.command_words.specs.CommandLine.{IsBody, IsCall, Asks}
+use Rattle.command_words.proofs.Asking.{tail_is, call_has_parts, one_parting, no_parting, IsPart, Parted}
 use Rattle.command_words.proofs.WordsLaws.{Form, flat, plan, form, form_of, form_is, flat_word, plan_word, Carried, command, of_form}
 
 -- what words of a form's keyword ask for

@@ -1,5 +1,5 @@
 -- The first `--` parts the words into two calls, or else they have no form.
-use Rattle.std.proofs.Common.{map, string_bytes, ◌+◌, ◌∷◌, codes, take, drop, ap, refl, subst, arith}
+use Rattle.std.proofs.Common.{map, string_bytes, ◌+◌, ◌∷◌, take, drop, ap, refl, subst, arith}
 use Rattle.command_words.proofs.Refusals.{no_call, no_target, not_parted}
 use Rattle.command_words.proofs.Parting.{parted_by, parted_nowhere, rest_is}
 use Rattle.command_words.specs.declared.words.TopCall.{TopCall}
