@@ -1,7 +1,6 @@
 -- The lines that refuse: what refuses, and the name of the fault with its fields, each after a space. A place is
 -- written as LINE:COLUMN, and the empty path, that of the top, as a full stop.
 use Rattle.std.specs.Prelude.{ℕ, List, [], ◌∷◌, ◌++◌, codes, decimal}
-use Rattle.std.specs.List.{flat_map}
 use Rattle.darwin_lexer.specs.declared.token.At.{At}
 use Rattle.darwin_lexer.specs.declared.token.LexError.{LexError}
 use Rattle.darwin_lexer.specs.declared.token.LexError.TheVariants as lexing

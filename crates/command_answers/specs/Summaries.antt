@@ -1,6 +1,6 @@
 -- The summary of a run: how many nodes were made, how many `commit` lines there are (that of the start is one), how many
 -- values the sinks keep at the end, and how the run ended.
-use Rattle.std.specs.Prelude.{ℕ, Bool, true, false, List, [], ◌++◌, codes, filter, flat_map, length, slice_get, if◌then◌else◌}
+use Rattle.std.specs.Prelude.{ℕ, Bool, true, false, List, [], ◌++◌, codes, count_by, flat_map, length, slice_get, if◌then◌else◌}
 use Rattle.std.specs.Option.{option_map_or}
 use Rattle.config_graph.specs.declared.kind.Kind.{Kind}
 use Rattle.config_graph.specs.declared.kind.Kind.TheVariants.{Sink}
@@ -45,7 +45,7 @@ kept_values report = flat_map (kept_by report.logs) report.history
 abbrev pub summary_text : ℕ → Report → List ℕ
 summary_text lanes report =
     ended (with_one (codes "big") lanes)
-    ++ ended (with_one (codes "nodes") (length (filter is_make report.history)))
-    ++ ended (with_one (codes "commits") (length (filter is_commit report.history)))
+    ++ ended (with_one (codes "nodes") (count_by is_make report.history))
+    ++ ended (with_one (codes "commits") (count_by is_commit report.history))
     ++ ended (with_one (codes "items") (length (kept_values report)))
     ++ ended (with_one (codes "status") report.status)

@@ -1,6 +1,6 @@
 //! The summary of a run.
 
-ghost use Rattle.std.specs.Prelude.{◌≡◌, ◌++◌, IfOk, OnOk, filter, flat_map, length};
+ghost use Rattle.std.specs.Prelude.{◌≡◌, ◌++◌, IfOk, OnOk, count_by, flat_map};
 ghost use Rattle.change_script.specs.Reports.{ended};
 ghost use Rattle.change_script.specs.Writing.{with_one};
 ghost use Rattle.command_answers.specs.Summaries as of_runs;
@@ -37,27 +37,15 @@ fn push_count(text: &mut Vec<u8>, word: &[u8], count: u64) -> Result<(), NoMemor
 }
 
 fn count_made(history: &[HistoryLine]) -> usize
-    ensures { result ≡ length (filter of_runs.is_make history.now) }
+    ensures { result ≡ count_by of_runs.is_make history.now }
 {
-    let mut count = 0;
-    for line in history {
-        if is_make(line) {
-            count += 1;
-        }
-    }
-    count
+    history.iter().filter(|line| is_make(line)).count()
 }
 
 fn count_commits(history: &[HistoryLine]) -> usize
-    ensures { result ≡ length (filter of_runs.is_commit history.now) }
+    ensures { result ≡ count_by of_runs.is_commit history.now }
 {
-    let mut count = 0;
-    for line in history {
-        if is_commit(line) {
-            count += 1;
-        }
-    }
-    count
+    history.iter().filter(|line| is_commit(line)).count()
 }
 
 fn is_make(line: &HistoryLine) -> bool
