@@ -19,7 +19,7 @@ use Rattle.command_runs.specs.declared.query.Query.{Query}
 use Rattle.command_runs.specs.declared.query.Query.TheVariants as queries
 use Rattle.command_runs.specs.Commands.{aim_of, calls_of, course_of_query, course_of}
 use Rattle.command_runs.specs.Courses.{not_fetched, fetched_alone, failed, too_long, leads_on, refused, gives}
-use Rattle.command_runs.specs.Descriptions.{IsChecked, IsGraphOfCall, HasGraph, IsDescriptionRefusal, by_text}
+use Rattle.command_runs.specs.Descriptions.{IsChecked, IsGraphOfCall, IsDescriptionRefusal, by_text}
 use Rattle.command_runs.specs.Descriptions as descriptions
 use Rattle.command_runs.specs.Fetches.{Fetch, fetch_of, report_fetch}
 use Rattle.command_runs.specs.Lines.{RunLine, calls, Deed, draws, starts, changes, Progress, begun, with_description, with_called_graph, Allows, by_elaboration, by_deed, CallLeads, Aim, drawing, planning, replaying, running, Concludes, FollowsLines, uses}

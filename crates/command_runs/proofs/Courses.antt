@@ -21,7 +21,7 @@ use Rattle.command_runs.specs.Courses.{not_fetched, fetched_alone, failed, too_l
 use Rattle.command_runs.specs.Descriptions.{IsChecked, IsGraphOfCall, HasGraph, IsTextRefusal, IsDescriptionRefusal, by_text}
 use Rattle.command_runs.specs.Descriptions as descriptions
 use Rattle.command_runs.specs.Fetches.{Fetch, fetch_of}
-use Rattle.command_runs.specs.Lines.{Deed, draws, starts, changes, Progress, begun, with_description, with_called_graph, Allows, Forbids, IsCallRefusal, by_elaboration, by_deed, CallLeads, Aim, drawing, planning, replaying, Concludes, FollowsLines}
+use Rattle.command_runs.specs.Lines.{Deed, draws, starts, changes, Progress, begun, with_description, with_called_graph, Forbids, IsCallRefusal, by_elaboration, by_deed, CallLeads, Aim, drawing, planning, replaying, Concludes, FollowsLines}
 use Rattle.command_runs.specs.Plans.{Starts, RefusesStart, has_no_graph, is_full, RefusesPlan, starts_not, leads_nowhere, gets_full, nothing_made, made_of}
 use Rattle.command_runs.specs.Queries.{IsRefused, AnswersQuery}
 use Rattle.command_runs.specs.Replays.{IsReplayed}

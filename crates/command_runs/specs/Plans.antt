@@ -3,6 +3,7 @@
 use Rattle.std.specs.Prelude.{◌≡◌, ℕ, ℤ, List, [], length}
 use Rattle.config_graph.specs.Graph.{Graph, ports}
 use Rattle.config_graph.specs.declared.node.Made.{Made}
+use Rattle.change_law.specs.Scripts.{nothing_above}
 use Rattle.change_plan.specs.PlanText.{plan_text}
 use Rattle.change_plan.specs.Plans.{IsPlanOf}
 use Rattle.change_plan.specs.Refusals.{CanPlan, IsRefusal}
@@ -15,7 +16,7 @@ use Rattle.command_answers.specs.RefusalLines.{plan_words}
 
 -- what was made before a start
 abbrev pub nothing_made : Made
-nothing_made = record { nodes = 0; ports = 0 }
+nothing_made = nothing_above.made
 
 -- what a start with a graph makes
 abbrev pub made_of : Graph → Made
