@@ -106,7 +106,7 @@ failed_file files (commands.Replay file name) fetches own text (inl answer) told
     let fault = script_fault name answer.given own text answer.answer is in
     (name, inr refl, ap failed_names answer.is ∙ fault.0, fault.1)
 failed_file files (commands.Replay file name) fetches own text (inr answer) told is =
-    let fault = description_fault file (queries.Replay answer.script) answer.given own text answer.answer is in
+    let fault = description_fault file (queries.Replay answer.events_file) answer.given own text answer.answer is in
     (file, inl refl, ap failed_names answer.is ∙ fault.0, fault.1)
 failed_file files (commands.Upgrade file) fetches own text answer told is =
     let fault = report_fault file answer.given own text answer.answer is in
@@ -134,7 +134,7 @@ any_failed files (commands.Plan file call target) fetches own text answer told s
 any_failed files (commands.Replay file name) fetches own text (inl answer) told some =
     script_failed name answer.given own text answer.answer (λ none. some (ap failed_names answer.is ∙ none))
 any_failed files (commands.Replay file name) fetches own text (inr answer) told some =
-    description_failed file (queries.Replay answer.script) answer.given own text answer.answer (λ none. some (ap failed_names answer.is ∙ none))
+    description_failed file (queries.Replay answer.events_file) answer.given own text answer.answer (λ none. some (ap failed_names answer.is ∙ none))
 any_failed files (commands.Upgrade file) fetches own text answer told some =
     report_failed file answer.given own text answer.answer (λ none. some (ap failed_names answer.is ∙ none))
 any_failed files (commands.Step name) fetches own text answer told some =

@@ -34,7 +34,7 @@ use Rattle.command_runs.specs.declared.fetched.Fetched.TheVariants.{Failed}
 use Rattle.command_runs.specs.Fetches.{Fetch, failed_names, fetch_of, file_limit, Gave, report_fetch, report_limit}
 use Rattle.command_runs.specs.OneFile.{DescriptionAnswers, cannot_read, is_too_long, refused, answered, EventsAnswers, cannot_read_events, events_file_too_long, events_file_at_fault, ReportAnswers, cannot_read_report, report_too_long, report_at_fault, upgraded}
 use Rattle.command_runs.specs.Runs.{Written, whole, stopped}
-use Rattle.command_runs.specs.Outcomes.{Ends, Wants, Flattened, Planned, Replayed, DescriptionRefused, too_long, at_fault, ScriptRefused, events_too_long, events_at_fault, HoldsFile, MustRefuse, MustRefuseScript, NothingRefuses, EndsAsGiven, Upgraded, ReportRefused, is_longer, has_fault, RefusesScript, RefusesDescription, MustRefuseReport, NothingRefusesReport}
+use Rattle.command_runs.specs.Outcomes.{Ends, Wants, Flattened, Planned, Replayed, DescriptionRefused, too_long, at_fault, EventsRefused, events_too_long, events_at_fault, HoldsFile, MustRefuse, MustRefuseEvents, NothingRefuses, EndsAsGiven, Upgraded, ReportRefused, is_longer, has_fault, RefusesFile, RefusesDescription, MustRefuseReport, NothingRefusesReport}
 use Rattle.command_runs.proofs.Inverting.{Answer, of_words, AnswersCommand, no_form, answered_to, no_memory, Ran, OfDescription, OfScript, OfReplay, OfReport}
 use Rattle.change_script.proofs.EventFileLaws as scripts
 use Rattle.big_files.specs.BigFiles.{made_files, script_name}
@@ -79,17 +79,17 @@ held_gives query (Some other) text own written is gives = (written, subst (λ t.
 
 -- a file of events needn't be refused
 need_no_refusal :
-    (content : Option (List ℕ)) (bytes : List ℕ) (script : EventFile) → MustRefuseScript content → content ≡ Some bytes → length bytes ≤ file_limit
-    → IsEventFile bytes script → ⊥
-need_no_refusal None bytes script must is within file = must
-need_no_refusal (Some other) bytes script must is within file = by must
+    (content : Option (List ℕ)) (bytes : List ℕ) (events_file : EventFile) → MustRefuseEvents content → content ≡ Some bytes → length bytes ≤ file_limit
+    → IsEventFile bytes events_file → ⊥
+need_no_refusal None bytes events_file must is within file = must
+need_no_refusal (Some other) bytes events_file must is within file = by must
   where
     same : other ≡ bytes
     same = same_Some other bytes is
 
     by : (file_limit < length other) ⊎ ((fault : ScriptError) × IsFirstFault other fault) → ⊥
     by (inl long) = omega (arith, long, within, ap length same)
-    by (inr first) = scripts.never_both bytes script first.0 file (subst (λ b. IsFirstFault b first.0) same first.1)
+    by (inr first) = scripts.never_both bytes events_file first.0 file (subst (λ b. IsFirstFault b first.0) same first.1)
 
 -- a report needn't be refused
 need_no_fault :
@@ -167,7 +167,7 @@ module _ (files : Option Files) (taken taken' : Option (List ℕ)) where
 
   of_script_refusal :
       (name : List ℕ) (given : Fetched) (own : Status) (text : List ℕ) → EventsAnswers name given own text → own ≡ status.Script
-      → Gave files (fetch_of name given) → taken' ≡ with_bytes taken text → ScriptRefused files name taken taken'
+      → Gave files (fetch_of name given) → taken' ≡ with_bytes taken text → EventsRefused files name taken taken'
   of_script_refusal name _ _ _ cannot_read_events is gave took = cc
   of_script_refusal name _ _ _ events_file_too_long is gave took = events_too_long (long_told files name gave) took
   of_script_refusal name _ _ _ (events_file_at_fault bytes fault first) is gave took =
@@ -239,13 +239,13 @@ module _ (files : Option Files) (taken taken' : Option (List ℕ)) where
       → AllByRecursion (Gave files) fetches → taken' ≡ with_bytes taken text → Replayed files file name due taken taken'
   of_replay file name fetches own text due plain r is told took =
       let each = subst (AllByRecursion (Gave files)) r.is told in
-      let w = given_answer file (queries.Replay r.script) r.given own text due plain r.answer is each.1.0 took in
+      let w = given_answer file (queries.Replay r.events_file) r.given own text due plain r.answer is each.1.0 took in
       record {
         bytes = r.bytes;
-        script = r.script;
+        events_file = r.events_file;
         told_events = held_told files name r.bytes each.0;
         within_events = held_within files name r.bytes each.0;
-        is_script = r.is_script;
+        is_event_file = r.is_event_file;
         text = w.text;
         written = w.written;
         told = w.told;
@@ -378,9 +378,9 @@ module _ (words : List (List ℕ)) (files : Option Files) (failures failures' : 
           let each = subst (AllByRecursion (Gave files)) r.is told in
           inl (
             file,
-            queries.Replay r.script,
-            (name, r.bytes, asks, held_told files name r.bytes each.0, held_within files name r.bytes each.0, r.is_script),
-            of_refusal files taken taken' file (queries.Replay r.script) r.given own text r.answer is each.1.0 took,
+            queries.Replay r.events_file,
+            (name, r.bytes, asks, held_told files name r.bytes each.0, held_within files name r.bytes each.0, r.is_event_file),
+            of_refusal files taken taken' file (queries.Replay r.events_file) r.given own text r.answer is each.1.0 took,
           )
       of (commands.Upgrade file) fetches own text asks answer is told took =
           absurd (report_not_description files taken taken' file answer.given own text answer.answer is)
@@ -399,11 +399,11 @@ module _ (words : List (List ℕ)) (files : Option Files) (failures failures' : 
       by _ (whole took steady) is = own run.fetches run.own run.text run.answers is run.told took
       by _ (stopped n short took rose) is = absurd (write_fault_description is)
 
-  pub script : result ≡ status.Script → RefusesScript words files taken taken'
+  pub script : result ≡ status.Script → RefusesFile words files taken taken'
   script is = by result run.written is
     where
       of : (command : Command) (fetches : List Fetch) (own : Status) (text : List ℕ) → Asks words command → Answer command fetches own text → own ≡ status.Script
-          → AllByRecursion (Gave files) fetches → taken' ≡ with_bytes taken text → RefusesScript words files taken taken'
+          → AllByRecursion (Gave files) fetches → taken' ≡ with_bytes taken text → RefusesFile words files taken taken'
       of commands.Help fetches own text asks answer is told took = absurd (not_two own status.Ok status.Script answer.0 is ok_script)
       of commands.Version fetches own text asks answer is told took = absurd (not_two own status.Ok status.Script answer.0 is ok_script)
       of (commands.Flat file call) fetches own text asks answer is told took =
@@ -414,7 +414,7 @@ module _ (words : List (List ℕ)) (files : Option Files) (failures failures' : 
           let each = subst (AllByRecursion (Gave files)) s.is told in
           inl (file, name, asks, of_script_refusal files taken taken' name s.given own text s.answer is each.0 took)
       of (commands.Replay file name) fetches own text asks (inr r) is told took =
-          absurd (no_script_status files taken taken' file (queries.Replay r.script) r.given own text r.answer is)
+          absurd (no_script_status files taken taken' file (queries.Replay r.events_file) r.given own text r.answer is)
       of (commands.Upgrade file) fetches own text asks answer is told took =
           let each = subst (AllByRecursion (Gave files)) answer.is told in
           inr (inl (file, asks, of_report_refusal files taken taken' file answer.given own text answer.answer is each.0 took))
@@ -424,13 +424,13 @@ module _ (words : List (List ℕ)) (files : Option Files) (failures failures' : 
           inr (inr (inr (lanes, asks, ending.statements_refused (summary_text lanes) (Some (made_files lanes)) script_name answer.within taken taken' own text (big_ends lanes fetches own text answer) is took)))
 
       own : (fetches : List Fetch) (s : Status) (text : List ℕ) → AnswersCommand words fetches s text → s ≡ status.Script → AllByRecursion (Gave files) fetches
-          → taken' ≡ with_bytes taken text → RefusesScript words files taken taken'
+          → taken' ≡ with_bytes taken text → RefusesFile words files taken taken'
       own _ _ _ (no_form none) is told took = absurd (usage_script is)
       own _ _ _ (answered_to command fetches s text asks to) is told took = of command fetches s text asks to is told took
       own _ _ _ (no_memory fetches) is told took = absurd (memory_script is)
 
       by : (r : Status) → Written run.own run.text taken taken' faults faults' r → r ≡ status.Script
-          → RefusesScript words files taken taken'
+          → RefusesFile words files taken taken'
       by _ (whole took steady) is = own run.fetches run.own run.text run.answers is run.told took
       by _ (stopped n short took rose) is = absurd (write_fault_script is)
 
@@ -477,18 +477,18 @@ module _ (words : List (List ℕ)) (files : Option Files) (failures failures' : 
 
     -- the same of a file of events, which the shelf tells
     of_script :
-        (file name bytes : List ℕ) (script_ : EventFile) (Due : Status → Type 0) → f name ≡ Some bytes → length bytes ≤ file_limit → IsEventFile bytes script_
-        → ((given : Fetched) (own : Status) (text : List ℕ) → DescriptionAnswers file (queries.Replay script_) given own text → failed_names (fetch_of file given ∷ []) ≡ []
+        (file name bytes : List ℕ) (events_file : EventFile) (Due : Status → Type 0) → f name ≡ Some bytes → length bytes ≤ file_limit → IsEventFile bytes events_file
+        → ((given : Fetched) (own : Status) (text : List ℕ) → DescriptionAnswers file (queries.Replay events_file) given own text → failed_names (fetch_of file given ∷ []) ≡ []
         → Gave (Some f) (fetch_of file given) → Due own)
         → (fetches : List Fetch) (own : Status) (text : List ℕ) → OfScript name fetches own text ⊎ OfReplay file name fetches own text → failed_names fetches ≡ []
         → AllByRecursion (Gave (Some f)) fetches → Due own
-    of_script file name bytes script_ Due is within is_file of_answer fetches own text (inl s) none each =
-        absurd (script_is_one name bytes script_ s.given own text is within is_file s.answer (sym (ap failed_names s.is) ∙ none)
+    of_script file name bytes events_file Due is within is_file of_answer fetches own text (inl s) none each =
+        absurd (script_is_one name bytes events_file s.given own text is within is_file s.answer (sym (ap failed_names s.is) ∙ none)
         ((subst (AllByRecursion (Gave (Some f))) s.is each).0))
-    of_script file name bytes script_ Due is within is_file of_answer fetches own text (inr r) none each =
+    of_script file name bytes events_file Due is within is_file of_answer fetches own text (inr r) none each =
         let gave = subst (AllByRecursion (Gave (Some f))) r.is each in
         let same_bytes = same_content (f name) r.bytes bytes gave.0.1 is in
-        let same_script = scripts.one_file bytes r.script script_ (subst (λ b. IsEventFile b r.script) same_bytes r.is_script) is_file in
+        let same_script = scripts.one_file bytes r.events_file events_file (subst (λ b. IsEventFile b r.events_file) same_bytes r.is_event_file) is_file in
         of_answer r.given own text (subst (λ t. DescriptionAnswers file (queries.Replay t) r.given own text) same_script r.answer)
         (sym (ap failed_names r.is) ∙ none) gave.1.0
 
@@ -504,9 +504,9 @@ module _ (words : List (List ℕ)) (files : Option Files) (failures failures' : 
     wanted_ends file (queries.Plan call target) due wants of_answer =
         ends (commands.Plan file call target) due wants
         (λ answer. described file (queries.Plan call target) (λ s. s ≡ due) of_answer run.fetches run.own run.text answer none_failed told)
-    wanted_ends file (queries.Replay script_) due wants of_answer =
+    wanted_ends file (queries.Replay events_file) due wants of_answer =
         ends (commands.Replay file wants.0) due wants.2
-        (λ answer. of_script file wants.0 wants.1 script_ (λ s. s ≡ due) wants.3 wants.4 wants.5 of_answer run.fetches run.own run.text answer none_failed told)
+        (λ answer. of_script file wants.0 wants.1 events_file (λ s. s ≡ due) wants.3 wants.4 wants.5 of_answer run.fetches run.own run.text answer none_failed told)
 
     pub must_refuse : (file : List ℕ) (query : Query) → Wants (Some f) words file query → MustRefuse query (f file) → Ends result status.Description
     must_refuse file query wants must = wanted_ends file query status.Description wants of_answer
@@ -535,7 +535,7 @@ module _ (words : List (List ℕ)) (files : Option Files) (failures failures' : 
             gives_one query text own due also written (subst (λ t. AnswersQuery query t own also) (same_content (f file) other text gave.1 holds) gave_) gives
 
     pub every_script :
-        (file name : List ℕ) → Asks words (commands.Replay file name) → MustRefuseScript (f name) → Ends result status.Script
+        (file name : List ℕ) → Asks words (commands.Replay file name) → MustRefuseEvents (f name) → Ends result status.Script
     every_script file name asks must = ends (commands.Replay file name) status.Script asks of_answer
       where
         of : (given : Fetched) (own : Status) (text : List ℕ) → EventsAnswers name given own text → failed_names (fetch_of name given ∷ []) ≡ [] → own ≡ status.Script
@@ -547,7 +547,7 @@ module _ (words : List (List ℕ)) (files : Option Files) (failures failures' : 
         of_answer (inl s) = of s.given run.own run.text s.answer (sym (ap failed_names s.is) ∙ none_failed)
         of_answer (inr r) =
             let gave = subst (AllByRecursion (Gave (Some f))) r.is told in
-            absurd (need_no_refusal (f name) r.bytes r.script must gave.0.1 gave.0.0 r.is_script)
+            absurd (need_no_refusal (f name) r.bytes r.events_file must gave.0.1 gave.0.0 r.is_event_file)
 
     -- the status of an answer to a report
     of_report :
@@ -624,9 +624,9 @@ module _ (words : List (List ℕ)) (files : Option Files) (failures failures' : 
     completes file (queries.Plan call target) wants nothing =
         given_end file (queries.Plan call target) (commands.Plan file call target) wants
         (λ answer. described file (queries.Plan call target) (AsGiven file (queries.Plan call target)) (completes_with file (queries.Plan call target) nothing) run.fetches run.own run.text answer none_failed told)
-    completes file (queries.Replay script_) wants nothing =
-        given_end file (queries.Replay script_) (commands.Replay file wants.0) wants.2
-        (λ answer. of_script file wants.0 wants.1 script_ (AsGiven file (queries.Replay script_)) wants.3 wants.4 wants.5 (completes_with file (queries.Replay script_) nothing)
+    completes file (queries.Replay events_file) wants nothing =
+        given_end file (queries.Replay events_file) (commands.Replay file wants.0) wants.2
+        (λ answer. of_script file wants.0 wants.1 events_file (AsGiven file (queries.Replay events_file)) wants.3 wants.4 wants.5 (completes_with file (queries.Replay events_file) nothing)
         run.fetches run.own run.text answer none_failed told)
 
     -- ---- clauses of one command
@@ -638,11 +638,11 @@ module _ (words : List (List ℕ)) (files : Option Files) (failures failures' : 
         answers_as file (queries.Graph call) text status.Ok (graph_text graph) asks holds within (refl, (graph, has, refl))
 
     pub every_denial :
-        (file : List ℕ) (script_ : EventFile) (text : List ℕ) (graph : Graph) (number rule : ℕ) → Wants (Some f) words file (queries.Replay script_)
-        → f file ≡ Some text → length text ≤ file_limit → Starts text script_.name script_.args graph → IsDenied (started graph) script_.events number rule
+        (file : List ℕ) (events_file : EventFile) (text : List ℕ) (graph : Graph) (number rule : ℕ) → Wants (Some f) words file (queries.Replay events_file)
+        → f file ≡ Some text → length text ≤ file_limit → Starts text events_file.name events_file.args graph → IsDenied (started graph) events_file.events number rule
         → Ends result status.Denied
-    every_denial file script_ text graph number rule wants holds within starts is =
-        answers_as file (queries.Replay script_) text status.Denied (denied_line number rule) wants holds within
+    every_denial file events_file text graph number rule wants holds within starts is =
+        answers_as file (queries.Replay events_file) text status.Denied (denied_line number rule) wants holds within
         (record {
           graph = graph;
           starts = starts;

@@ -97,11 +97,11 @@ pub record OfScript (name : List ℕ) (fetches : List Fetch) (own : Status) (tex
 
 pub record OfReplay (file name : List ℕ) (fetches : List Fetch) (own : Status) (text : List ℕ) : Type 0 where
   pub bytes : List ℕ
-  pub script : EventFile
+  pub events_file : EventFile
   pub given : Fetched
   pub is : fetches ≡ fetch_of name (Held bytes) ∷ fetch_of file given ∷ []
-  pub is_script : IsEventFile bytes script
-  pub answer : DescriptionAnswers file (queries.Replay script) given own text
+  pub is_event_file : IsEventFile bytes events_file
+  pub answer : DescriptionAnswers file (queries.Replay events_file) given own text
 
 pub record OfReport (name : List ℕ) (fetches : List Fetch) (own : Status) (text : List ℕ) : Type 0 where
   pub given : Fetched
@@ -255,7 +255,7 @@ from_command (commands.Replay file name) _ _ (leads_on bytes _ _ (courses.gives 
         ⊎ OfReplay file name (fetch_of name (Held bytes) ∷ fs) (status_of a) (text_of a)) ⊎ (a ≡ refusal values.no_memory)
     by _ _ (out_of_memory fs) = inr refl
     by _ _ (of_description what a d) =
-        inl (inr (record { bytes = bytes; script = events; given = what; is = refl; is_script = is; answer = d }))
+        inl (inr (record { bytes = bytes; events_file = events; given = what; is = refl; is_event_file = is; answer = d }))
 from_command (commands.Upgrade file) _ _ not_fetched = inr refl
 from_command (commands.Upgrade file) _ _ (fetched_alone what) = inr refl
 from_command (commands.Upgrade file) _ _ failed = inl (record { given = Failed; is = refl; answer = cannot_read_report })
@@ -369,7 +369,7 @@ command_status commands.Version fetches own text answer = rw answer.0 (plain sta
 command_status (commands.Flat file call) fetches own text answer = plain own (description_status file (queries.Graph call) answer.given own text answer.answer)
 command_status (commands.Plan file call target) fetches own text answer = plain own (description_status file (queries.Plan call target) answer.given own text answer.answer)
 command_status (commands.Replay file name) fetches own text (inl answer) = plain own (script_status name answer.given own text answer.answer)
-command_status (commands.Replay file name) fetches own text (inr answer) = plain own (description_status file (queries.Replay answer.script) answer.given own text answer.answer)
+command_status (commands.Replay file name) fetches own text (inr answer) = plain own (description_status file (queries.Replay answer.events_file) answer.given own text answer.answer)
 command_status (commands.Upgrade file) fetches own text answer = plain own (report_status file answer.given own text answer.answer)
 command_status (commands.Step name) fetches own text answer = step_status report_text name fetches own text answer
 command_status (commands.Big lanes) fetches own text answer = step_status (summary_text lanes) script_name answer.within own text answer.answer
@@ -442,7 +442,7 @@ only_scripts (commands.Plan file call target) fetches own text answer is =
 only_scripts (commands.Replay file name) fetches own text (inl answer) is =
     absurd (not_run own (script_status name answer.given own text answer.answer) is)
 only_scripts (commands.Replay file name) fetches own text (inr answer) is =
-    absurd (not_run own (description_status file (queries.Replay answer.script) answer.given own text answer.answer) is)
+    absurd (not_run own (description_status file (queries.Replay answer.events_file) answer.given own text answer.answer) is)
 only_scripts (commands.Upgrade file) fetches own text answer is = absurd (not_run own (report_status file answer.given own text answer.answer) is)
 only_scripts (commands.Step name) fetches own text answer is = inl (name, refl)
 only_scripts (commands.Big lanes) fetches own text answer is = inr (lanes, refl)

@@ -97,8 +97,8 @@ pub one_answer :
 one_answer (queries.Graph call) text own other written also x y =
     (x.0 ∙ sym y.0, x.1.2 ∙ ap graph_text (one_graph text call.top call.args x.1.0 y.1.0 x.1.1 y.1.1) ∙ sym y.1.2)
 one_answer (queries.Plan call target) text own other written also x y = (x.0 ∙ sym y.0, one_plan_text text call target written also x.1 y.1)
-one_answer (queries.Replay script) text own other written also x y =
-    let graph = one_graph text script.name script.args x.graph y.graph x.starts.has_graph y.starts.has_graph in
-    let a = subst (λ g. IsReplayed (started g) script.events x.replays.answer) graph x.replays.is in
-    let same = one_outcome (started y.graph) script.events x.replays.answer y.replays.answer a y.replays.is in
+one_answer (queries.Replay events_file) text own other written also x y =
+    let graph = one_graph text events_file.name events_file.args x.graph y.graph x.starts.has_graph y.starts.has_graph in
+    let a = subst (λ g. IsReplayed (started g) events_file.events x.replays.answer) graph x.replays.is in
+    let same = one_outcome (started y.graph) events_file.events x.replays.answer y.replays.answer a y.replays.is in
     (x.replays.has_status ∙ ap status_of same ∙ sym y.replays.has_status, x.replays.has_text ∙ ap text_of same ∙ sym y.replays.has_text)

@@ -21,7 +21,7 @@ use Rattle.command_runs.specs.Fetches.{Fetch, fetch_of, failed_names, Gave}
 use Rattle.command_runs.specs.Lines.{Progress, begun, running}
 use Rattle.command_runs.specs.OneFile.{ScriptAnswers, cannot_read_script, script_file_too_long, script_file_at_fault}
 use Rattle.command_runs.specs.Outcomes as outcomes
-use Rattle.command_runs.specs.Outcomes.{HoldsFile, TellsTooLong, MentionsFile, IsScriptOf, IsRunStatus, LineRefused, StatementsRefused, script_too_long, script_at_fault}
+use Rattle.command_runs.specs.Outcomes.{HoldsFile, TellsTooLong, MentionsFile, IsScriptOf, IsRunStatus, LineRefused, ScriptRefused, script_too_long, script_at_fault}
 use Rattle.command_runs.specs.RunReports.{IsReportOf}
 use Rattle.command_runs.specs.Scripts.{lines_of_script}
 use Rattle.command_runs.specs.Ways.{LeadTo, AreRefused}
@@ -34,9 +34,9 @@ use Rattle.command_runs.proofs.Telling.{held_told, held_within, long_told}
 -- ---- statuses of runs
 
 run_is_with : (waits undone : Bool) → IsRunStatus (if waits then status.Pending else if undone then status.Unfinished else status.Ok)
-run_is_with true undone = inr (inl refl)
-run_is_with false true = inr (inr refl)
-run_is_with false false = inl refl
+run_is_with true undone = refl
+run_is_with false true = refl
+run_is_with false false = refl
 
 pub run_is : (n : ℕ) → IsRunStatus (run_status n)
 run_is n = run_is_with (n == 7) (n == 8)
@@ -51,24 +51,12 @@ pub data IsOther : Status → Type 0 where
   for_sink : IsOther status.WriteFault
 
 pub no_run : (s : Status) → IsOther s → IsRunStatus s → ⊥
-no_run _ for_statements (inl is) = cc
-no_run _ for_statements (inr (inl is)) = cc
-no_run _ for_statements (inr (inr is)) = cc
-no_run _ for_line (inl is) = cc
-no_run _ for_line (inr (inl is)) = cc
-no_run _ for_line (inr (inr is)) = cc
-no_run _ for_fetch (inl is) = cc
-no_run _ for_fetch (inr (inl is)) = cc
-no_run _ for_fetch (inr (inr is)) = cc
-no_run _ for_event (inl is) = cc
-no_run _ for_event (inr (inl is)) = cc
-no_run _ for_event (inr (inr is)) = cc
-no_run _ for_memory (inl is) = cc
-no_run _ for_memory (inr (inl is)) = cc
-no_run _ for_memory (inr (inr is)) = cc
-no_run _ for_sink (inl is) = cc
-no_run _ for_sink (inr (inl is)) = cc
-no_run _ for_sink (inr (inr is)) = cc
+no_run _ for_statements is = cc
+no_run _ for_line is = cc
+no_run _ for_fetch is = cc
+no_run _ for_event is = cc
+no_run _ for_memory is = cc
+no_run _ for_sink is = cc
 
 not_of_run : (n : ℕ) (due : Status) → IsOther due → run_status n ≢ due
 not_of_run n due other is = no_run due other (subst IsRunStatus is (run_is n))
@@ -156,7 +144,7 @@ module _ (show : Report → List ℕ) (files : Option Files) (name : List ℕ) (
   module _ (taken taken' : Option (List ℕ)) where
     pub statements_refused :
         (own : Status) (text : List ℕ) → ScriptEnds show files name fetches own text → own ≡ status.Script → taken' ≡ with_bytes taken text
-        → StatementsRefused files name taken taken'
+        → ScriptRefused files name taken taken'
     statements_refused _ _ (is_none _ _ _ names gave cannot_read_script) is took = cc
     statements_refused _ _ (is_none _ _ _ names gave script_file_too_long) is took = script_too_long (long_told files name gave) took
     statements_refused _ _ (is_none _ _ _ names gave (script_file_at_fault bytes fault first)) is took =

@@ -26,7 +26,7 @@ use Rattle.command_runs.specs.Fetches.{Fetch, failed_names, file_limit, Gave}
 use Rattle.command_runs.specs.Lines.{begun}
 use Rattle.command_runs.specs.OneFile.{cannot_read_script, script_file_too_long, script_file_at_fault}
 use Rattle.command_runs.specs.Outcomes as outcomes
-use Rattle.command_runs.specs.Outcomes.{Ends, HoldsFile, TellsTooLong, IsScriptOf, IsRunStatus, EndsAsRun, MustRefuseStatements, MustRefuseLine, NothingRefusesLines}
+use Rattle.command_runs.specs.Outcomes.{Ends, HoldsFile, TellsTooLong, IsScriptOf, IsRunStatus, EndsAsRun, MustRefuseScript, MustRefuseLine, NothingRefusesLines}
 use Rattle.command_runs.specs.Runs.{Written, whole, stopped}
 use Rattle.command_runs.specs.Scripts.{lines_of_script}
 use Rattle.command_runs.specs.Ways.{IsTextIn, AreRefused}
@@ -62,7 +62,7 @@ ends_by_report show files name own taken taken' r =
 
 -- a script needn't be refused
 need_no_refusal :
-    (content : Option (List ℕ)) (bytes : List ℕ) (script : Script) → MustRefuseStatements content → content ≡ Some bytes → length bytes ≤ file_limit
+    (content : Option (List ℕ)) (bytes : List ℕ) (script : Script) → MustRefuseScript content → content ≡ Some bytes → length bytes ≤ file_limit
     → IsScript bytes script → ⊥
 need_no_refusal None bytes script must holds within is = must
 need_no_refusal (Some other) bytes script must holds within is = by must
@@ -127,7 +127,7 @@ module _ (show : Report → List ℕ) (f : Files) (name : List ℕ) (fetches : L
   failed_none : (file : List ℕ) → failed_names fetches ≡ file ∷ [] → ⊥
   failed_none file names = let e : [] ≡ file ∷ [] = sym none_failed ∙ names in cc
 
-  pub refused_statements : MustRefuseStatements (f name) → (own : Status) (text : List ℕ) → ScriptEnds show (Some f) name fetches own text → own ≡ status.Script
+  pub refused_statements : MustRefuseScript (f name) → (own : Status) (text : List ℕ) → ScriptEnds show (Some f) name fetches own text → own ≡ status.Script
   refused_statements must = of_end
     where
       not_one : (script : Script) → IsScriptOf (Some f) name script → ⊥
@@ -264,7 +264,7 @@ module _ (words : List (List ℕ)) (files : Option Files) (failures failures' : 
   of_big lanes Due asks of_end =
       finishes (commands.Big lanes) Due asks (λ answer. of_end answer.within answer.none_failed run.own run.text (big_ends lanes run.fetches run.own run.text answer))
 
-  pub must_refuse_made_statements : (lanes : ℕ) → Asks words (commands.Big lanes) → MustRefuseStatements (made_files lanes script_name) → Ends result status.Script
+  pub must_refuse_made_statements : (lanes : ℕ) → Asks words (commands.Big lanes) → MustRefuseScript (made_files lanes script_name) → Ends result status.Script
   must_refuse_made_statements lanes asks must =
       of_big lanes (λ s. s ≡ status.Script) asks (λ within none own text. refused_statements (summary_text lanes) (made_files lanes) script_name within none must own text)
 
@@ -295,7 +295,7 @@ module _ (words : List (List ℕ)) (files : Option Files) (failures failures' : 
         (λ answer. of_end run.own run.text
         (script_ends report_text (Some f) name run.fetches run.own run.text answer (subst (λ fs. AllByRecursion (Gave fs) run.fetches) telling run.told)))
 
-    pub must_refuse_statements : (name : List ℕ) → Asks words (commands.Step name) → MustRefuseStatements (f name) → Ends result status.Script
+    pub must_refuse_statements : (name : List ℕ) → Asks words (commands.Step name) → MustRefuseScript (f name) → Ends result status.Script
     must_refuse_statements name asks must =
         of_step name (λ s. s ≡ status.Script) asks (refused_statements report_text f name run.fetches none_failed_here must)
 

@@ -261,25 +261,25 @@ module _ (names : (t : Tree) → NoFault t ⊎ ((e : TypeError) × HasFault t e)
       from (inr (words, is)) = refuses words (starts_not words is)
 
   replays :
-      (text : List ℕ) (script : EventFile) → ((words : List (List ℕ)) → ¬ RefusesStart text script.name script.args words)
-      → ((own : Status) (written : List ℕ) → ¬ HasReplay text script own written) → ⊥
-  replays text script refuses answers = from (start_or_refusal text script.name script.args)
+      (text : List ℕ) (events_file : EventFile) → ((words : List (List ℕ)) → ¬ RefusesStart text events_file.name events_file.args words)
+      → ((own : Status) (written : List ℕ) → ¬ HasReplay text events_file own written) → ⊥
+  replays text events_file refuses answers = from (start_or_refusal text events_file.name events_file.args)
     where
-      answered : (g : Graph) → Starts text script.name script.args g → (a : answers_.Answer) → IsReplayed (started g) script.events a → ⊥
+      answered : (g : Graph) → Starts text events_file.name events_file.args g → (a : answers_.Answer) → IsReplayed (started g) events_file.events a → ⊥
       answered g starts a is =
           answers (answers_.status_of a) (answers_.text_of a)
           (record { graph = g; starts = starts; replays = record { answer = a; is = is; has_status = refl; has_text = refl } })
 
       led :
-          (g : Graph) → Starts text script.name script.args g
-          → ((t : State) × Steps (started g) script.events t) ⊎ ((number : ℕ) × (rule : ℕ) × IsDenied (started g) script.events number rule) → ⊥
+          (g : Graph) → Starts text events_file.name events_file.args g
+          → ((t : State) × Steps (started g) events_file.events t) ⊎ ((number : ℕ) × (rule : ℕ) × IsDenied (started g) events_file.events number rule) → ⊥
       led g starts (inl (t, steps)) =
-          settled_nodes t (λ n. answered g starts (answers_.replay (length script.events) t n.0) (all_steps t n.0 steps n.1))
+          settled_nodes t (λ n. answered g starts (answers_.replay (length events_file.events) t n.0) (all_steps t n.0 steps n.1))
       led g starts (inr (number, rule, denied)) = answered g starts (answers_.denied number rule) (one_denied number rule denied)
 
       from :
-          ((g : Graph) × Starts text script.name script.args g × Sound g) ⊎ ((words : List (List ℕ)) × RefusesStart text script.name script.args words) → ⊥
-      from (inl (g, starts, sound)) = led g starts (replaying.always_one (started g) script.events)
+          ((g : Graph) × Starts text events_file.name events_file.args g × Sound g) ⊎ ((words : List (List ℕ)) × RefusesStart text events_file.name events_file.args words) → ⊥
+      from (inl (g, starts, sound)) = led g starts (replaying.always_one (started g) events_file.events)
       from (inr (words, is)) = refuses words is
 
   pub refused_or_answered :
@@ -292,4 +292,4 @@ module _ (names : (t : Tree) → NoFault t ⊎ ((e : TypeError) × HasFault t e)
       by (inr (words, is)) = refuses words is
   refused_or_answered (queries.Plan call target) text (refuses, answers) =
       plans text call target refuses (λ written has. answers status.Ok written (refl, has))
-  refused_or_answered (queries.Replay script) text (refuses, answers) = replays text script refuses answers
+  refused_or_answered (queries.Replay events_file) text (refuses, answers) = replays text events_file refuses answers

@@ -25,15 +25,15 @@ replays_status s events own written r = by r.answer r.is r.has_status
 pub gives_status : (query : Query) (text : List ℕ) (own : Status) (written : List ℕ) → AnswersQuery query text own written → (own ≡ status.Ok) ⊎ (own ≡ status.Denied)
 gives_status (queries.Graph call) text own written gives = inl gives.0
 gives_status (queries.Plan call target) text own written gives = inl gives.0
-gives_status (queries.Replay script) text own written gives = replays_status (started gives.graph) script.events own written gives.replays
+gives_status (queries.Replay events_file) text own written gives = replays_status (started gives.graph) events_file.events own written gives.replays
 
 pub never_both :
     (query : Query) (text : List ℕ) (own : Status) (written : List ℕ) (words : List (List ℕ))
     → AnswersQuery query text own written → IsRefused query text words → ⊥
 never_both (queries.Graph call) text own written words gives refuses = readings.never_both text call.top call.args gives.1.0 words gives.1.1 refuses
 never_both (queries.Plan call target) text own written words gives refuses = planning.never_both text call target written words gives.1 refuses
-never_both (queries.Replay script) text own written words gives refuses =
-    planning.never_both_start text script.name script.args gives.graph words gives.starts refuses
+never_both (queries.Replay events_file) text own written words gives refuses =
+    planning.never_both_start text events_file.name events_file.args gives.graph words gives.starts refuses
 
 -- events come to one status
 replays_one :
@@ -51,8 +51,8 @@ pub gives_one :
     → AnswersQuery query text own written → AnswersQuery query text other also → own ≡ other
 gives_one (queries.Graph call) text own other written also x y = x.0 ∙ sym y.0
 gives_one (queries.Plan call target) text own other written also x y = x.0 ∙ sym y.0
-gives_one (queries.Replay script) text own other written also x y =
-    replays_one (started y.graph) script.events own other written also
-    (subst (λ g. Replays (started g) script.events own written)
-    (planning.one_graph text script.name script.args x.graph y.graph x.starts.has_graph y.starts.has_graph) x.replays)
+gives_one (queries.Replay events_file) text own other written also x y =
+    replays_one (started y.graph) events_file.events own other written also
+    (subst (λ g. Replays (started g) events_file.events own written)
+    (planning.one_graph text events_file.name events_file.args x.graph y.graph x.starts.has_graph y.starts.has_graph) x.replays)
     y.replays

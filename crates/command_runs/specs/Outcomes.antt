@@ -1,5 +1,5 @@
 -- What each status of a run says, of the words and of what was fetched and written.
-use Rattle.std.specs.Prelude.{◌≡◌, ◌≢◌, ◌≤◌, ◌<◌, ◌⊎◌, ℕ, List, [], ◌∷◌, ◌++◌, Option, Some, None, IsSomeAnd, length, take, codes}
+use Rattle.std.specs.Prelude.{◌≡◌, ◌≢◌, ◌≤◌, ◌<◌, ◌⊎◌, ℕ, true, List, [], ◌∷◌, ◌++◌, Option, Some, None, IsSomeAnd, length, take, codes}
 use Rattle.std.specs.List.{AllByRecursion}
 use Rattle.cfg_io.specs.Shelf.{Files}
 use Rattle.cfg_io.specs.Sink.{with_bytes}
@@ -39,6 +39,7 @@ use Rattle.command_runs.specs.Ways.{AreRefused, Elaborates}
 use Rattle.command_runs.specs.Fetches.{Fetch, Gave, failed_names, file_limit, report_limit}
 use Rattle.command_runs.specs.Runs.{AnswersWords}
 use Rattle.big_files.specs.BigFiles.{made_files, script_name}
+use Rattle.command_answers.specs.Statuses.{is_of_run}
 use Rattle.command_answers.specs.Summaries.{summary_text}
 
 -- the command names the file, in the words or in a `use` line of a script
@@ -128,21 +129,21 @@ pub record LineRefused (files : Option Files) (name : List ℕ) (taken taken' : 
 
 -- The script is too long, or the fault of its first line at fault was named, or what it lacks; and the line that says
 -- so was written.
-pub data StatementsRefused (files : Option Files) (name : List ℕ) (taken taken' : Option (List ℕ)) : Type 0 where
+pub data ScriptRefused (files : Option Files) (name : List ℕ) (taken taken' : Option (List ℕ)) : Type 0 where
   script_too_long :
       TellsTooLong files name → taken' ≡ with_bytes taken (script_line name (codes "TooLong" ∷ []))
-      → StatementsRefused files name taken taken'
+      → ScriptRefused files name taken taken'
   script_at_fault :
       (bytes : List ℕ) (fault : ScriptError) → HoldsFile files name bytes → length bytes ≤ file_limit → IsScriptFault bytes fault
-      → taken' ≡ with_bytes taken (script_line name (script_words fault)) → StatementsRefused files name taken taken'
+      → taken' ≡ with_bytes taken (script_line name (script_words fault)) → ScriptRefused files name taken taken'
 
 -- the file has more bytes than a script may have, or isn't one
-abbrev pub MustRefuseStatements : Option (List ℕ) → Type 0
-MustRefuseStatements file = IsSomeAnd file (λ bytes. (file_limit < length bytes) ⊎ ((fault : ScriptError) × IsScriptFault bytes fault))
+abbrev pub MustRefuseScript : Option (List ℕ) → Type 0
+MustRefuseScript file = IsSomeAnd file (λ bytes. (file_limit < length bytes) ⊎ ((fault : ScriptError) × IsScriptFault bytes fault))
 
--- a run of a script ends with one of these, by its report
+-- a run of a script may end with the status, by its report
 abbrev pub IsRunStatus : Status → Type 0
-IsRunStatus own = (own ≡ status.Ok) ⊎ (own ≡ status.Pending) ⊎ (own ≡ status.Unfinished)
+IsRunStatus own = is_of_run own ≡ true
 
 -- the same, unless memory ran out or the sink failed
 abbrev pub EndsAsRun : Status → Type 0
@@ -168,9 +169,9 @@ NothingRefusesLines files file =
 abbrev pub Wants : Option Files → List (List ℕ) → List ℕ → Query → Type 0
 Wants files words file (queries.Graph call) = Asks words (commands.Flat file call)
 Wants files words file (queries.Plan call target) = Asks words (commands.Plan file call target)
-Wants files words file (queries.Replay script) =
+Wants files words file (queries.Replay events_file) =
     (name bytes : List ℕ) × Asks words (commands.Replay file name) × HoldsFile files name bytes
-    × (length bytes ≤ file_limit) × IsEventFile bytes script
+    × (length bytes ≤ file_limit) × IsEventFile bytes events_file
 
 -- The file holds a description that has a graph for the component and its arguments, and the text of this graph was
 -- written.
@@ -194,15 +195,15 @@ pub record Planned (files : Option Files) (file : List ℕ) (call target : TopCa
 -- The file of events is one, and what its events come to over the description was written, with this status.
 pub record Replayed (files : Option Files) (file events : List ℕ) (own : Status) (taken taken' : Option (List ℕ)) : Type 0 where
   pub bytes : List ℕ
-  pub script : EventFile
+  pub events_file : EventFile
   pub told_events : HoldsFile files events bytes
   pub within_events : length bytes ≤ file_limit
-  pub is_script : IsEventFile bytes script
+  pub is_event_file : IsEventFile bytes events_file
   pub text : List ℕ
   pub written : List ℕ
   pub told : HoldsFile files file text
   pub within : length text ≤ file_limit
-  pub has_replay : HasReplay text script own written
+  pub has_replay : HasReplay text events_file own written
   pub wrote : taken' ≡ with_bytes taken written
 
 -- The file is too long, or a fault of what it holds was named; and the line that says so was written.
@@ -230,16 +231,16 @@ EndsAsGiven query file result =
 
 -- The file of events is too long, or the fault of its first line at fault was named; and the line that says so was
 -- written.
-pub data ScriptRefused (files : Option Files) (name : List ℕ) (taken taken' : Option (List ℕ)) : Type 0 where
+pub data EventsRefused (files : Option Files) (name : List ℕ) (taken taken' : Option (List ℕ)) : Type 0 where
   events_too_long :
-      TellsTooLong files name → taken' ≡ with_bytes taken (script_line name (codes "TooLong" ∷ [])) → ScriptRefused files name taken taken'
+      TellsTooLong files name → taken' ≡ with_bytes taken (script_line name (codes "TooLong" ∷ [])) → EventsRefused files name taken taken'
   events_at_fault :
       (bytes : List ℕ) (fault : ScriptError) → HoldsFile files name bytes → length bytes ≤ file_limit → IsFirstFault bytes fault
-      → taken' ≡ with_bytes taken (script_line name (script_words fault)) → ScriptRefused files name taken taken'
+      → taken' ≡ with_bytes taken (script_line name (script_words fault)) → EventsRefused files name taken taken'
 
 -- the file has more bytes than a file of events may have, or isn't one
-abbrev pub MustRefuseScript : Option (List ℕ) → Type 0
-MustRefuseScript file = IsSomeAnd file (λ bytes. (file_limit < length bytes) ⊎ ((fault : ScriptError) × IsFirstFault bytes fault))
+abbrev pub MustRefuseEvents : Option (List ℕ) → Type 0
+MustRefuseEvents file = IsSomeAnd file (λ bytes. (file_limit < length bytes) ⊎ ((fault : ScriptError) × IsFirstFault bytes fault))
 
 -- The file holds a report, and its text of the version that is written today was written.
 pub record Upgraded (files : Option Files) (file : List ℕ) (taken taken' : Option (List ℕ)) : Type 0 where
@@ -261,12 +262,12 @@ pub data ReportRefused (files : Option Files) (name : List ℕ) (taken taken' : 
 
 -- the words ask for a file of events, or for a report, or for the run of a script, their own or a made one, and it was
 -- refused
-abbrev pub RefusesScript : List (List ℕ) → Option Files → Option (List ℕ) → Option (List ℕ) → Type 0
-RefusesScript words files taken taken' =
-    ((file events : List ℕ) × Asks words (commands.Replay file events) × ScriptRefused files events taken taken')
+abbrev pub RefusesFile : List (List ℕ) → Option Files → Option (List ℕ) → Option (List ℕ) → Type 0
+RefusesFile words files taken taken' =
+    ((file events : List ℕ) × Asks words (commands.Replay file events) × EventsRefused files events taken taken')
     ⊎ ((file : List ℕ) × Asks words (commands.Upgrade file) × ReportRefused files file taken taken')
-    ⊎ ((name : List ℕ) × Asks words (commands.Step name) × StatementsRefused files name taken taken')
-    ⊎ ((lanes : ℕ) × Asks words (commands.Big lanes) × StatementsRefused (Some (made_files lanes)) script_name taken taken')
+    ⊎ ((name : List ℕ) × Asks words (commands.Step name) × ScriptRefused files name taken taken')
+    ⊎ ((lanes : ℕ) × Asks words (commands.Big lanes) × ScriptRefused (Some (made_files lanes)) script_name taken taken')
 
 -- the words ask for something of a description, or for the run of a script, their own or a made one, and a description
 -- was refused

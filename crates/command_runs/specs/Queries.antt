@@ -14,11 +14,11 @@ use Rattle.command_runs.specs.Replays.{HasReplay}
 abbrev pub IsRefused : Query → List ℕ → List (List ℕ) → Type 0
 IsRefused (queries.Graph call) text words = IsDescriptionRefusal text call.top call.args words
 IsRefused (queries.Plan call target) text words = RefusesPlan text call target words
-IsRefused (queries.Replay script) text words = RefusesStart text script.name script.args words
+IsRefused (queries.Replay events_file) text words = RefusesStart text events_file.name events_file.args words
 
 -- the bytes give this status and text
 abbrev pub AnswersQuery : Query → List ℕ → Status → List ℕ → Type 0
 AnswersQuery (queries.Graph call) text own written = (own ≡ status.Ok)
     × ((graph : Graph) × HasGraph text call.top call.args graph × (written ≡ graph_text graph))
 AnswersQuery (queries.Plan call target) text own written = (own ≡ status.Ok) × HasPlan text call target written
-AnswersQuery (queries.Replay script) text own written = HasReplay text script own written
+AnswersQuery (queries.Replay events_file) text own written = HasReplay text events_file own written

@@ -23,7 +23,7 @@ abbrev pub Replays : State → List Event → Status → List ℕ → Type 0
 Replays s events own written = ShowsAnswer (IsReplayed s events) own written
 
 -- the same from the start with the component that the file of events names
-pub record HasReplay (text : List ℕ) (script : EventFile) (own : Status) (written : List ℕ) : Type 0 where
+pub record HasReplay (text : List ℕ) (events_file : EventFile) (own : Status) (written : List ℕ) : Type 0 where
   pub graph : Graph
-  pub starts : Starts text script.name script.args graph
-  pub replays : Replays (started graph) script.events own written
+  pub starts : Starts text events_file.name events_file.args graph
+  pub replays : Replays (started graph) events_file.events own written

@@ -42,8 +42,8 @@ ghost use Rattle.command_runs.specs.OneFile.{DescriptionAnswers, EventsAnswers, 
 ghost use Rattle.command_runs.specs.declared.fetched.Fetched.{Fetched};
 ghost use Rattle.command_runs.specs.declared.fetched.Fetched.TheVariants.{Held};
 ghost use Rattle.command_runs.specs.Outcomes.{HoldsFile, NamesFile, Ends, WroteFront, Flattened, Planned, Replayed};
-ghost use Rattle.command_runs.specs.Outcomes.{RefusesDescription, RefusesScript, MustRefuse, MustRefuseScript};
-ghost use Rattle.command_runs.specs.Outcomes.{EndsAsRun, IsRunStatus, MustRefuseLine, MustRefuseStatements};
+ghost use Rattle.command_runs.specs.Outcomes.{RefusesDescription, RefusesFile, MustRefuse, MustRefuseEvents};
+ghost use Rattle.command_runs.specs.Outcomes.{EndsAsRun, IsRunStatus, MustRefuseLine, MustRefuseScript};
 ghost use Rattle.command_runs.specs.Outcomes.{NothingRefuses, NothingRefusesLines, Ran, RanShowing, SummedUp};
 ghost use Rattle.big_files.specs.BigFiles.{made_files, script};
 ghost use Rattle.command_runs.specs.Outcomes.{EndsAsGiven, MustRefuseReport, NothingRefusesReport, Upgraded, Wants};
@@ -196,9 +196,10 @@ pub fn denials_are_of_first_events()
     ensures always { (words : List (List ℕ)) (files : Files) (failures failures' : List (List ℕ))
         (taken taken' : Option (List ℕ)) (faults faults' : ℕ) (result : Status)
         → Runs words (Some files) failures failures' taken taken' faults faults' result
-        → failures' ≡ failures → (file : List ℕ) (script : EventFile) (text : List ℕ) (graph : Graph) (number rule : ℕ)
-        → Wants (Some files) words file (queries.Replay script) → files file ≡ Some text → length text ≤ file_limit
-        → Starts text script.name script.args graph → IsDenied (started graph) script.events number rule
+        → failures' ≡ failures
+        → (file : List ℕ) (events_file : EventFile) (text : List ℕ) (graph : Graph) (number rule : ℕ)
+        → Wants (Some files) words file (queries.Replay events_file) → files file ≡ Some text → length text ≤ file_limit
+        → Starts text events_file.name events_file.args graph → IsDenied (started graph) events_file.events number rule
         → Ends result Denied }
 {}
 
@@ -208,12 +209,12 @@ pub fn scripts_are_refused_for_their_first_fault()
     ensures only { (words : List (List ℕ)) (files : Option Files) (failures failures' : List (List ℕ))
         (taken taken' : Option (List ℕ)) (faults faults' : ℕ) (result : Status)
         → Runs words files failures failures' taken taken' faults faults' result
-        → result ≡ Script → RefusesScript words files taken taken' }
+        → result ≡ Script → RefusesFile words files taken taken' }
     ensures always { (words : List (List ℕ)) (files : Files) (failures failures' : List (List ℕ))
         (taken taken' : Option (List ℕ)) (faults faults' : ℕ) (result : Status)
         → Runs words (Some files) failures failures' taken taken' faults faults' result
         → failures' ≡ failures → (file events : List ℕ) → Asks words (commands.Replay file events)
-        → MustRefuseScript (files events)
+        → MustRefuseEvents (files events)
         → Ends result Script }
     ensures always_report { (words : List (List ℕ)) (files : Files) (failures failures' : List (List ℕ))
         (taken taken' : Option (List ℕ)) (faults faults' : ℕ) (result : Status)
@@ -223,12 +224,12 @@ pub fn scripts_are_refused_for_their_first_fault()
     ensures always_script { (words : List (List ℕ)) (files : Files) (failures failures' : List (List ℕ))
         (taken taken' : Option (List ℕ)) (faults faults' : ℕ) (result : Status)
         → Runs words (Some files) failures failures' taken taken' faults faults' result
-        → failures' ≡ failures → (name : List ℕ) → Asks words (commands.Step name) → MustRefuseStatements (files name)
+        → failures' ≡ failures → (name : List ℕ) → Asks words (commands.Step name) → MustRefuseScript (files name)
         → Ends result Script }
     ensures always_made { (words : List (List ℕ)) (files : Option Files) (failures failures' : List (List ℕ))
         (taken taken' : Option (List ℕ)) (faults faults' : ℕ) (result : Status)
         → Runs words files failures failures' taken taken' faults faults' result
-        → (lanes : ℕ) → Asks words (commands.Big lanes) → MustRefuseStatements (Some (script lanes))
+        → (lanes : ℕ) → Asks words (commands.Big lanes) → MustRefuseScript (Some (script lanes))
         → Ends result Script }
 {
     one_report_or_one_fault();
@@ -321,9 +322,9 @@ pub fn courses_of_replays_are_by_two_files()
     ensures refused { (file name : List ℕ) (given : Fetched) (own : Status) (text : List ℕ)
         → EventsAnswers name given own text
         → ShowsAnswer (course_of (commands.Replay file name) (fetch_of name given ∷ [])) own text }
-    ensures read { (file name bytes : List ℕ) (script : EventFile) (fetches : List Fetch) (answer : Answer)
-        → IsEventFile bytes script
-        → course_of_query file (queries.Replay script) fetches answer
+    ensures read { (file name bytes : List ℕ) (events_file : EventFile) (fetches : List Fetch) (answer : Answer)
+        → IsEventFile bytes events_file
+        → course_of_query file (queries.Replay events_file) fetches answer
         → course_of (commands.Replay file name) (fetch_of name (Held bytes) ∷ fetches) answer }
     ensures short { (file name : List ℕ) (given : Fetched)
         → course_of (commands.Replay file name) [] (refusal no_memory)

@@ -9,7 +9,7 @@ use Rattle.big_files.specs.BigFiles.{made_files, script, script_name}
 use Rattle.change_script.specs.ScriptFiles.{IsScript, fault_in_lines}
 use Rattle.change_script.specs.Lines.{statements}
 use Rattle.command_runs.specs.Fetches.{file_limit}
-use Rattle.command_runs.specs.Outcomes.{StatementsRefused, script_too_long, script_at_fault, RefusesScript}
+use Rattle.command_runs.specs.Outcomes.{ScriptRefused, script_too_long, script_at_fault, RefusesFile}
 use Rattle.command_words.specs.CommandLine.{Asks}
 use Rattle.command_words.specs.declared.words.Command.TheVariants as commands
 use Rattle.command_words.proofs.WordsLaws.{one_command}
@@ -56,7 +56,7 @@ all_made = one_more 39 ((refl, refl), refl) (one_more 38 ((refl, refl), refl) (o
 pub made : (lanes : ℕ) → 1 ≤ lanes → lanes ≤ 40 → IsScript (script lanes) (made_script lanes)
 made lanes low high = (one_of IsMade 40 lanes all_made low high).0
 
-not_refused : (lanes : ℕ) → IsMade lanes → (taken taken' : Option (List ℕ)) → StatementsRefused (Some (made_files lanes)) script_name taken taken' → ⊥
+not_refused : (lanes : ℕ) → IsMade lanes → (taken taken' : Option (List ℕ)) → ScriptRefused (Some (made_files lanes)) script_name taken taken' → ⊥
 not_refused lanes is taken taken' (script_too_long long took) = omega (arith, long, leb-true (length (script lanes)) file_limit is.1)
 not_refused lanes is taken taken' (script_at_fault bytes fault holds within first took) =
     none-some fault (sym is.0.0 ∙ ap (λ text. fault_in_lines (statements text)) (same_Some (script lanes) bytes holds) ∙ first)
@@ -64,7 +64,7 @@ not_refused lanes is taken taken' (script_at_fault bytes fault holds within firs
 -- no other command refuses a script there
 pub never_refused :
     (words : List (List ℕ)) (files : Option Files) (taken taken' : Option (List ℕ)) (lanes : ℕ) → Asks words (commands.Big lanes)
-    → RefusesScript words files taken taken' → ⊥
+    → RefusesFile words files taken taken' → ⊥
 never_refused words files taken taken' lanes asks refuses = by refuses
   where
     replay_or_big : (file events : List ℕ) → commands.Replay file events ≢ commands.Big lanes
@@ -81,7 +81,7 @@ never_refused words files taken taken' lanes asks refuses = by refuses
     of_words (word ∷ body) n (named, (count, body_is, is, value)) =
         one_of IsMade 40 n all_made (subst (λ k. 1 ≤ k) (sym value) is.1) (subst (λ k. k ≤ 40) (sym value) is.2)
 
-    by : RefusesScript words files taken taken' → ⊥
+    by : RefusesFile words files taken taken' → ⊥
     by (inl (file, events, other, why)) = replay_or_big file events (one_command words (commands.Replay file events) (commands.Big lanes) other asks)
     by (inr (inl (file, other, why))) = upgrade_or_big file (one_command words (commands.Upgrade file) (commands.Big lanes) other asks)
     by (inr (inr (inl (name, other, why)))) = step_or_big name (one_command words (commands.Step name) (commands.Big lanes) other asks)

@@ -7,21 +7,21 @@ use Rattle.change_script.specs.declared.error.ScriptError.{ScriptError}
 use Rattle.change_script.specs.declared.script.Script.{Script}
 use Rattle.change_script.proofs.ScriptFileLaws as scripts
 use Rattle.command_runs.specs.Fetches.{file_limit}
-use Rattle.command_runs.specs.Outcomes.{MustRefuseLine, MustRefuseStatements, NothingRefusesLines}
+use Rattle.command_runs.specs.Outcomes.{MustRefuseLine, MustRefuseScript, NothingRefusesLines}
 
 module _ (f : Files) (bytes : List ℕ) where
-  pub whole_or_line : MustRefuseStatements (Some bytes) → MustRefuseLine f (Some bytes) → ⊥
+  pub whole_or_line : MustRefuseScript (Some bytes) → MustRefuseLine f (Some bytes) → ⊥
   whole_or_line (inl long) line = omega (arith, long, line.0)
   whole_or_line (inr fault) line = scripts.never_both bytes line.1.0 fault.0 line.1.3 fault.1
 
-  pub whole_or_nothing : MustRefuseStatements (Some bytes) → NothingRefusesLines f (Some bytes) → ⊥
+  pub whole_or_nothing : MustRefuseScript (Some bytes) → NothingRefusesLines f (Some bytes) → ⊥
   whole_or_nothing (inl long) nothing = omega (arith, long, nothing.0)
   whole_or_nothing (inr fault) nothing = nothing.1 fault.0 fault.1
 
   pub line_or_nothing : MustRefuseLine f (Some bytes) → NothingRefusesLines f (Some bytes) → ⊥
   line_or_nothing line nothing = nothing.2 line.1.0 line.1.1 line.1.2 line.1.3 line.1.4
 
-  pub not_neither : (MustRefuseStatements (Some bytes) → ⊥) × (MustRefuseLine f (Some bytes) → ⊥) × (NothingRefusesLines f (Some bytes) → ⊥) → ⊥
+  pub not_neither : (MustRefuseScript (Some bytes) → ⊥) × (MustRefuseLine f (Some bytes) → ⊥) × (NothingRefusesLines f (Some bytes) → ⊥) → ⊥
   not_neither (whole, line, nothing) = by (cases_lt file_limit (length bytes))
     where
       read : length bytes ≤ file_limit → ((script : Script) × IsScript bytes script) ⊎ ((fault : ScriptError) × IsScriptFault bytes fault) → ⊥

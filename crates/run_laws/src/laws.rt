@@ -9,7 +9,7 @@ ghost use Rattle.change_script.specs.declared.script.Script.{Script};
 ghost use Rattle.command_answers.specs.declared.status.Status.{Status};
 ghost use Rattle.command_runs.specs.Failures.{Uses};
 ghost use Rattle.command_runs.specs.Lines.{RunLine, Progress, begun};
-ghost use Rattle.command_runs.specs.Outcomes.{HoldsFile, MustRefuseLine, MustRefuseStatements};
+ghost use Rattle.command_runs.specs.Outcomes.{HoldsFile, MustRefuseLine, MustRefuseScript};
 ghost use Rattle.command_runs.specs.Outcomes.{NothingRefusesLines, Ran, SummedUp, TellsTooLong};
 ghost use Rattle.command_runs.specs.Runs.{Runs};
 ghost use Rattle.command_runs.specs.Scripts.{lines_of_script};
@@ -93,13 +93,13 @@ pub fn lines_lead_or_are_refused()
 /// nothing is refused: no two of these hold of the same bytes, and that none holds can't be. So for each text one of
 /// three answers is due, where memory lasts.
 pub fn each_script_is_refused_or_run()
-    ensures whole_or_line { (files : Files) (bytes : List ℕ) → MustRefuseStatements (Some bytes)
+    ensures whole_or_line { (files : Files) (bytes : List ℕ) → MustRefuseScript (Some bytes)
         → ¬ MustRefuseLine files (Some bytes) }
-    ensures whole_or_nothing { (files : Files) (bytes : List ℕ) → MustRefuseStatements (Some bytes)
+    ensures whole_or_nothing { (files : Files) (bytes : List ℕ) → MustRefuseScript (Some bytes)
         → ¬ NothingRefusesLines files (Some bytes) }
     ensures line_or_nothing { (files : Files) (bytes : List ℕ) → MustRefuseLine files (Some bytes)
         → ¬ NothingRefusesLines files (Some bytes) }
-    ensures not_neither { (files : Files) (bytes : List ℕ) → ¬ ((¬ MustRefuseStatements (Some bytes))
+    ensures not_neither { (files : Files) (bytes : List ℕ) → ¬ ((¬ MustRefuseScript (Some bytes))
         × (¬ MustRefuseLine files (Some bytes)) × (¬ NothingRefusesLines files (Some bytes))) }
 {}
 
