@@ -3,6 +3,7 @@
 ghost use Rattle.std.specs.Prelude.{◌≡◌, ◌≢◌, ◌≤◌, ℕ, List, Option, Some};
 ghost use Rattle.base.specs.Each.{Each};
 ghost use Rattle.big_files.specs.BigFiles.{script};
+ghost use Rattle.big_files.specs.declared.texts.TheConstants.{MAX_LANES};
 ghost use Rattle.cfg_io.specs.Shelf.{Files};
 ghost use Rattle.change_script.specs.ScriptFiles.{IsScript};
 ghost use Rattle.change_script.specs.declared.script.Script.{Script};
@@ -105,7 +106,7 @@ pub fn each_script_is_refused_or_run()
 
 /// A law: the script that is made for so many lanes is one, with the statements that are meant.
 pub fn made_scripts_are_scripts()
-    ensures { (lanes : ℕ) → 1 ≤ lanes → lanes ≤ 40 → IsScript (script lanes) (made_script lanes) }
+    ensures { (lanes : ℕ) → 1 ≤ lanes → lanes ≤ MAX_LANES → IsScript (script lanes) (made_script lanes) }
 {}
 
 /// A law of runs: what is made is never refused as a script.
