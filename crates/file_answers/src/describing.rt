@@ -1,6 +1,6 @@
 //! What is answered of a description.
 
-ghost use Rattle.std.specs.Prelude.{◌≡◌, ◌≤◌, ℕ, List, length, IfOk, IfErr};
+ghost use Rattle.std.specs.Prelude.{◌≤◌, ℕ, List, length, IfOk, IfErr};
 ghost use Rattle.darwin_types.specs.Checked.{description};
 ghost use Rattle.command_runs.specs.OneFile.{DescriptionAnswers};
 ghost use Rattle.command_runs.specs.Fetches.{FitsFileLimit, file_limit};

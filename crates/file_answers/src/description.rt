@@ -1,6 +1,6 @@
 //! From the bytes of a description to the graphs of its components.
 
-ghost use Rattle.std.specs.Prelude.{◌≡◌, ◌≤◌, ℕ, List, length, IfOk, IfErr};
+ghost use Rattle.std.specs.Prelude.{◌≤◌, ℕ, List, length, IfOk, IfErr};
 ghost use Rattle.darwin_lexer.specs.Tokens.{IsTokens};
 ghost use Rattle.darwin_parser.specs.Tree.{tree_of};
 ghost use Rattle.config_graph.specs.Sound.{Sound};

@@ -1,6 +1,6 @@
 //! Fetches of descriptions, of scripts, of files of events and of reports.
 
-ghost use Rattle.std.specs.Prelude.{◌≡◌, ◌≤◌, vec_len};
+ghost use Rattle.std.specs.Prelude.{◌≡◌};
 ghost use Rattle.file_answers.specs.Fetching.{Fetches};
 
 use cfg_io::{Shelf, ShelfError};
