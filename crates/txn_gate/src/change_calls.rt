@@ -25,7 +25,7 @@ use crate::steps::{AnySeat, Words};
 use crate::{change_steps, steps};
 use config_graph::{MAX_NODES, MAX_PORTS, Made, NoMemory, Node, Target};
 use gate_records::Look;
-use gate_word::{CLOSED, SlotWord, link_operand};
+use gate_word::{CLOSED, SlotWord};
 use port_gate::unknown;
 use record_tables::RecordTables;
 use std::alloc::Global;
@@ -214,7 +214,8 @@ impl Gates {
         Look::of(word)
     }
 
-    /// The change links a port of a live node that is noted with all that reach it.
+    /// The change links a port that leads nowhere, whose owner is settled by the record (`ChangeSeat::settled`), where
+    /// no cycle comes of it.
     pub fn link(&self, seat: &mut ChangeSeat, port: u32, node: u32, provide: u32)
         requires here { seat.old.seat.table_id ≡ self.now.words.shared.table_id }
         requires may { MayLink (is_noted (change_of seat.old.seat.me.0).entries)
@@ -227,10 +228,10 @@ impl Gates {
     {
         let to = Target { node, provide };
         seat.tables.link(port, to);
-        change_steps::link::<Brand>(&self.words, &mut seat.seat, port, to, link_operand(to));
+        change_steps::link::<Brand>(&self.words, &mut seat.seat, port, to);
     }
 
-    /// The change unlinks such a port.
+    /// The change unlinks a port whose owner is settled by the record.
     pub fn unlink(&self, seat: &mut ChangeSeat, port: u32)
         requires here { seat.old.seat.table_id ≡ self.now.words.shared.table_id }
         requires may { MayUnlink (is_noted (change_of seat.old.seat.me.0).entries)
@@ -241,10 +242,10 @@ impl Gates {
         ensures spare { seat.new.spare ≡ seat.old.spare }
     {
         let was = seat.tables.unlink(port);
-        change_steps::unlink::<Brand>(&self.words, &mut seat.seat, port, was, link_operand(was));
+        change_steps::unlink::<Brand>(&self.words, &mut seat.seat, port, was);
     }
 
-    /// The change removes such a node, which is linked to none and none to it.
+    /// The change removes a node that is settled by the record, that leads to none and to which none leads.
     pub fn remove(&self, seat: &mut ChangeSeat, node: u32)
         requires here { seat.old.seat.table_id ≡ self.now.words.shared.table_id }
         requires may { MayRemove (is_noted (change_of seat.old.seat.me.0).entries)

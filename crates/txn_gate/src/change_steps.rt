@@ -7,7 +7,7 @@ ghost use Rattle.gate_records.specs.Records.{May};
 ghost use Rattle.gate_records.specs.declared.entry.Entry.TheVariants.{Did};
 ghost use Rattle.gate_rule.specs.Steps.{IsChange, noted};
 ghost use Rattle.gate_rule.specs.Views.{change_of};
-ghost use Rattle.gate_word.specs.Operands.{link_difference};
+ghost use Rattle.gate_word.specs.Words.{FitsTarget};
 ghost use Rattle.quiesce_core.specs.State as state;
 ghost use Rattle.quiesce_core.specs.declared.event.Event.TheVariants as event;
 ghost use Rattle.txn_gate.specs.Places.{IsHere};
@@ -15,40 +15,39 @@ ghost use Rattle.txn_gate.specs.Places.{IsHere};
 use crate::plays::{Changing, Names};
 use crate::steps::{AnySeat, Words};
 use config_graph::Target;
+use gate_word::link_operand;
 
 /// The change links a port that is linked to nothing.
-pub fn link<E: Names>(words: &Words, seat: &mut AnySeat, port: u32, to: Target, operand: u64)
+pub fn link<E: Names>(words: &Words, seat: &mut AnySeat, port: u32, to: Target)
     requires event { E.event ≡ event.Link port to.node to.provide }
     requires here { IsHere seat.old.table_id words.now.shared.table_id }
     requires change { IsChange seat.old.me }
     requires may { May (change_of seat.old.me.0).entries (event.Link port to.node to.provide) }
     requires port { port < MAX_PORTS }
-    requires operand { operand ≡ link_difference to }
+    requires fits { FitsTarget to }
     ensures here { seat.new.table_id ≡ seat.old.table_id }
     ensures me { seat.new.me ≡ noted seat.old.me (Did E.event) }
 {
-    let _ = to;
     words
         .shared
-        .fetch_xor::<Changing<E>>(seat, port as usize, operand);
+        .fetch_xor::<Changing<E>>(seat, port as usize, link_operand(to));
 }
 
 /// The change unlinks a port from what it is linked to.
-pub fn unlink<E: Names>(words: &Words, seat: &mut AnySeat, port: u32, was: Target, operand: u64)
+pub fn unlink<E: Names>(words: &Words, seat: &mut AnySeat, port: u32, was: Target)
     requires event { E.event ≡ event.Unlink port }
     requires here { IsHere seat.old.table_id words.now.shared.table_id }
     requires change { IsChange seat.old.me }
     requires may { May (change_of seat.old.me.0).entries (event.Unlink port) }
     requires port { port < MAX_PORTS }
     requires linked { state.target (config_of (change_of seat.old.me.0).entries) port ≡ Some was }
-    requires operand { operand ≡ link_difference was }
+    requires fits { FitsTarget was }
     ensures here { seat.new.table_id ≡ seat.old.table_id }
     ensures me { seat.new.me ≡ noted seat.old.me (Did E.event) }
 {
-    let _ = was;
     words
         .shared
-        .fetch_xor::<Changing<E>>(seat, port as usize, operand);
+        .fetch_xor::<Changing<E>>(seat, port as usize, link_operand(was));
 }
 
 /// The change removes a node: a load, after which the record has it.

@@ -1,10 +1,9 @@
 //! The calls of nodes at the gates in a service of theirs: calls of other nodes, and further messages.
 
 ghost use Rattle.std.specs.Prelude.{◌≡◌, None, ◌+◌, ◌<◌, ◌^◌, Some, false, true};
-ghost use Rattle.config_graph.specs.declared.TheConstants.{MAX_PORTS};
 ghost use Rattle.gate_word.specs.Phases.{is_asked};
 ghost use Rattle.gate_word.specs.Words as fields;
-ghost use Rattle.gate_word.specs.Words.{FitsWord, unpack};
+ghost use Rattle.gate_word.specs.Words.{unpack};
 ghost use Rattle.quiesce_core.specs.declared.event.Event.TheVariants as event;
 ghost use Rattle.port_gate.specs.Answers.{CallSays, HearSays};
 ghost use Rattle.port_gate.specs.Moves as moves;

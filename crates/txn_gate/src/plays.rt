@@ -1,6 +1,6 @@
-//! What each kind of step tells its caller, and how seats are given out and taken in.
+//! What each kind of step tells its caller, and how a new node's seat is given out.
 
-use atomic_table::{Join, Play, Split};
+use atomic_table::{Play, Split};
 use gate_rule::View;
 use std::marker::{Brand, PhantomData};
 
@@ -11,6 +11,7 @@ pub trait Names {
     ghost event: { Event };
 }
 
+/// A call that passes `Brand` picks the event that it names; this one is never meant.
 impl Names for Brand {
     ghost use Rattle.quiesce_core.specs.declared.event.Event.TheVariants.{Miss};
 

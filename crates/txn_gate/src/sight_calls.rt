@@ -1,6 +1,6 @@
 //! The calls by which the change takes nodes' seats in: for a sight, or for good.
 
-ghost use Rattle.std.specs.Prelude.{◌≡◌, ◌⊎◌, ◌∷◌, ℕ, ◌<◌, Bool, false, IsTrue, Some, None, length, option_map};
+ghost use Rattle.std.specs.Prelude.{◌≡◌, ◌⊎◌, ◌∷◌, ℕ, ◌<◌, false, IsTrue, Some, None, length, option_map};
 ghost use Rattle.gate_records.specs.Entries.{config_of};
 ghost use Rattle.gate_records.specs.Records.{AreAllNoted};
 ghost use Rattle.gate_records.specs.declared.entry.Entry.TheVariants.{Looked, Sighted};
@@ -13,7 +13,6 @@ use crate::change_seat::ChangeSeat;
 use crate::gates::Gates;
 use crate::node_seat::NodeSeat;
 use crate::seat_steps;
-use crate::steps::AnySeat;
 
 impl Gates {
     /// Notes in the record the node and all that it did so far, and gives its seat back with all that it knew. At the

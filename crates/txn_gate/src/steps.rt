@@ -1,6 +1,6 @@
 //! The atomic steps on the gates: each is one operation on one word, and says which event, look or sight it is.
 
-ghost use Rattle.std.specs.Prelude.{[], ◌≡◌, ◌≢◌, ◌%◌, ◌^◌, true, ◌+◌, ◌<◌, ℕ, Some, false, length};
+ghost use Rattle.std.specs.Prelude.{[], ◌≡◌, ◌≢◌, ◌%◌, ◌^◌, true, ◌+◌, ◌<◌, Some, false, length};
 ghost use Rattle.config_graph.specs.declared.TheConstants.{MAX_NODES, MAX_PORTS};
 ghost use Rattle.config_graph.specs.declared.node.Target.{Target as Linked};
 ghost use Rattle.gate_word.specs.Operands.{call_difference, end_difference, message_difference};
@@ -15,7 +15,7 @@ ghost use Rattle.quiesce_core.specs.Rules.{last_serial};
 ghost use Rattle.quiesce_core.specs.declared.event.Event.TheVariants as event;
 ghost use Rattle.port_gate.specs.Seats.{MayAsk, MayBegin, MayCall, MayEnd, MayGive, MayHear, MaySee, MaySendMore, MayTake, port_known, serial_served, value_seen};
 ghost use Rattle.gate_rule.specs.Steps.{IsChange, IsNode, WasShown, did, looks, noted, read, sees, value_served};
-ghost use Rattle.gate_rule.specs.Views.{change_of, does, new_seat, newest, node_at, node_of, of_node, without_seat};
+ghost use Rattle.gate_rule.specs.Views.{change_of, new_seat, node_at, node_of, of_node, without_seat};
 ghost use Rattle.gate_rule.specs.declared.view.LoadKind.TheVariants as kinds;
 ghost use Rattle.txn_gate.specs.Places.{IsHere};
 
