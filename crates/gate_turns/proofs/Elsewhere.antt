@@ -1,5 +1,5 @@
 -- A seat of another slot at the same gates. A turn leaves it fitting, and so leaves its gate at these gates.
-use Rattle.std.proofs.Common.{◌≡◌, ◌≢◌, ℕ, zero, suc, ◌<◌, [], refl, arith}
+use Rattle.std.proofs.Common.{◌≢◌, ℕ, zero, suc, ◌<◌, [], refl, arith}
 use Rattle.config_graph.specs.declared.TheConstants.{MAX_NODES}
 use Rattle.gate_rule.specs.Views.{node_of, of_node}
 use Rattle.txn_gate.specs.declared.node_seat.NodeSeat.{NodeSeat}

@@ -1,19 +1,23 @@
 -- What the change may link in the systems of the rows.
-use Rattle.std.proofs.Common.{◌≡◌, ℕ, [], ◌∷◌, ◌++◌, refl, sym, subst}
+use Rattle.std.proofs.Common.{◌≡◌, ℕ, [], ◌∷◌, ◌++◌, inl, inr, refl, sym, subst}
 use Rattle.config_graph.specs.declared.kind.Kind.TheVariants as kind
 use Rattle.config_graph.specs.declared.node.Node.{Node}
 use Rattle.gate_records.specs.Records.{May}
 use Rattle.gate_records.specs.declared.entry.Entry.TheVariants.{Did}
 use Rattle.quiesce_core.specs.Reach.{has_no_cycle}
 use Rattle.quiesce_core.specs.declared.event.Event.TheVariants.{Link}
-use Rattle.rows_gates.specs.Made.{made_three, made_two}
+use Rattle.rows_gates.specs.Made.{LeadsTo, made_three, made_two}
 
--- a source, and a sink
-pub two : (n m : ℕ) (a b : Node) → a.kind ≡ kind.Source → b.kind ≡ kind.Sink → May (made_two n m a b) (Link 0 1 0)
+-- a source and a sink, or an asker and an adder
+pub two : (n m : ℕ) (a b : Node) → LeadsTo a.kind b.kind → May (made_two n m a b) (Link 0 1 0)
 unfolding has_no_cycle
-two n m a b source sink =
+two n m a b (inl (source, sink)) =
     subst (λ k. May (made_two n m (record a { kind = k }) b) (Link 0 1 0)) (sym source)
     (subst (λ k. May (made_two n m (record a { kind = kind.Source }) (record b { kind = k })) (Link 0 1 0)) (sym sink)
+    (record { live = refl; unlinked = refl; provision = refl; settled = record { live = refl; own = λ q is. refl; reaching = λ q is. refl }; no_cycle = refl }))
+two n m a b (inr (asker, adder)) =
+    subst (λ k. May (made_two n m (record a { kind = k }) b) (Link 0 1 0)) (sym asker)
+    (subst (λ k. May (made_two n m (record a { kind = kind.Asker }) (record b { kind = k })) (Link 0 1 0)) (sym adder)
     (record { live = refl; unlinked = refl; provision = refl; settled = record { live = refl; own = λ q is. refl; reaching = λ q is. refl }; no_cycle = refl }))
 
 -- A map, a source and a sink: the map's port may be linked, the source's port may be linked, and the source's after the map's.

@@ -5,6 +5,7 @@ ghost use Rattle.std.specs.Prelude.{◌≡◌};
 
 use crate::seated::Seated;
 use crate::unfit::Unfit;
+use config_graph::VALUE_LIMIT;
 use port_gate::{BeginAnswer, SeeAnswer, TakeAnswer};
 use std::sync::Wait;
 use std::thread;
@@ -30,7 +31,7 @@ impl Tally {
 
 /// The value that the sink answers.
 fn answer_to(value: u32) -> u32 {
-    value.wrapping_add(1) % (1 << 24)
+    value.wrapping_add(1) % VALUE_LIMIT
 }
 
 /// The source begins a transaction at port 0, once the port is open.
@@ -120,7 +121,7 @@ pub fn alone<R: Wait>(
     requires sink { sink.old.seat.seat.table_id ≡ gates.now.words.shared.table_id }
 {
     for value in 0..times {
-        begin(rt, gates, source, value % (1 << 24))?;
+        begin(rt, gates, source, value % VALUE_LIMIT)?;
         let value = request(rt, gates, sink)?;
         sink.give(gates, 0, answer_to(value))?;
         answer(rt, gates, source)?;

@@ -5,6 +5,8 @@
 mod call_rows;
 mod exchanges;
 #[cfg(test)]
+mod further_rows;
+#[cfg(test)]
 mod gate_rows;
 #[cfg(test)]
 mod row_systems;
@@ -12,6 +14,8 @@ mod seated;
 mod systems;
 #[cfg(test)]
 mod thread_rows;
+#[cfg(test)]
+mod turn_rows;
 mod unfit;
 
 pub use exchanges::{Tally, alone, initiate, serve};

@@ -39,7 +39,7 @@ fn make_three(
         return Err(Unfit);
     }
     let (one, two) = make_two(gates, change, first, second)?;
-    let three = make(gates, change, third)?;
+    let three = make(gates, change, third, None)?;
     Ok((one, two, three))
 }
 
@@ -87,7 +87,7 @@ pub fn make_later(
     if first.path == later.path || second.path == later.path {
         return Err(Unfit);
     }
-    make(gates, change, later)
+    make(gates, change, later, None)
 }
 
 /// The source in slot 0 with port 0, which is closed and leads nowhere, and the sink in slot 1.
@@ -160,7 +160,7 @@ fn link_three(
 }
 
 /// Whether each port of a live node is noted as drained.
-fn are_all_noted(change: &ChangeSeat) -> bool
+pub fn are_all_noted(change: &ChangeSeat) -> bool
     ensures { IsTrue result ↔ AreAllNoted (change_of change.now.seat.me.0).entries }
 {
     for port in 0..change.made().ports {

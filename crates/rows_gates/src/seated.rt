@@ -1,8 +1,7 @@
 //! A node's seat at the gates beside the node's kind, and calls that test what they ask of the node. Where it
 //! doesn't hold, they answer `Unfit` and do nothing.
 
-ghost use Rattle.std.specs.Prelude.{◌≡◌, ◌<◌, ◌≤◌, ◌↔◌, IfOk, IfErr, IsTrue, slice_index_or};
-ghost use Rattle.config_graph.specs.declared.TheConstants.{MAX_PORTS};
+ghost use Rattle.std.specs.Prelude.{◌≡◌, ◌<◌, ◌↔◌, IfOk, IfErr, IsTrue, slice_index_or};
 ghost use Rattle.quiesce_core.specs.Knowledge.{port_at_start};
 ghost use Rattle.gate_rule.specs.Views.{node_at, node_of};
 ghost use Rattle.port_gate.specs.Seats as seats;
@@ -53,7 +52,7 @@ impl Seated {
     }
 
     /// What is known of a port of its own.
-    fn port_known(&self, port: u32) -> Result<PortKnown, Unfit>
+    pub(crate) fn port_known(&self, port: u32) -> Result<PortKnown, Unfit>
         ensures own { IfOk result (λ _. IsOwn (node_at (node_of self.now.seat.seat.me.0)) port) }
         ensures known { IfOk result
             (λ k. k ≡ seats.port_known (node_at (node_of self.now.seat.seat.me.0)) self.now.seat.known port) }
@@ -106,20 +105,26 @@ impl Seated {
         Ok(gates.take(&mut self.seat, port))
     }
 
+    /// Whether the node may answer the request that it services at a port.
+    pub(crate) fn may_give(&self, port: u32, value: u32) -> bool
+        ensures { IsTrue result ↔ MayGive self.now.seat.known port value }
+    {
+        let Some(served) = self.seat.known.service else {
+            return false;
+        };
+        served.port == port
+            && served.heard
+            && has_ended_calls(&self.seat.known)
+            && value < VALUE_LIMIT
+    }
+
     /// The node answers the request that it services at a port.
     pub fn give(&mut self, gates: &Gates, port: u32, value: u32) -> Result<(), Unfit>
         requires here { self.old.seat.seat.table_id ≡ gates.now.words.shared.table_id }
         ensures here { self.new.seat.seat.table_id ≡ self.old.seat.seat.table_id }
-        ensures unfit { IfErr result (λ _. (MayGive self.old.seat.known port value → MAX_PORTS ≤ port)
-            × (self.new ≡ self.old)) }
+        ensures unfit { IfErr result (λ _. (MayGive self.old.seat.known port value → ⊥) × (self.new ≡ self.old)) }
     {
-        if port >= MAX_PORTS || value >= VALUE_LIMIT {
-            return Err(Unfit);
-        }
-        let Some(served) = self.seat.known.service else {
-            return Err(Unfit);
-        };
-        if served.port != port || !served.heard || !has_ended_calls(&self.seat.known) {
+        if !self.may_give(port, value) {
             return Err(Unfit);
         }
         gates.give(&mut self.seat, port, value);

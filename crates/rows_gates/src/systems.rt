@@ -1,15 +1,15 @@
 //! A source that leads to a sink at the gates, and calls of the change that test what they ask. Where it
 //! doesn't hold, they answer `Unfit`.
 
-ghost use Rattle.std.specs.Prelude.{◌≡◌, ℕ, false, [], ◌∷◌, ◌++◌, ◌<◌, length, None, IfOk, IfErr};
-ghost use Rattle.config_graph.specs.declared.kind.Kind.TheVariants as kind;
+ghost use Rattle.std.specs.Prelude.{◌≡◌, ℕ, false, [], ◌∷◌, ◌++◌, ◌<◌, length, true, IfOk, IfErr, IsTrue};
+ghost use Rattle.std.specs.Option.{option_map_or};
 ghost use Rattle.gate_records.specs.Entries.{config_of};
 ghost use Rattle.gate_records.specs.declared.entry.Entry.TheVariants.{Did};
-ghost use Rattle.gate_rule.specs.Views.{change_of};
+ghost use Rattle.gate_rule.specs.Views.{change_of, node_of};
 ghost use Rattle.quiesce_core.specs.Legal.{CanMake};
-ghost use Rattle.quiesce_core.specs.Rules.{is_live_port, is_path_taken};
+ghost use Rattle.quiesce_core.specs.Rules.{can_move, is_live_port, is_path_taken};
 ghost use Rattle.quiesce_core.specs.declared.event.Event.TheVariants as event;
-ghost use Rattle.rows_gates.specs.Made.{made_two, opened_two};
+ghost use Rattle.rows_gates.specs.Made.{DidNothing, LeadsTo, made_two, opened_two};
 
 use crate::seated::Seated;
 use crate::unfit::{Unfit, Unmade};
@@ -31,17 +31,25 @@ pub(crate) fn node(
     Ok(Node { path, kind, arg })
 }
 
-/// Makes a node whose path no live node has.
-pub(crate) fn make(gates: &Gates, change: &mut ChangeSeat, node: &Node) -> Result<Seated, Unfit>
+/// Makes a node whose path no live node has, which takes over from another or from none.
+pub(crate) fn make(
+    gates: &Gates,
+    change: &mut ChangeSeat,
+    node: &Node,
+    from: Option<u32>,
+) -> Result<Seated, Unfit>
     requires here { change.old.seat.table_id ≡ gates.now.words.shared.table_id }
     requires new_path { is_path_taken (config_of (change_of change.old.seat.me.0).entries) node.now.path ≡ false }
+    requires moves { IsTrue (option_map_or (λ k. can_move (config_of (change_of change.old.seat.me.0).entries) k
+        node.now.kind) from true) }
     ensures here { change.new.seat.table_id ≡ change.old.seat.table_id }
     ensures seat { IfOk result (λ r. r.seat.seat.table_id ≡ change.old.seat.table_id) }
+    ensures fresh { IfOk result (λ r. DidNothing (node_of r.seat.seat.me.0)) }
     ensures made { IfOk result (λ _. (n : ℕ) × ((change_of change.new.seat.me.0).entries
-        ≡ (change_of change.old.seat.me.0).entries ++ Did (event.Make n node.now None) ∷ [])) }
+        ≡ (change_of change.old.seat.me.0).entries ++ Did (event.Make n node.now from) ∷ [])) }
     ensures unfit { IfErr result
         (λ _. (0 < change.old.spare → CanMake (config_of (change_of change.old.seat.me.0).entries)
-        (length (config_of (change_of change.old.seat.me.0).entries).slots) node.now None → ⊥)
+        (length (config_of (change_of change.old.seat.me.0).entries).slots) node.now from → ⊥)
         × (change.new ≡ change.old)) }
 {
     let made = change.made();
@@ -59,7 +67,7 @@ pub(crate) fn make(gates: &Gates, change: &mut ChangeSeat, node: &Node) -> Resul
     }
     Ok(Seated {
         kind: node.kind,
-        seat: gates.make_node(change, node, None),
+        seat: gates.make_node(change, node, from),
     })
 }
 
@@ -75,14 +83,16 @@ pub(crate) fn make_two(
     ensures here { change.new.seat.table_id ≡ change.old.seat.table_id }
     ensures seats { IfOk result (λ r. (r.0.seat.seat.table_id ≡ change.old.seat.table_id)
         × (r.1.seat.seat.table_id ≡ change.old.seat.table_id)) }
+    ensures fresh { IfOk result (λ r. DidNothing (node_of r.0.seat.seat.me.0)
+        × DidNothing (node_of r.1.seat.seat.me.0)) }
     ensures made { IfOk result (λ _. (n : ℕ) × (m : ℕ)
         × ((change_of change.new.seat.me.0).entries ≡ made_two n m first.now second.now)) }
 {
     if first.path == second.path {
         return Err(Unfit);
     }
-    let one = make(gates, change, first)?;
-    let two = make(gates, change, second)?;
+    let one = make(gates, change, first, None)?;
+    let two = make(gates, change, second, None)?;
     Ok((one, two))
 }
 
@@ -102,10 +112,10 @@ pub fn reopen(gates: &Gates, change: &mut ChangeSeat, port: u32) -> Result<(), U
     Ok(())
 }
 
-/// The source in slot 0 leads to the sink in slot 1.
+/// The first node, in slot 0, leads to the second in slot 1.
 fn link_two(gates: &Gates, change: &mut ChangeSeat, first: &Node, second: &Node)
     requires here { change.old.seat.table_id ≡ gates.now.words.shared.table_id }
-    requires kinds { (first.now.kind ≡ kind.Source) × (second.now.kind ≡ kind.Sink) }
+    requires kinds { LeadsTo first.now.kind second.now.kind }
     requires made { (n : ℕ) × (m : ℕ) × ((change_of change.old.seat.me.0).entries ≡ made_two n m first.now second.now) }
     ensures here { change.new.seat.table_id ≡ change.old.seat.table_id }
     ensures linked { (n : ℕ) × (m : ℕ) × ((change_of change.new.seat.me.0).entries ≡ made_two n m first.now
@@ -115,7 +125,7 @@ fn link_two(gates: &Gates, change: &mut ChangeSeat, first: &Node, second: &Node)
     gates.link(change, 0, 1, 0);
 }
 
-/// Makes a source and a sink, links them and opens the port between them.
+/// Makes two nodes of which the first leads to the second, links them and opens the port between them.
 pub(crate) fn open_two(
     gates: &Gates,
     change: &mut ChangeSeat,
@@ -123,11 +133,13 @@ pub(crate) fn open_two(
     second: &Node,
 ) -> Result<(Seated, Seated), Unfit>
     requires here { change.old.seat.table_id ≡ gates.now.words.shared.table_id }
-    requires kinds { (first.now.kind ≡ kind.Source) × (second.now.kind ≡ kind.Sink) }
+    requires kinds { LeadsTo first.now.kind second.now.kind }
     requires fresh { (change_of change.old.seat.me.0).entries ≡ [] }
     ensures here { change.new.seat.table_id ≡ change.old.seat.table_id }
     ensures seats { IfOk result (λ r. (r.0.seat.seat.table_id ≡ change.old.seat.table_id)
         × (r.1.seat.seat.table_id ≡ change.old.seat.table_id)) }
+    ensures fresh { IfOk result (λ r. DidNothing (node_of r.0.seat.seat.me.0)
+        × DidNothing (node_of r.1.seat.seat.me.0)) }
     ensures opened { IfOk result (λ _. (n : ℕ) × (m : ℕ)
         × ((change_of change.new.seat.me.0).entries ≡ opened_two n m first.now second.now)) }
 {

@@ -19,7 +19,7 @@ const TIMES: u32 = 100_000;
 
 /// Closes the port, looks at it and opens it again until the source has done all. Returns how often that was. It
 /// yields, so that all go on where there is one processor.
-fn turn<R: Wait>(
+fn close_and_open<R: Wait>(
     rt: &R,
     gates: &Gates,
     change: &mut ChangeSeat,
@@ -28,18 +28,18 @@ fn turn<R: Wait>(
     requires here { change.old.seat.table_id ≡ gates.now.words.shared.table_id }
     ensures here { change.new.seat.table_id ≡ change.old.seat.table_id }
 {
-    let mut turns = 0_u32;
+    let mut times = 0_u32;
     for _ in rt.forever() {
         close(gates, change, 0)?;
         look(gates, change, 0)?;
         reopen(gates, change, 0)?;
-        turns = turns.wrapping_add(1);
+        times = times.wrapping_add(1);
         if done.load(Ordering::SeqCst) {
             break;
         }
         thread::yield_now();
     }
-    Ok(turns)
+    Ok(times)
 }
 
 /// The source makes all its transactions, and tells that it did.
@@ -109,8 +109,8 @@ fn all_at_once<R: Threads + Wait + Sync>(
                     requires { change.seat.table_id ≡ gates.now.words.shared.table_id }
                     ensures { result.0.seat.table_id ≡ gates.entry.now.words.shared.table_id }
                 {
-                    let turns = turn(rt, gates, &mut change, flag);
-                    (change, turns)
+                    let times = close_and_open(rt, gates, &mut change, flag);
+                    (change, times)
                 },
             )
         },
@@ -125,7 +125,7 @@ fn three_threads(rt: HostRuntime) -> Result<(), Fail> {
     let (gates, mut change) = Gates::new(rt.alloc())?;
     gates.reserve(&mut change, 2)?;
     let (source, sink) = pipe(rt.alloc(), &gates, &mut change)?;
-    let ((source, got), (sink, took), (mut change, turns)) = all_at_once(
+    let ((source, got), (sink, took), (mut change, times)) = all_at_once(
         &rt, &gates, source, sink, change,
     );
     assert_eq!(rt;
@@ -142,7 +142,7 @@ fn three_threads(rt: HostRuntime) -> Result<(), Fail> {
             sum: 5_000_050_000
         }
     );
-    assert!(rt; turns? > 0);
+    assert!(rt; times? > 0);
     close(&gates, &mut change, 0)?;
     let drained = Look::Drained {
         serial: TIMES,

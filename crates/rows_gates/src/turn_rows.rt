@@ -1,0 +1,155 @@
+//! A row of turns: a source and the sink that it leads to take turns at the gates until neither moves.
+
+ghost use Rattle.std.specs.Prelude.{◌≡◌, ◌≤◌, IfOk};
+ghost use Rattle.gate_rule.specs.Views as views;
+ghost use Rattle.gate_rule.specs.Views.{node_at};
+ghost use Rattle.node_host.specs.Hosted.{node_of};
+ghost use Rattle.rows_gates.specs.Made.{DidNothing};
+
+use crate::seated::Seated;
+use crate::systems::{node, open_two};
+use component_trait::{Component, VALUE_LIMIT};
+use config_graph::{Kind, NoMemory};
+use gate_turns::turn_at_gates;
+use node_host::{HostNode, Turn};
+use port_queue::PlainHints;
+use quiesce_core::Event;
+use state_handover::{AnyNode, make};
+use std::alloc::Global;
+use std::process::Abort;
+use std::test::Fail;
+use txn_gate::{Gates, NodeSeat};
+
+type Host = HostNode<AnyNode, NodeSeat>;
+
+/// A node that did nothing, with its component.
+fn hosted(rt: &impl Abort, alloc: Global, seated: Seated, arg: Option<u32>) -> Host
+    requires fresh { DidNothing (views.node_of seated.seat.seat.me.0) }
+    ensures here { result.seat.seat.table_id ≡ seated.seat.seat.table_id }
+    ensures node { node_at (views.node_of result.seat.seat.me.0) ≡ node_of result.slot result.first_port
+        (⟦<AnyNode as Component>⟧.state result.inner) }
+{
+    let Seated { kind, seat } = seated;
+    assert_eq!(rt; arg.is_some(), kind.has_arg());
+    assert!(rt; arg.is_none_or(|arg| arg < VALUE_LIMIT));
+    let (slot, first_port) = (seat.slot, seat.first_port);
+    let inner = make(alloc, kind, arg);
+    HostNode::host(alloc, slot, first_port, inner, seat, Vec::new(alloc))
+}
+
+/// Each of two nodes takes a turn; the answer says whether one of them moved.
+fn round(
+    gates: &Gates,
+    hints: &mut PlainHints,
+    a: &mut Host,
+    b: &mut Host,
+) -> Result<bool, NoMemory>
+    requires here_a { a.old.seat.seat.table_id ≡ gates.now.words.shared.table_id }
+    requires node_a { node_at (views.node_of a.old.seat.seat.me.0) ≡ node_of a.old.slot a.old.first_port
+        (⟦<AnyNode as Component>⟧.state a.old.inner) }
+    requires here_b { b.old.seat.seat.table_id ≡ gates.now.words.shared.table_id }
+    requires node_b { node_at (views.node_of b.old.seat.seat.me.0) ≡ node_of b.old.slot b.old.first_port
+        (⟦<AnyNode as Component>⟧.state b.old.inner) }
+    ensures here_a { a.new.seat.seat.table_id ≡ a.old.seat.seat.table_id }
+    ensures node_a { node_at (views.node_of a.new.seat.seat.me.0) ≡ node_of a.new.slot a.new.first_port
+        (⟦<AnyNode as Component>⟧.state a.new.inner) }
+    ensures here_b { b.new.seat.seat.table_id ≡ b.old.seat.seat.table_id }
+    ensures node_b { node_at (views.node_of b.new.seat.seat.me.0) ≡ node_of b.new.slot b.new.first_port
+        (⟦<AnyNode as Component>⟧.state b.new.inner) }
+{
+    let first = turn_at_gates(a, gates, hints, true)?;
+    let second = turn_at_gates(b, gates, hints, true)?;
+    Ok(matches!(first, Turn::Moved(_)) || matches!(second, Turn::Moved(_)))
+}
+
+/// Rounds, so many at most, until one in which neither moves. The answer is the number of those in which one moved.
+fn rounds(
+    gates: &Gates,
+    hints: &mut PlainHints,
+    a: &mut Host,
+    b: &mut Host,
+    most: u32,
+) -> Result<u32, NoMemory>
+    requires here_a { a.old.seat.seat.table_id ≡ gates.now.words.shared.table_id }
+    requires node_a { node_at (views.node_of a.old.seat.seat.me.0) ≡ node_of a.old.slot a.old.first_port
+        (⟦<AnyNode as Component>⟧.state a.old.inner) }
+    requires here_b { b.old.seat.seat.table_id ≡ gates.now.words.shared.table_id }
+    requires node_b { node_at (views.node_of b.old.seat.seat.me.0) ≡ node_of b.old.slot b.old.first_port
+        (⟦<AnyNode as Component>⟧.state b.old.inner) }
+    ensures few { IfOk result (λ n. n ≤ most) }
+{
+    if most == 0 || !round(gates, hints, a, b)? {
+        return Ok(0);
+    }
+    let later = rounds(gates, hints, a, b, most - 1)?;
+    Ok(later + 1)
+}
+
+/// The two have sent the numbers 1 and 2 and got them, each in a transaction that was accepted.
+fn logs_are_so(rt: &impl Abort, source: &[Event], sink: &[Event]) {
+    let (port, value) = (0, 1);
+    let sent = [
+        Event::Begin {
+            port,
+            serial: 1,
+            value: 1,
+        },
+        Event::End {
+            port,
+            serial: 1,
+            value,
+        },
+        Event::Begin {
+            port,
+            serial: 2,
+            value: 2,
+        },
+        Event::End {
+            port,
+            serial: 2,
+            value,
+        },
+    ];
+    let got = [
+        Event::Take {
+            port,
+            serial: 1,
+            value: 1,
+        },
+        Event::Give {
+            port,
+            serial: 1,
+            value,
+        },
+        Event::Take {
+            port,
+            serial: 2,
+            value: 2,
+        },
+        Event::Give {
+            port,
+            serial: 2,
+            value,
+        },
+    ];
+    assert!(rt; source == sent.as_slice());
+    assert!(rt; sink == got.as_slice());
+}
+
+#[test]
+fn nodes_take_turns_to_rest(rt: HostRuntime) -> Result<(), Fail> {
+    let alloc = rt.alloc();
+    let source = node(alloc, b"s", Kind::Source, Some(2))?;
+    let sink = node(alloc, b"t", Kind::Sink, None)?;
+    let (gates, mut change) = Gates::new(alloc)?;
+    gates.reserve(&mut change, 2)?;
+    let mut hints = PlainHints::new(alloc)?;
+    let (source, sink) = open_two(&gates, &mut change, &source, &sink)?;
+    let mut source = hosted(&rt, alloc, source, Some(2));
+    let mut sink = hosted(&rt, alloc, sink, None);
+    let moved = rounds(&gates, &mut hints, &mut source, &mut sink, 64)?;
+    assert_eq!(rt; moved, 6);
+    assert!(rt; source.done() && sink.done());
+    logs_are_so(&rt, source.log(), sink.log());
+    Ok(())
+}
