@@ -8,7 +8,7 @@ use Rattle.command_words.specs.declared.words.Command.TheVariants as commands
 use Rattle.command_words.specs.declared.words.TopCall.{TopCall}
 use Rattle.big_files.specs.BigFiles.{made_files, script_name}
 use Rattle.command_runs.specs.Outcomes as outcomes
-use Rattle.command_runs.specs.Outcomes.{Flattened, Planned, Replayed, Upgraded, IsRunStatus, NothingRefuses, EndsAsGiven, NothingRefusesLines, EndsAsRun, Wants}
+use Rattle.command_runs.specs.Outcomes.{Flattened, Planned, Replayed, Upgraded, IsRunStatus, NothingRefuses, EndsAsGiven, NothingRefusesReport, Ends, NothingRefusesLines, EndsAsRun, Wants}
 use Rattle.command_runs.specs.Runs.{Runs}
 use Rattle.command_runs.specs.declared.query.Query.{Query}
 use Rattle.command_runs.proofs.Flattening as flattening
@@ -55,6 +55,11 @@ module _ (words : List (List ℕ)) (files : Option Files) (failures failures' : 
       (told : Files) → files ≡ Some told → failures' ≡ failures → (file : List ℕ) (query : Query) → Wants (Some told) words file query
       → NothingRefuses query (told file) → EndsAsGiven query (told file) result
   completes told telling steady = flattening.completes words files failures failures' taken taken' faults faults' result (ran words files failures failures' taken taken' faults faults' result run) told telling steady
+
+  pub completes_report :
+      (told : Files) → files ≡ Some told → failures' ≡ failures → (file : List ℕ) → Asks words (commands.Upgrade file)
+      → NothingRefusesReport (told file) → Ends result status.Ok
+  completes_report told telling steady = flattening.completes_report words files failures failures' taken taken' faults faults' result (ran words files failures failures' taken taken' faults faults' result run) told telling steady
 
   pub completes_script :
       (told : Files) → files ≡ Some told → failures' ≡ failures → (name : List ℕ) → Asks words (commands.Step name)

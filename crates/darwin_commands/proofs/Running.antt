@@ -4,7 +4,7 @@ use Rattle.cfg_io.specs.Shelf.{Files}
 use Rattle.change_script.specs.declared.event_files.EventFile.{EventFile}
 use Rattle.change_script.specs.EventFiles.{IsEventFile}
 use Rattle.command_answers.specs.Answers as values
-use Rattle.command_answers.specs.Answers.{ShowsAnswer, refusal, status_of, text_of}
+use Rattle.command_answers.specs.Answers.{refusal, status_of, text_of}
 use Rattle.command_answers.specs.declared.status.Status.{Status}
 use Rattle.command_words.specs.declared.words.Command.{Command}
 use Rattle.command_words.specs.declared.words.Command.TheVariants as commands

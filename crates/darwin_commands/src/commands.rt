@@ -8,7 +8,8 @@ ghost use Rattle.command_words.specs.CommandLine.{Asks};
 ghost use Rattle.command_words.specs.declared.words.Command.TheVariants as commands;
 ghost use Rattle.command_words.specs.declared.words.TopCall.{TopCall};
 ghost use Rattle.command_runs.specs.Outcomes.{Flattened, Planned, Replayed, Upgraded, NothingRefuses, EndsAsGiven, Wants};
-ghost use Rattle.command_runs.specs.Outcomes.{EndsAsRun, IsRunStatus, NothingRefusesLines, Ran, SummedUp};
+ghost use Rattle.command_runs.specs.Outcomes.{Ends, EndsAsRun, IsRunStatus, NothingRefusesLines, Ran, SummedUp};
+ghost use Rattle.command_runs.specs.Outcomes.{NothingRefusesReport};
 ghost use Rattle.command_runs.specs.Runs.{Runs};
 ghost use Rattle.command_runs.specs.declared.query.Query.{Query};
 ghost use Rattle.darwin_commands.specs.Naming.{AskForNoFile};
@@ -61,6 +62,11 @@ pub fn still<H: Shelf, K: Sink>(
         → Wants (Some files) (map string_bytes words.now) file query
         → H.files shelf.old ≡ Some files → H.failed shelf.new ≡ H.failed shelf.old → NothingRefuses query (files file)
         → EndsAsGiven query (files file) result }
+    // Where the file holds a report that nothing refuses, the run ends with Ok.
+    ensures complete_report { (file : List ℕ) (files : Files)
+        → Asks (map string_bytes words.now) (commands.Upgrade file)
+        → H.files shelf.old ≡ Some files → H.failed shelf.new ≡ H.failed shelf.old → NothingRefusesReport (files file)
+        → Ends result Status.Ok }
     // Where nothing refuses the script and its lines, it is run.
     ensures complete_script { (name : List ℕ) (files : Files) → Asks (map string_bytes words.now) (commands.Step name)
         → H.files shelf.old ≡ Some files → H.failed shelf.new ≡ H.failed shelf.old

@@ -4,7 +4,7 @@ use Rattle.std.specs.List.{AllByRecursion}
 use Rattle.std.proofs.lemmas.List.{append-nil}
 use Rattle.std.proofs.lemmas.Grind.{flat_map-append}
 use Rattle.cfg_io.specs.Shelf.{Files}
-use Rattle.command_answers.specs.Answers.{ShowsAnswer, no_memory, refusal}
+use Rattle.command_answers.specs.Answers.{no_memory, refusal}
 use Rattle.command_answers.specs.Answers as values
 use Rattle.command_runs.specs.Courses.{not_fetched, not_judged}
 use Rattle.command_runs.specs.Fetches.{Fetch, Gave, failed_name, failed_names, fetch_of}

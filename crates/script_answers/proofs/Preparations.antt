@@ -8,7 +8,7 @@ use Rattle.change_law.specs.Statements.{Statement}
 use Rattle.change_script.specs.ScriptFiles.{IsScript}
 use Rattle.change_script.specs.declared.script.Script.{Script}
 use Rattle.command_answers.specs.Answers as values
-use Rattle.command_answers.specs.Answers.{ShowsAnswer, no_memory, refusal}
+use Rattle.command_answers.specs.Answers.{no_memory, refusal}
 use Rattle.command_runs.specs.Commands.{course_of}
 use Rattle.command_runs.specs.Courses.{gives, not_judged}
 use Rattle.command_runs.specs.Fetches.{Gave, failed_name, failed_names, fetch_of}

@@ -2,7 +2,7 @@
 
 ghost use Rattle.std.specs.Prelude.{◌≡◌, ℕ, List, IfOk, IsSome};
 ghost use Rattle.change_script.specs.ScriptFiles.{IsScript};
-ghost use Rattle.command_runs.specs.Lines.{Progress, begun, running, FollowsLines};
+ghost use Rattle.command_runs.specs.Lines.{begun, running, FollowsLines};
 ghost use Rattle.command_runs.specs.Scripts.{lines_of_script};
 ghost use Rattle.script_answers.specs.Preparing.{CanRun, IsAskedBy, Prepares, PreparesIn, RefusesRun};
 

@@ -1,6 +1,6 @@
 -- What was prepared of the made script is run, or refuses it.
 use Rattle.std.proofs.lemmas.Result.{err_from_is_err_and}
-use Rattle.darwin_commands.proofs.ScriptRuns.{big_asked, big_refused, not_made}
+use Rattle.darwin_commands.proofs.ScriptRuns.{big_asked, not_made}
 use Rattle.darwin_commands.proofs.answering.answer_big.Goals as goal
 
 pub returns-in_err-made : goal.returns-in_err-made

@@ -16,6 +16,7 @@ returns g c =
       summed = laws.sums_up _ _ _ _ _ _ _ _ _ run;
       denied = laws.denies _ _ _ _ _ _ _ _ _ run;
       complete = λ file query files wants telling steady. laws.completes _ _ _ _ _ _ _ _ _ run files telling steady file query wants;
+      complete_report = λ file files asks telling steady. laws.completes_report _ _ _ _ _ _ _ _ _ run files telling steady file asks;
       complete_big = c.made_runs_are_not_refused.ensures _ _ _ _ _ _ _ _ _ run;
       untouched = c.run_words.ensures.untouched;
       complete_script = λ name files asks telling steady. laws.completes_script _ _ _ _ _ _ _ _ _ run files telling steady name asks;
