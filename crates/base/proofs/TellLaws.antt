@@ -27,6 +27,3 @@ any_or_none {A = A} P (x ∷ xs) tell = by (tell x (0, omega arith, refl)) (any_
         neither : (y : A) → Contains (x ∷ xs) y → P y → ⊥
         neither y (zero, low, at) has = lacks (subst P (sym at) has)
         neither y (suc k, low, at) has = none y (k, omega (arith, low), at) has
-
-pub tell_any : {A : Type 0} (P : A → Type 0) (xs : List A) → ((x : A) → Contains xs x → CanTell (P x)) → CanTell ((x : A) × Contains xs x × P x)
-tell_any P xs tell = elim (any_or_none P xs tell) [ inl w ↦ inl w | inr none ↦ inr (λ w. none w.0 w.1 w.2) ]

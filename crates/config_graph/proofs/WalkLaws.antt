@@ -101,6 +101,3 @@ module _ (Step : ℕ → ℕ → Type 0) where
           absurd (both_ways (walks (suc size) i) (short i) (sym (ap (λ n. walks (suc n) i) same) ∙ longer)))
           (cases_lt (height size j) size);
     }
-
-    pub acyclic_iff_ranked : IsAcyclic Step ↔ Ranks Step
-    acyclic_iff_ranked = (λ acyclic. ranked_if_short (short_if_acyclic acyclic), acyclic_if_ranked)
