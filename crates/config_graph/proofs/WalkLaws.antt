@@ -1,6 +1,6 @@
 -- Walks, ranks, and that finitely many nodes without a closed walk have ranks.
 use Rattle.std.proofs.Common.{◌≡◌, ℕ, zero, suc, ◌+◌, ◌<◌, ◌≤◌, Bool, true, false, cond, eqb, ◌||◌, refl, sym, ap, ◌∙◌, subst, inl, inr, ⊎_elim, arith}
-use Rattle.std.specs.Prelude.{◌↔◌, ◌⊎◌}
+use Rattle.std.specs.Prelude.{◌⊎◌}
 use Rattle.std.proofs.lemmas.Bool.{both_ways, cases_Bool, cases_lt, false_from_ne_true, eqb-true, eq-eqb, or_cases, or_left, or_right}
 use Rattle.base.proofs.RangeLaws.{count_in, count_in-le, count_in_rises}
 use Rattle.config_graph.specs.Walks.{Walk, step, onward, IsAcyclic, Ranks}

@@ -85,8 +85,8 @@ fn rounds(
     Ok(later + 1)
 }
 
-/// The two have sent the numbers 1 and 2 and got them, each in a transaction that was accepted.
-fn logs_are_so(rt: &impl Abort, source: &[Event], sink: &[Event]) {
+/// The source has sent the numbers 1 and 2, each in a transaction that was accepted.
+fn sent_is_so(rt: &impl Abort, log: &[Event]) {
     let (port, value) = (0, 1);
     let sent = [
         Event::Begin {
@@ -110,6 +110,12 @@ fn logs_are_so(rt: &impl Abort, source: &[Event], sink: &[Event]) {
             value,
         },
     ];
+    assert!(rt; log == sent.as_slice());
+}
+
+/// The sink has got them.
+fn got_is_so(rt: &impl Abort, log: &[Event]) {
+    let (port, value) = (0, 1);
     let got = [
         Event::Take {
             port,
@@ -132,8 +138,7 @@ fn logs_are_so(rt: &impl Abort, source: &[Event], sink: &[Event]) {
             value,
         },
     ];
-    assert!(rt; source == sent.as_slice());
-    assert!(rt; sink == got.as_slice());
+    assert!(rt; log == got.as_slice());
 }
 
 #[test]
@@ -150,6 +155,7 @@ fn nodes_take_turns_to_rest(rt: HostRuntime) -> Result<(), Fail> {
     let moved = rounds(&gates, &mut hints, &mut source, &mut sink, 64)?;
     assert_eq!(rt; moved, 6);
     assert!(rt; source.done() && sink.done());
-    logs_are_so(&rt, source.log(), sink.log());
+    sent_is_so(&rt, source.log());
+    got_is_so(&rt, sink.log());
     Ok(())
 }
