@@ -4,7 +4,7 @@ ghost use Rattle.std.specs.Prelude.{◌≡◌, ◌⊎◌, IfOk};
 
 use base::{NoMemory, Text};
 use config_graph::{
-    Graph, Kind, Link, Node, Port, Target, first_on_cycle, graph_text, kind_of, same,
+    Graph, Kind, Link, Node, Port, Target, first_on_cycle, graph_text, has_cycle, kind_of, same,
 };
 use std::alloc::Global;
 use std::test::Fail;
@@ -162,7 +162,9 @@ fn three_nodes_have_their_text(rt: HostRuntime) -> Result<(), Fail> {
 fn a_map_in_a_circle_is_on_a_cycle_and_a_buffer_is_not(rt: HostRuntime) -> Result<(), Fail> {
     let map = linked_to_itself(rt.alloc(), Kind::Map)?;
     assert_eq!(rt; first_on_cycle(rt.alloc(), &map)?, Some(0));
+    assert!(rt; has_cycle(rt.alloc(), &map)?);
     let buffer = linked_to_itself(rt.alloc(), Kind::Buffer)?;
     assert_eq!(rt; first_on_cycle(rt.alloc(), &buffer)?, None);
+    assert!(rt; !has_cycle(rt.alloc(), &buffer)?);
     Ok(())
 }
