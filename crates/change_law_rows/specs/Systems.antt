@@ -21,6 +21,7 @@ abbrev pub one_or_none : ℕ → Graph
 one_or_none zero = record { nodes = []; links = [] }
 one_or_none (suc n) = record { nodes = sink_t ∷ []; links = [] }
 
+-- a sink
 abbrev pub one : Graph
 one = one_or_none 1
 

@@ -181,13 +181,13 @@ pub described_in_part : (file : List ℕ) (query : Query) (what : Fetched) → c
 described_in_part file query what = fetched_alone what
 
 -- what is answered of a file of events that isn't one
-pub script_refused :
+pub events_refused :
     (file name : List ℕ) (what : Fetched) (own : Status) (text : List ℕ) → EventsAnswers name what own text
     → ShowsAnswer (course_of (commands.Replay file name) (fetch_of name what ∷ [])) own text
-script_refused file name _ _ _ cannot_read_events = record { answer = refusal (read_fault name); is = failed; has_status = refl; has_text = refl }
-script_refused file name _ _ _ events_file_too_long =
+events_refused file name _ _ _ cannot_read_events = record { answer = refusal (read_fault name); is = failed; has_status = refl; has_text = refl }
+events_refused file name _ _ _ events_file_too_long =
     record { answer = refusal (script name (codes "TooLong" ∷ [])); is = too_long; has_status = refl; has_text = refl }
-script_refused file name _ _ _ (events_file_at_fault bytes fault first) =
+events_refused file name _ _ _ (events_file_at_fault bytes fault first) =
     let words = script_words fault in
     let what = refusal (script name words) in
     record { answer = what; is = leads_on bytes [] what (refused words (fault, first, refl)); has_status = refl; has_text = refl }
@@ -206,13 +206,13 @@ pub script_unread : (file name : List ℕ) (what : Fetched) → course_of (comma
 script_unread file name what = fetched_alone what
 
 -- what is answered of a script that isn't one
-pub statements_refused :
+pub script_refused :
     (name : List ℕ) (what : Fetched) (own : Status) (text : List ℕ) → ScriptAnswers name what own text
     → ShowsAnswer (course_of (commands.Step name) (fetch_of name what ∷ [])) own text
-statements_refused name _ _ _ cannot_read_script = record { answer = refusal (read_fault name); is = failed; has_status = refl; has_text = refl }
-statements_refused name _ _ _ script_file_too_long =
+script_refused name _ _ _ cannot_read_script = record { answer = refusal (read_fault name); is = failed; has_status = refl; has_text = refl }
+script_refused name _ _ _ script_file_too_long =
     record { answer = refusal (script name (codes "TooLong" ∷ [])); is = too_long; has_status = refl; has_text = refl }
-statements_refused name _ _ _ (script_file_at_fault bytes fault first) =
+script_refused name _ _ _ (script_file_at_fault bytes fault first) =
     let words = script_words fault in
     let what = refusal (script name words) in
     record { answer = what; is = leads_on bytes [] what (refused words (fault, first, refl)); has_status = refl; has_text = refl }

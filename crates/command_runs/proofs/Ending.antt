@@ -66,12 +66,12 @@ script_fault name _ _ _ cannot_read_events is = (refl, refl)
 script_fault name _ _ _ events_file_too_long is = cc
 script_fault name _ _ _ (events_file_at_fault bytes fault first) is = cc
 
-script_failed :
+events_failed :
     (name : List ℕ) (given : Fetched) (own : Status) (text : List ℕ) → EventsAnswers name given own text
     → failed_names (fetch_of name given ∷ []) ≢ [] → own ≡ status.ReadFault
-script_failed name _ _ _ cannot_read_events some = refl
-script_failed name _ _ _ events_file_too_long some = absurd (some refl)
-script_failed name _ _ _ (events_file_at_fault bytes fault first) some = absurd (some refl)
+events_failed name _ _ _ cannot_read_events some = refl
+events_failed name _ _ _ events_file_too_long some = absurd (some refl)
+events_failed name _ _ _ (events_file_at_fault bytes fault first) some = absurd (some refl)
 
 report_fault :
     (name : List ℕ) (given : Fetched) (own : Status) (text : List ℕ) → ReportAnswers name given own text
@@ -132,7 +132,7 @@ any_failed files (commands.Flat file call) fetches own text answer told some =
 any_failed files (commands.Plan file call target) fetches own text answer told some =
     description_failed file (queries.Plan call target) answer.given own text answer.answer (λ none. some (ap failed_names answer.is ∙ none))
 any_failed files (commands.Replay file name) fetches own text (inl answer) told some =
-    script_failed name answer.given own text answer.answer (λ none. some (ap failed_names answer.is ∙ none))
+    events_failed name answer.given own text answer.answer (λ none. some (ap failed_names answer.is ∙ none))
 any_failed files (commands.Replay file name) fetches own text (inr answer) told some =
     description_failed file (queries.Replay answer.events_file) answer.given own text answer.answer (λ none. some (ap failed_names answer.is ∙ none))
 any_failed files (commands.Upgrade file) fetches own text answer told some =

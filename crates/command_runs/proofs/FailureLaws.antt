@@ -14,7 +14,7 @@ use Rattle.command_words.specs.declared.words.Command.TheVariants as commands
 use Rattle.command_runs.specs.declared.fetched.Fetched.TheVariants.{Held, TooLong, Failed}
 use Rattle.command_runs.specs.declared.query.Query.{Query}
 use Rattle.command_runs.specs.declared.query.Query.TheVariants as queries
-use Rattle.command_runs.specs.Commands.{RefusesEvents, RefusesReport, RefusesStatements, TellsReport, calls_of, course_of_query, in_summary, OfMadeFiles}
+use Rattle.command_runs.specs.Commands.{RefusesEvents, RefusesReport, RefusesScript, TellsReport, calls_of, course_of_query, in_summary, OfMadeFiles}
 use Rattle.command_runs.specs.Courses.{FetchCourse, SaysAlone, AfterFetch, not_fetched, fetched_alone, failed, too_long, leads_on, After, not_judged, refused, gives}
 use Rattle.command_runs.specs.Descriptions.{IsTextRefusal, IsChecked}
 use Rattle.command_runs.specs.Failures.{Uses, FailsLast}
@@ -190,8 +190,8 @@ of_words words _ _ (asked (commands.Big lanes) fetches answer asks course) = inl
 of_words words _ _ (asked (commands.Step name) fetches answer asks course) =
     let Named = NamesFile (WasHeld fetches) words in
     let refuse = λ (ws : List (List ℕ)). refusal (script name ws) in
-    let Then = λ (bytes : List ℕ). After (RefusesStatements bytes) refuse (IsScript bytes) (λ lines. FollowsLines running begun (lines_of_script lines.lines)) in
+    let Then = λ (bytes : List ℕ). After (RefusesScript bytes) refuse (IsScript bytes) (λ lines. FollowsLines running begun (lines_of_script lines.lines)) in
     of_fetch Named name file_limit refuse Then fetches answer (commands.Step name, asks, inl refl) (other_script Named name)
-    (λ bytes fs a here then_. of_step Named (RefusesStatements bytes) refuse (IsScript bytes) (λ lines. FollowsLines running begun (lines_of_script lines.lines)) fs a (other_script Named name)
+    (λ bytes fs a here then_. of_step Named (RefusesScript bytes) refuse (IsScript bytes) (λ lines. FollowsLines running begun (lines_of_script lines.lines)) fs a (other_script Named name)
     (λ lines gs b is rest. of_lines Named running begun (lines_of_script lines.lines) gs b
     (λ file used. (commands.Step name, asks, inr (bytes, lines, held name bytes fetches fs here, is, used))) rest) then_) course

@@ -419,9 +419,9 @@ module _ (words : List (List ℕ)) (files : Option Files) (failures failures' : 
           let each = subst (AllByRecursion (Gave files)) answer.is told in
           inr (inl (file, asks, of_report_refusal files taken taken' file answer.given own text answer.answer is each.0 took))
       of (commands.Step name) fetches own text asks answer is told took =
-          inr (inr (inl (name, asks, ending.statements_refused report_text files name fetches taken taken' own text (script_ends report_text files name fetches own text answer told) is took)))
+          inr (inr (inl (name, asks, ending.script_refused report_text files name fetches taken taken' own text (script_ends report_text files name fetches own text answer told) is took)))
       of (commands.Big lanes) fetches own text asks answer is told took =
-          inr (inr (inr (lanes, asks, ending.statements_refused (summary_text lanes) (Some (made_files lanes)) script_name answer.within taken taken' own text (big_ends lanes fetches own text answer) is took)))
+          inr (inr (inr (lanes, asks, ending.script_refused (summary_text lanes) (Some (made_files lanes)) script_name answer.within taken taken' own text (big_ends lanes fetches own text answer) is took)))
 
       own : (fetches : List Fetch) (s : Status) (text : List ℕ) → AnswersCommand words fetches s text → s ≡ status.Script → AllByRecursion (Gave files) fetches
           → taken' ≡ with_bytes taken text → RefusesFile words files taken taken'
@@ -467,29 +467,29 @@ module _ (words : List (List ℕ)) (files : Option Files) (failures failures' : 
     described file query Due of_answer fetches own text d none each =
         of_answer d.given own text d.answer (sym (ap failed_names d.is) ∙ none) ((subst (AllByRecursion (Gave (Some f))) d.is each).0)
 
-    script_is_one :
+    events_are_one :
         (name bytes : List ℕ) (file : EventFile) (given : Fetched) (own : Status) (text : List ℕ) → f name ≡ Some bytes → length bytes ≤ file_limit → IsEventFile bytes file
         → EventsAnswers name given own text → failed_names (fetch_of name given ∷ []) ≡ [] → Gave (Some f) (fetch_of name given) → ⊥
-    script_is_one name bytes file _ _ _ is within is_file cannot_read_events none gave = unread_script name none
-    script_is_one name bytes file _ _ _ is within is_file events_file_too_long none gave = within_not_long (f name) bytes is within gave.1
-    script_is_one name bytes file _ _ _ is within is_file (events_file_at_fault other fault first) none gave =
+    events_are_one name bytes file _ _ _ is within is_file cannot_read_events none gave = unread_script name none
+    events_are_one name bytes file _ _ _ is within is_file events_file_too_long none gave = within_not_long (f name) bytes is within gave.1
+    events_are_one name bytes file _ _ _ is within is_file (events_file_at_fault other fault first) none gave =
         scripts.never_both bytes file fault is_file (subst (λ b. IsFirstFault b fault) (same_content (f name) other bytes gave.1 is) first)
 
     -- the same of a file of events, which the shelf tells
-    of_script :
+    of_events :
         (file name bytes : List ℕ) (events_file : EventFile) (Due : Status → Type 0) → f name ≡ Some bytes → length bytes ≤ file_limit → IsEventFile bytes events_file
         → ((given : Fetched) (own : Status) (text : List ℕ) → DescriptionAnswers file (queries.Replay events_file) given own text → failed_names (fetch_of file given ∷ []) ≡ []
         → Gave (Some f) (fetch_of file given) → Due own)
         → (fetches : List Fetch) (own : Status) (text : List ℕ) → OfScript name fetches own text ⊎ OfReplay file name fetches own text → failed_names fetches ≡ []
         → AllByRecursion (Gave (Some f)) fetches → Due own
-    of_script file name bytes events_file Due is within is_file of_answer fetches own text (inl s) none each =
-        absurd (script_is_one name bytes events_file s.given own text is within is_file s.answer (sym (ap failed_names s.is) ∙ none)
+    of_events file name bytes events_file Due is within is_file of_answer fetches own text (inl s) none each =
+        absurd (events_are_one name bytes events_file s.given own text is within is_file s.answer (sym (ap failed_names s.is) ∙ none)
         ((subst (AllByRecursion (Gave (Some f))) s.is each).0))
-    of_script file name bytes events_file Due is within is_file of_answer fetches own text (inr r) none each =
+    of_events file name bytes events_file Due is within is_file of_answer fetches own text (inr r) none each =
         let gave = subst (AllByRecursion (Gave (Some f))) r.is each in
         let same_bytes = same_content (f name) r.bytes bytes gave.0.1 is in
-        let same_script = scripts.one_file bytes r.events_file events_file (subst (λ b. IsEventFile b r.events_file) same_bytes r.is_event_file) is_file in
-        of_answer r.given own text (subst (λ t. DescriptionAnswers file (queries.Replay t) r.given own text) same_script r.answer)
+        let same_events = scripts.one_file bytes r.events_file events_file (subst (λ b. IsEventFile b r.events_file) same_bytes r.is_event_file) is_file in
+        of_answer r.given own text (subst (λ t. DescriptionAnswers file (queries.Replay t) r.given own text) same_events r.answer)
         (sym (ap failed_names r.is) ∙ none) gave.1.0
 
     -- whatever is wanted
@@ -506,7 +506,7 @@ module _ (words : List (List ℕ)) (files : Option Files) (failures failures' : 
         (λ answer. described file (queries.Plan call target) (λ s. s ≡ due) of_answer run.fetches run.own run.text answer none_failed told)
     wanted_ends file (queries.Replay events_file) due wants of_answer =
         ends (commands.Replay file wants.0) due wants.2
-        (λ answer. of_script file wants.0 wants.1 events_file (λ s. s ≡ due) wants.3 wants.4 wants.5 of_answer run.fetches run.own run.text answer none_failed told)
+        (λ answer. of_events file wants.0 wants.1 events_file (λ s. s ≡ due) wants.3 wants.4 wants.5 of_answer run.fetches run.own run.text answer none_failed told)
 
     pub must_refuse : (file : List ℕ) (query : Query) → Wants (Some f) words file query → MustRefuse query (f file) → Ends result status.Description
     must_refuse file query wants must = wanted_ends file query status.Description wants of_answer
@@ -626,7 +626,7 @@ module _ (words : List (List ℕ)) (files : Option Files) (failures failures' : 
         (λ answer. described file (queries.Plan call target) (AsGiven file (queries.Plan call target)) (completes_with file (queries.Plan call target) nothing) run.fetches run.own run.text answer none_failed told)
     completes file (queries.Replay events_file) wants nothing =
         given_end file (queries.Replay events_file) (commands.Replay file wants.0) wants.2
-        (λ answer. of_script file wants.0 wants.1 events_file (AsGiven file (queries.Replay events_file)) wants.3 wants.4 wants.5 (completes_with file (queries.Replay events_file) nothing)
+        (λ answer. of_events file wants.0 wants.1 events_file (AsGiven file (queries.Replay events_file)) wants.3 wants.4 wants.5 (completes_with file (queries.Replay events_file) nothing)
         run.fetches run.own run.text answer none_failed told)
 
     -- ---- clauses of one command

@@ -123,7 +123,7 @@ shown_text show (values.summary lanes r) = text_of (values.summary lanes r)
 
 -- an answer of a script: it isn't one, or its lines have an answer that isn't for want of memory
 pub data OfStep (show : Report → List ℕ) (name : List ℕ) : List Fetch → Status → List ℕ → Type 0 where
-  of_statements :
+  of_script :
       (given : Fetched) (own : Status) (text : List ℕ) → ScriptAnswers name given own text → OfStep show name (fetch_of name given ∷ []) own text
   of_lines :
       (bytes : List ℕ) (parsed : Script) (fetches : List Fetch) (answer : values.Answer) → IsScript bytes parsed
@@ -155,11 +155,11 @@ module _ (show : Report → List ℕ) (name : List ℕ) where
       → OfStep show name fetches (status_of answer) (shown_text show answer) ⊎ (answer ≡ refusal values.no_memory)
   from_script _ _ not_fetched = inr refl
   from_script _ _ (fetched_alone what) = inr refl
-  from_script _ _ failed = inl (of_statements Failed status.ReadFault (read_fault_line name) cannot_read_script)
-  from_script _ _ too_long = inl (of_statements TooLong status.Script (script_line name (codes "TooLong" ∷ [])) script_file_too_long)
+  from_script _ _ failed = inl (of_script Failed status.ReadFault (read_fault_line name) cannot_read_script)
+  from_script _ _ too_long = inl (of_script TooLong status.Script (script_line name (codes "TooLong" ∷ [])) script_file_too_long)
   from_script _ _ (leads_on bytes _ _ not_judged) = inr refl
   from_script _ _ (leads_on bytes _ _ (courses.refused words (fault, first, is))) =
-      inl (of_statements (Held bytes) status.Script (script_line name words)
+      inl (of_script (Held bytes) status.Script (script_line name words)
       (subst (λ w. ScriptAnswers name (Held bytes) status.Script (script_line name w)) (sym is) (script_file_at_fault bytes fault first)))
   from_script _ _ (leads_on bytes _ _ (courses.gives parsed fetches answer is follows)) =
       by (follows_status begun (lines_of_script parsed.lines) fetches answer follows)
@@ -360,7 +360,7 @@ statements_status name _ _ _ script_file_too_long = script
 statements_status name _ _ _ (script_file_at_fault bytes fault first) = script
 
 step_status : (show : Report → List ℕ) (name : List ℕ) (fetches : List Fetch) (own : Status) (text : List ℕ) → OfStep show name fetches own text → Own own
-step_status show name _ _ _ (of_statements given own text answer) = plain own (statements_status name given own text answer)
+step_status show name _ _ _ (of_script given own text answer) = plain own (statements_status name given own text answer)
 step_status show name _ _ _ (of_lines bytes parsed fetches answer is follows own) = own
 
 pub command_status : (command : Command) (fetches : List Fetch) (own : Status) (text : List ℕ) → Answer command fetches own text → Own own

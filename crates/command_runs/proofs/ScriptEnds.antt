@@ -25,7 +25,7 @@ use Rattle.command_runs.specs.Outcomes.{HoldsFile, TellsTooLong, MentionsFile, I
 use Rattle.command_runs.specs.RunReports.{IsReportOf}
 use Rattle.command_runs.specs.Scripts.{lines_of_script}
 use Rattle.command_runs.specs.Ways.{LeadTo, AreRefused}
-use Rattle.command_runs.proofs.Inverting.{OfStep, of_statements, of_lines, OfBig, Own, not_no_memory, shown_text}
+use Rattle.command_runs.proofs.Inverting.{OfStep, of_script, of_lines, OfBig, Own, not_no_memory, shown_text}
 use Rattle.command_runs.proofs.LineEnds.{LinesEnd, short, stop, conclude, lines_end}
 use Rattle.command_runs.proofs.LineEnds as lines
 use Rattle.command_runs.proofs.Saying.{say_statements}
@@ -43,7 +43,7 @@ run_is n = run_is_with (n == 7) (n == 8)
 
 -- a status that no run of a script has
 pub data IsOther : Status → Type 0 where
-  for_statements : IsOther status.Script
+  for_script : IsOther status.Script
   for_line : IsOther status.Description
   for_fetch : IsOther status.ReadFault
   for_event : IsOther status.Denied
@@ -51,7 +51,7 @@ pub data IsOther : Status → Type 0 where
   for_sink : IsOther status.WriteFault
 
 pub no_run : (s : Status) → IsOther s → IsRunStatus s → ⊥
-no_run _ for_statements is = cc
+no_run _ for_script is = cc
 no_run _ for_line is = cc
 no_run _ for_fetch is = cc
 no_run _ for_event is = cc
@@ -61,10 +61,10 @@ no_run _ for_sink is = cc
 not_of_run : (n : ℕ) (due : Status) → IsOther due → run_status n ≢ due
 not_of_run n due other is = no_run due other (subst IsRunStatus is (run_is n))
 
-statements_other : (name : List ℕ) (given : Fetched) (own : Status) (text : List ℕ) → ScriptAnswers name given own text → IsOther own
-statements_other name _ _ _ cannot_read_script = for_fetch
-statements_other name _ _ _ script_file_too_long = for_statements
-statements_other name _ _ _ (script_file_at_fault bytes fault first) = for_statements
+script_other : (name : List ℕ) (given : Fetched) (own : Status) (text : List ℕ) → ScriptAnswers name given own text → IsOther own
+script_other name _ _ _ cannot_read_script = for_fetch
+script_other name _ _ _ script_file_too_long = for_script
+script_other name _ _ _ (script_file_at_fault bytes fault first) = for_script
 
 -- ---- the ends
 
@@ -88,7 +88,7 @@ pub data ScriptEnds (show : Report → List ℕ) (files : Option Files) (name : 
 pub script_ends :
     (show : Report → List ℕ) (files : Option Files) (name : List ℕ) (fetches : List Fetch) (own : Status) (text : List ℕ) → OfStep show name fetches own text
     → AllByRecursion (Gave files) fetches → ScriptEnds show files name fetches own text
-script_ends show files name _ _ _ (of_statements given own text answer) told = is_none given own text refl told.0 answer
+script_ends show files name _ _ _ (of_script given own text answer) told = is_none given own text refl told.0 answer
 script_ends show files name _ _ _ (of_lines bytes script fetches answer is follows own) told =
     by fetches answer (lines_end files running begun (lines_of_script script.lines) fetches answer follows told.1) own
   where
@@ -142,16 +142,16 @@ module _ (show : Report → List ℕ) (files : Option Files) (name : List ℕ) (
   any_failed _ _ (reports script end report script_of lead is_report none) some = absurd (some none)
 
   module _ (taken taken' : Option (List ℕ)) where
-    pub statements_refused :
+    pub script_refused :
         (own : Status) (text : List ℕ) → ScriptEnds show files name fetches own text → own ≡ status.Script → taken' ≡ with_bytes taken text
         → ScriptRefused files name taken taken'
-    statements_refused _ _ (is_none _ _ _ names gave cannot_read_script) is took = cc
-    statements_refused _ _ (is_none _ _ _ names gave script_file_too_long) is took = script_too_long (long_told files name gave) took
-    statements_refused _ _ (is_none _ _ _ names gave (script_file_at_fault bytes fault first)) is took =
+    script_refused _ _ (is_none _ _ _ names gave cannot_read_script) is took = cc
+    script_refused _ _ (is_none _ _ _ names gave script_file_too_long) is took = script_too_long (long_told files name gave) took
+    script_refused _ _ (is_none _ _ _ names gave (script_file_at_fault bytes fault first)) is took =
         script_at_fault bytes fault (held_told files name bytes gave) (held_within files name bytes gave) first took
-    statements_refused _ _ (unread script file script_of used names) is took = cc
-    statements_refused _ _ (refuses script file words script_of are none) is took = cc
-    statements_refused _ _ (reports script end report script_of lead is_report none) is took = absurd (not_of_run report.status status.Script for_statements is)
+    script_refused _ _ (unread script file script_of used names) is took = cc
+    script_refused _ _ (refuses script file words script_of are none) is took = cc
+    script_refused _ _ (reports script end report script_of lead is_report none) is took = absurd (not_of_run report.status status.Script for_script is)
 
     pub line_refused :
         (own : Status) (text : List ℕ) → ScriptEnds show files name fetches own text → own ≡ status.Description → taken' ≡ with_bytes taken text
@@ -167,7 +167,7 @@ module _ (show : Report → List ℕ) (files : Option Files) (name : List ℕ) (
     pub reported :
         (own : Status) (text : List ℕ) → ScriptEnds show files name fetches own text → IsRunStatus own → taken' ≡ with_bytes taken text
         → outcomes.RanShowing show files name own taken taken'
-    reported _ _ (is_none given own text names gave answer) is took = absurd (no_run own (statements_other name given own text answer) is)
+    reported _ _ (is_none given own text names gave answer) is took = absurd (no_run own (script_other name given own text answer) is)
     reported _ _ (unread script file script_of used names) is took = absurd (no_run status.ReadFault for_fetch is)
     reported _ _ (refuses script file words script_of are none) is took = absurd (no_run status.Description for_line is)
     reported _ _ (reports script end report script_of lead is_report none) is took = record {

@@ -127,8 +127,8 @@ module _ (show : Report → List ℕ) (f : Files) (name : List ℕ) (fetches : L
   failed_none : (file : List ℕ) → failed_names fetches ≡ file ∷ [] → ⊥
   failed_none file names = let e : [] ≡ file ∷ [] = sym none_failed ∙ names in cc
 
-  pub refused_statements : MustRefuseScript (f name) → (own : Status) (text : List ℕ) → ScriptEnds show (Some f) name fetches own text → own ≡ status.Script
-  refused_statements must = of_end
+  pub refused_script : MustRefuseScript (f name) → (own : Status) (text : List ℕ) → ScriptEnds show (Some f) name fetches own text → own ≡ status.Script
+  refused_script must = of_end
     where
       not_one : (script : Script) → IsScriptOf (Some f) name script → ⊥
       not_one script is = need_no_refusal (f name) is.bytes script must is.told is.within is.is_script
@@ -264,9 +264,9 @@ module _ (words : List (List ℕ)) (files : Option Files) (failures failures' : 
   of_big lanes Due asks of_end =
       finishes (commands.Big lanes) Due asks (λ answer. of_end answer.within answer.none_failed run.own run.text (big_ends lanes run.fetches run.own run.text answer))
 
-  pub must_refuse_made_statements : (lanes : ℕ) → Asks words (commands.Big lanes) → MustRefuseScript (made_files lanes script_name) → Ends result status.Script
-  must_refuse_made_statements lanes asks must =
-      of_big lanes (λ s. s ≡ status.Script) asks (λ within none own text. refused_statements (summary_text lanes) (made_files lanes) script_name within none must own text)
+  pub must_refuse_made_script : (lanes : ℕ) → Asks words (commands.Big lanes) → MustRefuseScript (made_files lanes script_name) → Ends result status.Script
+  must_refuse_made_script lanes asks must =
+      of_big lanes (λ s. s ≡ status.Script) asks (λ within none own text. refused_script (summary_text lanes) (made_files lanes) script_name within none must own text)
 
   -- From a law of the elaborator, as it stands there.
   pub must_refuse_made_line :
@@ -295,9 +295,9 @@ module _ (words : List (List ℕ)) (files : Option Files) (failures failures' : 
         (λ answer. of_end run.own run.text
         (script_ends report_text (Some f) name run.fetches run.own run.text answer (subst (λ fs. AllByRecursion (Gave fs) run.fetches) telling run.told)))
 
-    pub must_refuse_statements : (name : List ℕ) → Asks words (commands.Step name) → MustRefuseScript (f name) → Ends result status.Script
-    must_refuse_statements name asks must =
-        of_step name (λ s. s ≡ status.Script) asks (refused_statements report_text f name run.fetches none_failed_here must)
+    pub must_refuse_script : (name : List ℕ) → Asks words (commands.Step name) → MustRefuseScript (f name) → Ends result status.Script
+    must_refuse_script name asks must =
+        of_step name (λ s. s ≡ status.Script) asks (refused_script report_text f name run.fetches none_failed_here must)
 
     -- From a law of the elaborator, as it stands there.
     pub must_refuse_line :

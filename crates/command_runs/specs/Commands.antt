@@ -52,15 +52,15 @@ abbrev pub RefusesReport : List ℕ → List (List ℕ) → Type 0
 RefusesReport bytes words = (fault : ReportFault) × IsReportFault bytes fault × (words ≡ report_words fault)
 
 -- the words of what refuses a script
-abbrev pub RefusesStatements : List ℕ → List (List ℕ) → Type 0
-RefusesStatements bytes words = (fault : ScriptError) × IsScriptFault bytes fault × (words ≡ script_words fault)
+abbrev pub RefusesScript : List ℕ → List (List ℕ) → Type 0
+RefusesScript bytes words = (fault : ScriptError) × IsScriptFault bytes fault × (words ≡ script_words fault)
 
 -- what is asked for by the script of a name
 abbrev pub course_of_script : List ℕ → FetchCourse
 course_of_script name =
     let refuse = λ (words : List (List ℕ)). refusal (script name words) in
     AfterFetch name file_limit refuse
-    (λ bytes. After (RefusesStatements bytes) refuse (IsScript bytes)
+    (λ bytes. After (RefusesScript bytes) refuse (IsScript bytes)
     (λ lines. FollowsLines running begun (lines_of_script lines.lines)))
 
 -- the answer with the summary of a run in place of its report

@@ -281,6 +281,6 @@ RefusesDescription words files taken taken' =
 abbrev pub MustRefuseReport : Option (List ℕ) → Type 0
 MustRefuseReport file = IsSomeAnd file (λ bytes. (report_limit < length bytes) ⊎ ((fault : ReportFault) × IsReportFault bytes fault))
 
--- the file has no more bytes than a report may have, and no line of it is at fault
+-- the file has no more bytes than a report may have, and has no fault as a report
 abbrev pub NothingRefusesReport : Option (List ℕ) → Type 0
 NothingRefusesReport file = IsSomeAnd file (λ bytes. (length bytes ≤ report_limit) × ((fault : ReportFault) → ¬ IsReportFault bytes fault))

@@ -140,7 +140,7 @@ module _ {E : Type 0} where
     fetches = fetch_of name given ∷ [];
     noted = one_noted (failed_name (fetch_of name given)) failures failures' noted;
     told = (gave, tt);
-    ends = courses.script_refused file name given answer.status answer.text.items read;
+    ends = courses.events_refused file name given answer.status answer.text.items read;
   }
 
   pub script_unread :

@@ -83,7 +83,7 @@ Looked true slot old new = IsLooked slot old new
 Looked false slot old new = new ≡ old
 
 -- Where the inbox was asked, it was so before the event, whose hint is sent then; and if no request was taken up,
--- then none waits there.
+-- then none waits at the next hint, or there is no hint.
 pub record IsSentAfter (g : GateSeen) (slot first : ℕ) (asked : Bool) (e : Option Event) (old new : Hinted) : Type 0 where
   pub between : Hinted
   pub looked : Looked asked slot old between

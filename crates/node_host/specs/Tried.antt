@@ -115,8 +115,8 @@ pub record Keeps (number : ℕ) (first : ℕ) (w : Known) (old new : Loads) : Ty
 abbrev pub Steps : Loads → Loads → Type 0
 Steps old new = old.steps ≤ new.steps
 
--- Each move before the one that was made isn't possible; nor is any where none was. That no request waits is said
--- where the inbox is asked (`IsSentAfter`).
+-- Each move before the one that was made isn't possible; nor is any where none was. That no request waits at the
+-- next hint is said where the inbox is asked (`IsSentAfter`).
 pub record IsTried (n : NodeAt) (t : NodeState) (w : Known) (allowed : Bool) (e : Option Event) (old new : Option Loads) : Type 0 where
   pub replies : HaveNoReplies n w e old new
   pub service : is_passed 2 e ≡ true → IsHeld w w.service old new

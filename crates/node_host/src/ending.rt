@@ -3,7 +3,6 @@
 ghost use Rattle.std.specs.Prelude.{◌≡◌, ◌≢◌, ℕ, ◌+◌, ◌<◌, true, false, length, slice_index_or, vec_capacity, None, Some};
 ghost use Rattle.config_graph.specs.Kinds.{row};
 ghost use Rattle.component_trait.specs.Fold.{after_event};
-ghost use Rattle.component_trait.specs.Moves as moves;
 ghost use Rattle.config_graph.specs.declared.TheConstants.{VALUE_LIMIT};
 ghost use Rattle.node_host.specs.Hosted.{node_of};
 ghost use Rattle.node_host.specs.Moved.{Moved};

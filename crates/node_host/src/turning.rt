@@ -23,7 +23,7 @@ use quiesce_core::Event;
 #[derive(Debug, Drop, PartialEq, Eq)]
 pub enum Turn {
     Moved(Event),
-    /// Each move was tried in this turn and none was found possible.
+    /// No move was found possible in this turn.
     Still,
 }
 

@@ -145,7 +145,7 @@ module _ {E : Type 0} (files : Option Files) (name : List ℕ) where
     fetches = fetch_of name given ∷ [];
     noted = one_noted (failed_name (fetch_of name given)) failures failures' noted;
     told = (gave, tt);
-    leads = courses.statements_refused name given answer.status answer.text.items read;
+    leads = courses.script_refused name given answer.status answer.text.items read;
   }
 
   pub unread : (given : Fetched) (e : E) (failures failures' : List (List ℕ)) → failures' ≡ failures ++ failed_name (fetch_of name given) → Gave files (fetch_of name given)

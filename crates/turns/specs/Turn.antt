@@ -1,5 +1,6 @@
--- A node's turn: it posts what waits, and makes the first of four moves that is possible. It ends a transaction of
--- its own that has a reply; it goes on with its service; it takes up the next request; or it begins what it wants.
+-- A node's turn: it posts what waits, and makes the first of four moves that is possible. It ends, or replies in, a
+-- transaction at the lowest of its ports at which a reply stands; it goes on with its service; it takes up the next
+-- request; or it begins what it wants.
 use Rattle.std.specs.Prelude.{ℕ, ◌+◌, ◌-◌, Bool, false, not, ◌&&◌, ◌||◌, ◌==◌, List, [], ◌∷◌, ◌++◌, drop, find, fold, Option, Some, None, option_map, option_and_then, is_none, is_some, slice_set, if◌then◌else◌}
 use Rattle.std.specs.List.{enumerate_from, list_any}
 use Rattle.std.specs.Option.{option_map_or}

@@ -214,8 +214,8 @@ impl Gates {
         Look::of(word)
     }
 
-    /// The change links a port that leads nowhere, whose owner is settled by the record (`ChangeSeat::settled`), where
-    /// no cycle comes of it.
+    /// The change links a port that leads nowhere, whose owner is settled by the record (`ChangeSeat::settled`), to a
+    /// provision of a live node, where no cycle comes of it.
     pub fn link(&self, seat: &mut ChangeSeat, port: u32, node: u32, provide: u32)
         requires here { seat.old.seat.table_id ≡ self.now.words.shared.table_id }
         requires may { MayLink (is_noted (change_of seat.old.seat.me.0).entries)
@@ -231,7 +231,7 @@ impl Gates {
         change_steps::link::<Brand>(&self.words, &mut seat.seat, port, to);
     }
 
-    /// The change unlinks a port whose owner is settled by the record.
+    /// The change unlinks a linked port whose owner is settled by the record.
     pub fn unlink(&self, seat: &mut ChangeSeat, port: u32)
         requires here { seat.old.seat.table_id ≡ self.now.words.shared.table_id }
         requires may { MayUnlink (is_noted (change_of seat.old.seat.me.0).entries)
