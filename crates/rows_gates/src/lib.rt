@@ -9,6 +9,8 @@ mod further_rows;
 #[cfg(test)]
 mod gate_rows;
 #[cfg(test)]
+mod replacing;
+#[cfg(test)]
 mod row_systems;
 mod seated;
 mod systems;
