@@ -2,7 +2,8 @@
 //! word. Without a word it measures nothing.
 #![tactic(auto)]
 
-ghost use Rattle.std.specs.Prelude.{◌≡◌, IfOk};
+ghost use Rattle.std.specs.Prelude.{IfOk};
+ghost use Rattle.txn_gate.specs.Seats.{IsSeatOf};
 
 use rows_gates::{Seated, Unmade, alone, initiate, pipe, serve};
 use std::alloc::Global;
@@ -19,8 +20,7 @@ const TIMES: u32 = 4_000_000;
 
 /// New gates with a source that leads to a sink.
 fn gates_of_two(alloc: Global) -> Result<(Gates, Seated, Seated), Unmade>
-    ensures { IfOk result (λ r. (r.1.seat.seat.table_id ≡ r.0.words.shared.table_id)
-        × (r.2.seat.seat.table_id ≡ r.0.words.shared.table_id)) }
+    ensures { IfOk result (λ r. IsSeatOf r.1.seat r.0 × IsSeatOf r.2.seat r.0) }
 {
     let (gates, mut change) = Gates::new(alloc)?;
     gates.reserve(&mut change, 2)?;

@@ -1,7 +1,6 @@
 //! A node's turn at the gates.
 
 ghost use Rattle.std.specs.Prelude.{◌≡◌, ◌<◌, false, None, Some, Ok, OnErr, OnOk, length, vec_capacity};
-ghost use Rattle.gate_rule.specs.Views as views;
 ghost use Rattle.gate_rule.specs.Views.{node_at};
 ghost use Rattle.node_host.specs.Hosted.{node_of};
 ghost use Rattle.node_host.specs.Moved.{Moved};
@@ -11,6 +10,7 @@ ghost use Rattle.node_host.specs.Trying.{IsAsked};
 ghost use Rattle.node_host.specs.Turning.{event_of};
 ghost use Rattle.node_host.specs.declared.turning.Turn.TheVariants as turn;
 ghost use Rattle.turns.specs.Turn.{looks};
+ghost use Rattle.txn_gate.specs.Seats.{IsSeatOf, node_in, table_of_node};
 ghost use Rattle.txn_gate.specs.Told.{loads_of};
 
 use component_trait::Component;
@@ -28,22 +28,20 @@ pub fn turn_at_gates<C: Component + Drop, H: Hints>(
     hints: &mut H,
     begins: bool,
 ) -> Result<Turn, NoMemory>
-    requires here { node.old.seat.seat.table_id ≡ gates.now.words.shared.table_id }
-    requires node { node_at (views.node_of node.old.seat.seat.me.0) ≡ node_of node.old.slot node.old.first_port
-        (C.state node.old.inner) }
-    ensures here { node.new.seat.seat.table_id ≡ node.old.seat.seat.table_id }
-    ensures node { node_at (views.node_of node.new.seat.seat.me.0) ≡ node_of node.new.slot node.new.first_port
-        (C.state node.new.inner) }
+    requires here { IsSeatOf node.old.seat gates.now }
+    requires node { node_at (node_in node.old.seat) ≡ node_of node.old.slot node.old.first_port (C.state node.old.inner) }
+    ensures here { table_of_node node.new.seat ≡ table_of_node node.old.seat }
+    ensures node { node_at (node_in node.new.seat) ≡ node_of node.new.slot node.new.first_port (C.state node.new.inner) }
     ensures moved { Moved (node_of node.old.slot node.old.first_port (C.state node.old.inner))
         (event_of result) (C.state node.old.inner) (C.state node.new.inner) node.old.log.items
         node.new.log.items (record {
           slot = node.old.seat.slot;
           known = node.old.seat.known;
-          told = Some (views.node_of node.old.seat.seat.me.0).log;
+          told = Some (node_in node.old.seat).log;
         }) (record {
           slot = node.new.seat.slot;
           known = node.new.seat.known;
-          told = Some (views.node_of node.new.seat.seat.me.0).log;
+          told = Some (node_in node.new.seat).log;
         }) None None }
     ensures place { (node.new.slot ≡ node.old.slot) × (node.new.first_port ≡ node.old.first_port) }
     ensures past { node.new.past ≡ node.old.past }
@@ -54,8 +52,8 @@ pub fn turn_at_gates<C: Component + Drop, H: Hints>(
     ensures hints { OnOk result
         (IsHinted (record {
           state = None;
-          before = Some (loads_of (views.node_of node.old.seat.seat.me.0).loads);
-          after = Some (loads_of (views.node_of node.new.seat.seat.me.0).loads);
+          before = Some (loads_of (node_in node.old.seat).loads);
+          after = Some (loads_of (node_in node.new.seat).loads);
         })
         (node_of node.old.slot node.old.first_port (C.state node.old.inner))
         node.old.seat.known (λ s. looks s node.old.slot (C.state node.old.inner)) (event_of result)
@@ -65,8 +63,8 @@ pub fn turn_at_gates<C: Component + Drop, H: Hints>(
         → IsAsked (H.counts hints.old node.old.slot) (H.counts hints.new node.old.slot) }
     ensures tried { OnOk result (IsTried (node_of node.old.slot node.old.first_port (C.state node.old.inner))
         (C.state node.old.inner) node.old.known begins (event_of result)
-        (Some (loads_of (views.node_of node.old.seat.seat.me.0).loads))
-        (Some (loads_of (views.node_of node.new.seat.seat.me.0).loads))) }
+        (Some (loads_of (node_in node.old.seat).loads))
+        (Some (loads_of (node_in node.new.seat).loads))) }
     ensures no_begin { begins ≡ false → is_begin (event_of result) ≡ false }
 {
     let mut gate = TableGate::new(gates);

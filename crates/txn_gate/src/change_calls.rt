@@ -12,9 +12,10 @@ ghost use Rattle.quiesce_core.specs.Knowledge.{nothing_known};
 ghost use Rattle.quiesce_core.specs.Legal.{CanMake};
 ghost use Rattle.quiesce_core.specs.Rules.{is_live_port};
 ghost use Rattle.quiesce_core.specs.declared.event.Event.TheVariants as event;
-ghost use Rattle.gate_rule.specs.Views.{change_of, node_of, notes, nothing_done, of_node};
+ghost use Rattle.gate_rule.specs.Views.{notes, nothing_done, of_node};
 ghost use Rattle.gate_rule.specs.declared.view.NodeView.{NodeView as NodeFields};
 ghost use Rattle.txn_gate.specs.Calls.{made_node};
+ghost use Rattle.txn_gate.specs.Seats.{IsChangeSeatOf, change_in, collected_in, node_in, record_of, table_of_change, table_of_node};
 ghost use Rattle.gate_rule.specs.Traces.{first_words};
 
 use crate::change_seat::ChangeSeat;
@@ -51,9 +52,8 @@ fn fresh_words(alloc: Global) -> Result<Vec<u64>, NoMemory>
 impl Gates {
     /// Nothing is made: each port's word is closed, idle and unlinked, and each slot's word is 0.
     pub fn new(alloc: Global) -> Result<(Gates, ChangeSeat), NoMemory>
-        ensures here { IfOk result (λ r. r.1.seat.table_id ≡ r.0.words.shared.table_id) }
-        ensures change { IfOk result (λ r. (change_of r.1.seat.me.0 ≡ nothing_done) × (r.1.seat.me.0.nodes ≡ [])
-            × (r.1.spare ≡ 0)) }
+        ensures here { IfOk result (λ r. IsChangeSeatOf r.1 r.0) }
+        ensures change { IfOk result (λ r. (change_in r.1 ≡ nothing_done) × (collected_in r.1 ≡ []) × (r.1.spare ≡ 0)) }
     {
         let fresh = fresh_words(alloc)?;
         let tables = RecordTables::new(alloc)?;
@@ -69,7 +69,7 @@ impl Gates {
 
     /// Makes room for so many nodes more.
     pub fn reserve(&self, seat: &mut ChangeSeat, nodes: u32) -> Result<(), NoMemory>
-        requires { length (config_of (change_of seat.old.seat.me.0).entries).slots + nodes ≤ MAX_NODES }
+        requires { length (config_of (record_of seat.old)).slots + nodes ≤ MAX_NODES }
         ensures spare { OnOk result (nodes ≤ seat.new.spare) }
         ensures kept { seat.old.spare ≤ seat.new.spare }
         ensures no_more { (seat.new.spare ≡ seat.old.spare) ⊎ (seat.new.spare ≡ nodes) }
@@ -83,21 +83,19 @@ impl Gates {
     /// The change makes the node of the next slot, with its ports behind those made before, and gives its seat out.
     /// The seat reads from its slot's word what was made. It takes no memory: there is room for it.
     pub fn make_node(&self, seat: &mut ChangeSeat, node: &Node, from: Option<u32>) -> NodeSeat
-        requires here { seat.old.seat.table_id ≡ self.now.words.shared.table_id }
+        requires here { IsChangeSeatOf seat.old self.now }
         requires spare { 0 < seat.old.spare }
-        requires may { CanMake (config_of (change_of seat.old.seat.me.0).entries)
-            (length (config_of (change_of seat.old.seat.me.0).entries).slots) node.now from }
-        ensures here { (seat.new.seat.table_id ≡ seat.old.seat.table_id)
-            × (result.seat.table_id ≡ seat.old.seat.table_id) }
-        ensures change { change_of seat.new.seat.me.0
-            ≡ record (notes (change_of seat.old.seat.me.0)
-            (Did (event.Make (length (config_of (change_of seat.old.seat.me.0).entries).slots) node.now from)))
-            { seats = (change_of seat.old.seat.me.0).seats + 1 } }
-        ensures nodes { seat.new.seat.me.0.nodes ≡ seat.old.seat.me.0.nodes }
+        requires may { CanMake (config_of (record_of seat.old))
+            (length (config_of (record_of seat.old)).slots) node.now from }
+        ensures here { (table_of_change seat.new ≡ table_of_change seat.old)
+            × (table_of_node result ≡ table_of_change seat.old) }
+        ensures change { change_in seat.new ≡ record (notes (change_in seat.old)
+            (Did (event.Make (length (config_of (record_of seat.old)).slots) node.now from)))
+            { seats = (change_in seat.old).seats + 1 } }
+        ensures nodes { collected_in seat.new ≡ collected_in seat.old }
         ensures spare { seat.new.spare + 1 ≡ seat.old.spare }
-        ensures node { node_of result.seat.me.0 ≡ made_node
-            (length (config_of (change_of seat.old.seat.me.0).entries).slots)
-            (length (config_of (change_of seat.old.seat.me.0).entries).gates) node.now from }
+        ensures node { node_in result ≡ made_node (length (config_of (record_of seat.old)).slots)
+            (length (config_of (record_of seat.old)).gates) node.now from }
     {
         let Made { nodes, ports } = seat.made();
         let made = SlotWord {
@@ -120,26 +118,24 @@ impl Gates {
         from: Option<u32>,
     ) -> AnySeat
         requires event { E.event ≡ event.Make slot node.now from }
-        requires here { seat.old.seat.table_id ≡ self.now.words.shared.table_id }
+        requires here { IsChangeSeatOf seat.old self.now }
         requires spare { 0 < seat.old.spare }
-        requires slot { slot ≡ length (config_of (change_of seat.old.seat.me.0).entries).slots }
-        requires may { CanMake (config_of (change_of seat.old.seat.me.0).entries) slot node.now from }
+        requires slot { slot ≡ length (config_of (record_of seat.old)).slots }
+        requires may { CanMake (config_of (record_of seat.old)) slot node.now from }
         requires made { made ≡ record {
           kind = node.now.kind;
-          first_port = length (config_of
-              (change_of seat.old.seat.me.0).entries).gates;
+          first_port = length (config_of (record_of seat.old)).gates;
           arg = node.now.arg;
           from = from;
         } }
-        ensures here { (seat.new.seat.table_id ≡ seat.old.seat.table_id) × (result.table_id ≡ seat.old.seat.table_id) }
-        ensures change { change_of seat.new.seat.me.0
-            ≡ record (notes (change_of seat.old.seat.me.0) (Did (event.Make slot node.now from)))
-            { seats = (change_of seat.old.seat.me.0).seats + 1 } }
-        ensures nodes { seat.new.seat.me.0.nodes ≡ seat.old.seat.me.0.nodes }
+        ensures here { (table_of_change seat.new ≡ table_of_change seat.old)
+            × (result.table_id ≡ table_of_change seat.old) }
+        ensures change { change_in seat.new ≡ record (notes (change_in seat.old) (Did (event.Make slot node.now from)))
+            { seats = (change_in seat.old).seats + 1 } }
+        ensures nodes { collected_in seat.new ≡ collected_in seat.old }
         ensures spare { seat.new.spare + 1 ≡ seat.old.spare }
         ensures node { result.me ≡ (
-          of_node
-              (made_node slot (length (config_of (change_of seat.old.seat.me.0).entries).gates) node.now from),
+          of_node (made_node slot (length (config_of (record_of seat.old)).gates) node.now from),
           [],
         ) }
     {
@@ -156,7 +152,7 @@ impl Gates {
         requires node { (n : NodeFields) × (seat.me ≡ (of_node n, [])) × (n.slot ≡ slot) × (n.known ≡ nothing_known)
             × (n.made.first_port + length (row n.made.kind).requires_ ≤ MAX_PORTS) }
         requires slot { slot < MAX_NODES }
-        ensures here { result.seat.table_id ≡ seat.table_id }
+        ensures here { table_of_node result ≡ seat.table_id }
         ensures node { result.seat.me ≡ seat.me }
     {
         let mut seat = seat;
@@ -174,11 +170,11 @@ impl Gates {
 
     /// The change closes a live port.
     pub fn close(&self, seat: &mut ChangeSeat, port: u32)
-        requires here { seat.old.seat.table_id ≡ self.now.words.shared.table_id }
-        requires live { IsTrue (is_live_port (config_of (change_of seat.old.seat.me.0).entries) port) }
-        ensures here { seat.new.seat.table_id ≡ seat.old.seat.table_id }
-        ensures change { change_of seat.new.seat.me.0 ≡ notes (change_of seat.old.seat.me.0) (Did (event.Close port)) }
-        ensures nodes { seat.new.seat.me.0.nodes ≡ seat.old.seat.me.0.nodes }
+        requires here { IsChangeSeatOf seat.old self.now }
+        requires live { IsTrue (is_live_port (config_of (record_of seat.old)) port) }
+        ensures here { table_of_change seat.new ≡ table_of_change seat.old }
+        ensures change { change_in seat.new ≡ notes (change_in seat.old) (Did (event.Close port)) }
+        ensures nodes { collected_in seat.new ≡ collected_in seat.old }
         ensures spare { seat.new.spare ≡ seat.old.spare }
     {
         seat.tables.close(port);
@@ -187,11 +183,11 @@ impl Gates {
 
     /// The change opens a live port again, which ends its drained note.
     pub fn reopen(&self, seat: &mut ChangeSeat, port: u32)
-        requires here { seat.old.seat.table_id ≡ self.now.words.shared.table_id }
-        requires live { IsTrue (is_live_port (config_of (change_of seat.old.seat.me.0).entries) port) }
-        ensures here { seat.new.seat.table_id ≡ seat.old.seat.table_id }
-        ensures change { change_of seat.new.seat.me.0 ≡ notes (change_of seat.old.seat.me.0) (Did (event.Reopen port)) }
-        ensures nodes { seat.new.seat.me.0.nodes ≡ seat.old.seat.me.0.nodes }
+        requires here { IsChangeSeatOf seat.old self.now }
+        requires live { IsTrue (is_live_port (config_of (record_of seat.old)) port) }
+        ensures here { table_of_change seat.new ≡ table_of_change seat.old }
+        ensures change { change_in seat.new ≡ notes (change_in seat.old) (Did (event.Reopen port)) }
+        ensures nodes { collected_in seat.new ≡ collected_in seat.old }
         ensures spare { seat.new.spare ≡ seat.old.spare }
     {
         seat.tables.reopen(port);
@@ -200,13 +196,13 @@ impl Gates {
 
     /// The change looks at a port that was made.
     pub fn look(&self, seat: &mut ChangeSeat, port: u32) -> Look
-        requires here { seat.old.seat.table_id ≡ self.now.words.shared.table_id }
-        requires made { port < length (config_of (change_of seat.old.seat.me.0).entries).gates }
-        ensures here { seat.new.seat.table_id ≡ seat.old.seat.table_id }
+        requires here { IsChangeSeatOf seat.old self.now }
+        requires made { port < length (config_of (record_of seat.old)).gates }
+        ensures here { table_of_change seat.new ≡ table_of_change seat.old }
         ensures change { (word : ℕ)
-            × (change_of seat.new.seat.me.0 ≡ notes (change_of seat.old.seat.me.0) (Looked port word))
+            × (change_in seat.new ≡ notes (change_in seat.old) (Looked port word))
             × (result ≡ look_of word) }
-        ensures nodes { seat.new.seat.me.0.nodes ≡ seat.old.seat.me.0.nodes }
+        ensures nodes { collected_in seat.new ≡ collected_in seat.old }
         ensures spare { seat.new.spare ≡ seat.old.spare }
     {
         let word = steps::look(&self.words, &mut seat.seat, port);
@@ -217,13 +213,11 @@ impl Gates {
     /// The change links a port that leads nowhere, whose owner is settled by the record (`ChangeSeat::settled`), to a
     /// provision of a live node, where no cycle comes of it.
     pub fn link(&self, seat: &mut ChangeSeat, port: u32, node: u32, provide: u32)
-        requires here { seat.old.seat.table_id ≡ self.now.words.shared.table_id }
-        requires may { MayLink (is_noted (change_of seat.old.seat.me.0).entries)
-            (config_of (change_of seat.old.seat.me.0).entries) port node provide }
-        ensures here { seat.new.seat.table_id ≡ seat.old.seat.table_id }
-        ensures change { change_of seat.new.seat.me.0 ≡ notes (change_of seat.old.seat.me.0)
-            (Did (event.Link port node provide)) }
-        ensures nodes { seat.new.seat.me.0.nodes ≡ seat.old.seat.me.0.nodes }
+        requires here { IsChangeSeatOf seat.old self.now }
+        requires may { MayLink (is_noted (record_of seat.old)) (config_of (record_of seat.old)) port node provide }
+        ensures here { table_of_change seat.new ≡ table_of_change seat.old }
+        ensures change { change_in seat.new ≡ notes (change_in seat.old) (Did (event.Link port node provide)) }
+        ensures nodes { collected_in seat.new ≡ collected_in seat.old }
         ensures spare { seat.new.spare ≡ seat.old.spare }
     {
         let to = Target { node, provide };
@@ -233,12 +227,11 @@ impl Gates {
 
     /// The change unlinks a linked port whose owner is settled by the record.
     pub fn unlink(&self, seat: &mut ChangeSeat, port: u32)
-        requires here { seat.old.seat.table_id ≡ self.now.words.shared.table_id }
-        requires may { MayUnlink (is_noted (change_of seat.old.seat.me.0).entries)
-            (config_of (change_of seat.old.seat.me.0).entries) port }
-        ensures here { seat.new.seat.table_id ≡ seat.old.seat.table_id }
-        ensures change { change_of seat.new.seat.me.0 ≡ notes (change_of seat.old.seat.me.0) (Did (event.Unlink port)) }
-        ensures nodes { seat.new.seat.me.0.nodes ≡ seat.old.seat.me.0.nodes }
+        requires here { IsChangeSeatOf seat.old self.now }
+        requires may { MayUnlink (is_noted (record_of seat.old)) (config_of (record_of seat.old)) port }
+        ensures here { table_of_change seat.new ≡ table_of_change seat.old }
+        ensures change { change_in seat.new ≡ notes (change_in seat.old) (Did (event.Unlink port)) }
+        ensures nodes { collected_in seat.new ≡ collected_in seat.old }
         ensures spare { seat.new.spare ≡ seat.old.spare }
     {
         let was = seat.tables.unlink(port);
@@ -247,12 +240,11 @@ impl Gates {
 
     /// The change removes a node that is settled by the record, that leads to none and to which none leads.
     pub fn remove(&self, seat: &mut ChangeSeat, node: u32)
-        requires here { seat.old.seat.table_id ≡ self.now.words.shared.table_id }
-        requires may { MayRemove (is_noted (change_of seat.old.seat.me.0).entries)
-            (config_of (change_of seat.old.seat.me.0).entries) node }
-        ensures here { seat.new.seat.table_id ≡ seat.old.seat.table_id }
-        ensures change { change_of seat.new.seat.me.0 ≡ notes (change_of seat.old.seat.me.0) (Did (event.Remove node)) }
-        ensures nodes { seat.new.seat.me.0.nodes ≡ seat.old.seat.me.0.nodes }
+        requires here { IsChangeSeatOf seat.old self.now }
+        requires may { MayRemove (is_noted (record_of seat.old)) (config_of (record_of seat.old)) node }
+        ensures here { table_of_change seat.new ≡ table_of_change seat.old }
+        ensures change { change_in seat.new ≡ notes (change_in seat.old) (Did (event.Remove node)) }
+        ensures nodes { collected_in seat.new ≡ collected_in seat.old }
         ensures spare { seat.new.spare ≡ seat.old.spare }
     {
         seat.tables.remove(node);

@@ -16,7 +16,7 @@ use config_graph::{Made, Target};
 use record_tables::RecordTables;
 
 /// The change's seat: its steps at the gates are the change's events, looks and sights. Contracts see its record of
-/// them (`change_of`). Each node that was made got its seat.
+/// them (`change_in`). Each node that was made got its seat.
 #[derive(Drop)]
 pub struct ChangeSeat {
     pub tables: RecordTables,

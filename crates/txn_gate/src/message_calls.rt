@@ -10,9 +10,10 @@ ghost use Rattle.port_gate.specs.Moves as moves;
 ghost use Rattle.port_gate.specs.Moves.{Does};
 ghost use Rattle.port_gate.specs.Seats.{MayAsk, MayCall, MayHear, MaySendMore, serial_served};
 ghost use Rattle.gate_rule.specs.Steps.{WasShown, looks};
-ghost use Rattle.gate_rule.specs.Views.{does, node_at, node_of, reads};
+ghost use Rattle.gate_rule.specs.Views.{does, node_at, reads};
 ghost use Rattle.gate_rule.specs.declared.view.LoadKind.TheVariants as kinds;
 ghost use Rattle.txn_gate.specs.Calls.{ByWord, after, called_in, heard_in};
+ghost use Rattle.txn_gate.specs.Seats.{IsSeatOf, node_in, table_of_node};
 
 use crate::answering::{called, heard, is_missing};
 use crate::gates::Gates;
@@ -28,15 +29,14 @@ use std::marker::Brand;
 impl Gates {
     /// The node makes a call of the service that it is in, whether the gate is closed or not.
     pub fn call(&self, seat: &mut NodeSeat, port: u32, value: u32) -> CallAnswer
-        requires here { seat.old.seat.table_id ≡ self.now.words.shared.table_id }
-        requires may { MayCall (node_at (node_of seat.old.seat.me.0)) seat.old.known port value }
-        ensures here { seat.new.seat.table_id ≡ seat.old.seat.table_id }
-        ensures node { node_at (node_of seat.new.seat.me.0) ≡ node_at (node_of seat.old.seat.me.0) }
-        ensures does { Does (node_at (node_of seat.old.seat.me.0)) (moves.events_of_call port value result)
-            seat.old.known seat.new.known (Some (node_of seat.old.seat.me.0).log)
-            (Some (node_of seat.new.seat.me.0).log) None None }
+        requires here { IsSeatOf seat.old self.now }
+        requires may { MayCall (node_at (node_in seat.old)) seat.old.known port value }
+        ensures here { table_of_node seat.new ≡ table_of_node seat.old }
+        ensures node { node_at (node_in seat.new) ≡ node_at (node_in seat.old) }
+        ensures does { Does (node_at (node_in seat.old)) (moves.events_of_call port value result)
+            seat.old.known seat.new.known (Some (node_in seat.old).log) (Some (node_in seat.new).log) None None }
         ensures words { ByWord kinds.Own port called_in (λ a n. after n (moves.events_of_call port value a))
-            result (node_of seat.old.seat.me.0) (node_of seat.new.seat.me.0) }
+            result (node_in seat.old) (node_in seat.new) }
         ensures says { CallSays None port result }
     {
         let loaded = self.call_word(seat, port, value);
@@ -45,10 +45,10 @@ impl Gates {
 
     /// The load, and the call where it isn't missed by that. Returns the word that was loaded.
     fn call_word(&self, seat: &mut NodeSeat, port: u32, value: u32) -> u64
-        requires here { seat.old.seat.table_id ≡ self.now.words.shared.table_id }
-        requires may { MayCall (node_at (node_of seat.old.seat.me.0)) seat.old.known port value }
-        ensures here { seat.new.seat.table_id ≡ seat.old.seat.table_id }
-        ensures node { node_of seat.new.seat.me.0 ≡ after (reads (node_of seat.old.seat.me.0) kinds.Own port result)
+        requires here { IsSeatOf seat.old self.now }
+        requires may { MayCall (node_at (node_in seat.old)) seat.old.known port value }
+        ensures here { table_of_node seat.new ≡ table_of_node seat.old }
+        ensures node { node_in seat.new ≡ after (reads (node_in seat.old) kinds.Own port result)
             (moves.events_of_call port value (called_in result)) }
     {
         let loaded = self.look_to_call(seat, port, value);
@@ -60,13 +60,13 @@ impl Gates {
 
     /// The load, and what the node knows by it where it misses the call. Returns the word that was loaded.
     fn look_to_call(&self, seat: &mut NodeSeat, port: u32, value: u32) -> u64
-        requires here { seat.old.seat.table_id ≡ self.now.words.shared.table_id }
-        requires may { MayCall (node_at (node_of seat.old.seat.me.0)) seat.old.known port value }
-        ensures here { seat.new.seat.table_id ≡ seat.old.seat.table_id }
-        ensures missed { fields.is_missing (unpack result) ≡ true → node_of seat.new.seat.me.0 ≡ does
-            (reads (node_of seat.old.seat.me.0) kinds.Own port result) (event.Miss port) }
+        requires here { IsSeatOf seat.old self.now }
+        requires may { MayCall (node_at (node_in seat.old)) seat.old.known port value }
+        ensures here { table_of_node seat.new ≡ table_of_node seat.old }
+        ensures missed { fields.is_missing (unpack result) ≡ true → node_in seat.new
+            ≡ does (reads (node_in seat.old) kinds.Own port result) (event.Miss port) }
         ensures found { fields.is_missing (unpack result) ≡ false
-            → node_of seat.new.seat.me.0 ≡ looks (node_of seat.old.seat.me.0) port result }
+            → node_in seat.new ≡ looks (node_in seat.old) port result }
     {
         let loaded = steps::look_to_call(&self.words, &mut seat.seat, port, value);
         if is_missing(loaded) {
@@ -78,13 +78,13 @@ impl Gates {
     /// The call by the word that was loaded.
     fn call_by<E: Names>(&self, seat: &mut NodeSeat, port: u32, value: u32, loaded: u64)
         requires event { E.event ≡ event.Call port ((unpack loaded).serial + 1) value }
-        requires here { seat.old.seat.table_id ≡ self.now.words.shared.table_id }
-        requires may { MayCall (node_at (node_of seat.old.seat.me.0)) seat.old.known port value }
-        requires loaded { (node_of seat.old.seat.me.0).loaded ≡ Some (record { port = port; word = loaded }) }
+        requires here { IsSeatOf seat.old self.now }
+        requires may { MayCall (node_at (node_in seat.old)) seat.old.known port value }
+        requires loaded { (node_in seat.old).loaded ≡ Some (record { port = port; word = loaded }) }
         requires found { fields.is_missing (unpack loaded) ≡ false }
         requires unspent { (unpack loaded).serial + 1 < 2 ^ 24 }
-        ensures here { seat.new.seat.table_id ≡ seat.old.seat.table_id }
-        ensures node { node_of seat.new.seat.me.0 ≡ does (node_of seat.old.seat.me.0) E.event }
+        ensures here { table_of_node seat.new ≡ table_of_node seat.old }
+        ensures node { node_in seat.new ≡ does (node_in seat.old) E.event }
     {
         let word = Word::of(loaded);
         let operand = call_operand(word, value);
@@ -103,11 +103,10 @@ impl Gates {
 
     /// The node sends an intermediate reply for the request that it services.
     pub fn more(&self, seat: &mut NodeSeat, port: u32, value: u32)
-        requires here { seat.old.seat.table_id ≡ self.now.words.shared.table_id }
-        requires may { MaySendMore (node_at (node_of seat.old.seat.me.0)) seat.old.known port value }
-        ensures here { seat.new.seat.table_id ≡ seat.old.seat.table_id }
-        ensures node { node_of seat.new.seat.me.0 ≡ after (node_of seat.old.seat.me.0)
-            (moves.events_of_more port value seat.old.known) }
+        requires here { IsSeatOf seat.old self.now }
+        requires may { MaySendMore (node_at (node_in seat.old)) seat.old.known port value }
+        ensures here { table_of_node seat.new ≡ table_of_node seat.old }
+        ensures node { node_in seat.new ≡ after (node_in seat.old) (moves.events_of_more port value seat.old.known) }
     {
         let operand = more_operand(seat.value_served(), value);
         let serial = seat.serial_served();
@@ -125,11 +124,11 @@ impl Gates {
 
     /// The node replies to an intermediate reply that it saw.
     pub fn ask(&self, seat: &mut NodeSeat, port: u32, value: u32)
-        requires here { seat.old.seat.table_id ≡ self.now.words.shared.table_id }
-        requires may { MayAsk (node_at (node_of seat.old.seat.me.0)) seat.old.known port value }
-        ensures here { seat.new.seat.table_id ≡ seat.old.seat.table_id }
-        ensures node { node_of seat.new.seat.me.0 ≡ after (node_of seat.old.seat.me.0)
-            (moves.events_of_ask (node_at (node_of seat.old.seat.me.0)) port value seat.old.known) }
+        requires here { IsSeatOf seat.old self.now }
+        requires may { MayAsk (node_at (node_in seat.old)) seat.old.known port value }
+        ensures here { table_of_node seat.new ≡ table_of_node seat.old }
+        ensures node { node_in seat.new ≡ after (node_in seat.old)
+            (moves.events_of_ask (node_at (node_in seat.old)) port value seat.old.known) }
     {
         let known = port_known(seat.known, port - seat.first_port);
         let serial = known.serial;
@@ -148,15 +147,14 @@ impl Gates {
 
     /// The node listens for the further message for which its service waits.
     pub fn hear(&self, seat: &mut NodeSeat, port: u32) -> HearAnswer
-        requires here { seat.old.seat.table_id ≡ self.now.words.shared.table_id }
+        requires here { IsSeatOf seat.old self.now }
         requires may { MayHear seat.old.known port }
-        ensures here { seat.new.seat.table_id ≡ seat.old.seat.table_id }
-        ensures node { node_at (node_of seat.new.seat.me.0) ≡ node_at (node_of seat.old.seat.me.0) }
-        ensures does { Does (node_at (node_of seat.old.seat.me.0)) (moves.events_of_hear port seat.old.known result)
-            seat.old.known seat.new.known (Some (node_of seat.old.seat.me.0).log)
-            (Some (node_of seat.new.seat.me.0).log) None None }
+        ensures here { table_of_node seat.new ≡ table_of_node seat.old }
+        ensures node { node_at (node_in seat.new) ≡ node_at (node_in seat.old) }
+        ensures does { Does (node_at (node_in seat.old)) (moves.events_of_hear port seat.old.known result)
+            seat.old.known seat.new.known (Some (node_in seat.old).log) (Some (node_in seat.new).log) None None }
         ensures words { ByWord kinds.Hear port heard_in (λ a n. after n (moves.events_of_hear port n.known a))
-            result (node_of seat.old.seat.me.0) (node_of seat.new.seat.me.0) }
+            result (node_in seat.old) (node_in seat.new) }
         ensures says { HearSays None port result }
     {
         let found = self.hear_word(seat, port);
@@ -165,15 +163,15 @@ impl Gates {
 
     /// The load, and what the node knows by it. Returns the word that is found.
     fn hear_word(&self, seat: &mut NodeSeat, port: u32) -> u64
-        requires here { seat.old.seat.table_id ≡ self.now.words.shared.table_id }
+        requires here { IsSeatOf seat.old self.now }
         requires may { MayHear seat.old.known port }
-        ensures here { seat.new.seat.table_id ≡ seat.old.seat.table_id }
+        ensures here { table_of_node seat.new ≡ table_of_node seat.old }
         ensures heard { is_asked (unpack result).phase ≡ true
-            → node_of seat.new.seat.me.0 ≡ does (reads (node_of seat.old.seat.me.0) kinds.Hear port result)
+            → node_in seat.new ≡ does (reads (node_in seat.old) kinds.Hear port result)
             (event.Hear port (serial_served seat.old.known) (unpack result).value) }
         ensures kept { is_asked (unpack result).phase ≡ false
-            → node_of seat.new.seat.me.0 ≡ reads (node_of seat.old.seat.me.0) kinds.Hear port result }
-        ensures shown { WasShown (node_of seat.old.seat.me.0) port result }
+            → node_in seat.new ≡ reads (node_in seat.old) kinds.Hear port result }
+        ensures shown { WasShown (node_in seat.old) port result }
     {
         let serial = seat.serial_served();
         let found = steps::hear(&self.words, &mut seat.seat, port);

@@ -11,9 +11,10 @@ ghost use Rattle.port_gate.specs.Moves as moves;
 ghost use Rattle.port_gate.specs.Moves.{Does};
 ghost use Rattle.port_gate.specs.Seats.{MayBegin, MayEnd, MayGive, MaySee, MayTake};
 ghost use Rattle.gate_rule.specs.Steps.{WasShown, seen_in};
-ghost use Rattle.gate_rule.specs.Views.{does, node_at, node_of, reads};
+ghost use Rattle.gate_rule.specs.Views.{does, node_at, reads};
 ghost use Rattle.gate_rule.specs.declared.view.LoadKind.TheVariants as kinds;
 ghost use Rattle.txn_gate.specs.Calls.{ByWord, ByWords, after, exchanged_in, refused_in, taken_in};
+ghost use Rattle.txn_gate.specs.Seats.{IsSeatOf, node_in, table_of_node};
 
 use crate::answering::{exchanged, refusal, seen, taken};
 use crate::gates::Gates;
@@ -29,14 +30,13 @@ use std::marker::Brand;
 impl Gates {
     /// The node begins a transaction of its own at an idle port.
     pub fn begin(&self, seat: &mut NodeSeat, port: u32, value: u32) -> BeginAnswer
-        requires here { seat.old.seat.table_id ≡ self.now.words.shared.table_id }
-        requires may { MayBegin (node_at (node_of seat.old.seat.me.0)) seat.old.known port value }
-        ensures here { seat.new.seat.table_id ≡ seat.old.seat.table_id }
-        ensures node { node_at (node_of seat.new.seat.me.0) ≡ node_at (node_of seat.old.seat.me.0) }
-        ensures does { Does (node_at (node_of seat.old.seat.me.0)) (moves.events_of_begin port value result)
-            seat.old.known seat.new.known (Some (node_of seat.old.seat.me.0).log)
-            (Some (node_of seat.new.seat.me.0).log) None None }
-        ensures words { ByWords port value result (node_of seat.old.seat.me.0) (node_of seat.new.seat.me.0) }
+        requires here { IsSeatOf seat.old self.now }
+        requires may { MayBegin (node_at (node_in seat.old)) seat.old.known port value }
+        ensures here { table_of_node seat.new ≡ table_of_node seat.old }
+        ensures node { node_at (node_in seat.new) ≡ node_at (node_in seat.old) }
+        ensures does { Does (node_at (node_in seat.old)) (moves.events_of_begin port value result)
+            seat.old.known seat.new.known (Some (node_in seat.old).log) (Some (node_in seat.new).log) None None }
+        ensures words { ByWords port value result (node_in seat.old) (node_in seat.new) }
         ensures says { BeginSays None port result }
     {
         self.begin_by_words(seat, port, value)
@@ -44,10 +44,10 @@ impl Gates {
 
     /// The load, and the exchange where the word that was loaded allows it.
     fn begin_by_words(&self, seat: &mut NodeSeat, port: u32, value: u32) -> BeginAnswer
-        requires here { seat.old.seat.table_id ≡ self.now.words.shared.table_id }
-        requires may { MayBegin (node_at (node_of seat.old.seat.me.0)) seat.old.known port value }
-        ensures here { seat.new.seat.table_id ≡ seat.old.seat.table_id }
-        ensures words { ByWords port value result (node_of seat.old.seat.me.0) (node_of seat.new.seat.me.0) }
+        requires here { IsSeatOf seat.old self.now }
+        requires may { MayBegin (node_at (node_in seat.old)) seat.old.known port value }
+        ensures here { table_of_node seat.new ≡ table_of_node seat.old }
+        ensures words { ByWords port value result (node_in seat.old) (node_in seat.new) }
     {
         let loaded = self.load(seat, port);
         if let Some(answer) = refusal(loaded) {
@@ -58,10 +58,10 @@ impl Gates {
 
     /// The node loads the word of a port of its own. Returns it.
     fn load(&self, seat: &mut NodeSeat, port: u32) -> u64
-        requires here { seat.old.seat.table_id ≡ self.now.words.shared.table_id }
+        requires here { IsSeatOf seat.old self.now }
         requires port { port < MAX_PORTS }
-        ensures here { seat.new.seat.table_id ≡ seat.old.seat.table_id }
-        ensures node { node_of seat.new.seat.me.0 ≡ reads (node_of seat.old.seat.me.0) kinds.Own port result }
+        ensures here { table_of_node seat.new ≡ table_of_node seat.old }
+        ensures node { node_in seat.new ≡ reads (node_in seat.old) kinds.Own port result }
         ensures known { seat.new.known ≡ seat.old.known }
     {
         steps::load(&self.words, &mut seat.seat, port)
@@ -69,12 +69,12 @@ impl Gates {
 
     /// Begins it where the word is still the one that was loaded, at which the node may begin.
     fn exchange(&self, seat: &mut NodeSeat, port: u32, value: u32, loaded: u64) -> BeginAnswer
-        requires here { seat.old.seat.table_id ≡ self.now.words.shared.table_id }
-        requires may { MayBegin (node_at (node_of seat.old.seat.me.0)) seat.old.known port value }
+        requires here { IsSeatOf seat.old self.now }
+        requires may { MayBegin (node_at (node_in seat.old)) seat.old.known port value }
         requires open { refused_in loaded ≡ None }
-        ensures here { seat.new.seat.table_id ≡ seat.old.seat.table_id }
-        ensures words { ByWord kinds.Exchange port (exchanged_in loaded) (λ a n. after n
-            (moves.events_of_begin port value a)) result (node_of seat.old.seat.me.0) (node_of seat.new.seat.me.0) }
+        ensures here { table_of_node seat.new ≡ table_of_node seat.old }
+        ensures words { ByWord kinds.Exchange port (exchanged_in loaded) (λ a n.
+            after n (moves.events_of_begin port value a)) result (node_in seat.old) (node_in seat.new) }
     {
         let word = Word::of(loaded);
         let found = self.exchange_word::<Brand>(seat, port, value, loaded, word);
@@ -91,18 +91,17 @@ impl Gates {
         word: Word,
     ) -> u64
         requires event { E.event ≡ event.Begin port ((unpack loaded).serial + 1) value }
-        requires here { seat.old.seat.table_id ≡ self.now.words.shared.table_id }
-        requires may { MayBegin (node_at (node_of seat.old.seat.me.0)) seat.old.known port value }
+        requires here { IsSeatOf seat.old self.now }
+        requires may { MayBegin (node_at (node_in seat.old)) seat.old.known port value }
         requires word { word ≡ unpack loaded }
         requires fits { FitsWord word }
         requires opened { word.closed ≡ false }
         requires linked { (t : Linked) × (word.target ≡ Some t) }
         requires unspent { word.serial < last_serial }
-        ensures here { seat.new.seat.table_id ≡ seat.old.seat.table_id }
-        ensures begun { result ≡ loaded → node_of seat.new.seat.me.0 ≡ does
-            (reads (node_of seat.old.seat.me.0) kinds.Exchange port result) E.event }
-        ensures kept { result ≢ loaded
-            → node_of seat.new.seat.me.0 ≡ reads (node_of seat.old.seat.me.0) kinds.Exchange port result }
+        ensures here { table_of_node seat.new ≡ table_of_node seat.old }
+        ensures begun { result ≡ loaded → node_in seat.new
+            ≡ does (reads (node_in seat.old) kinds.Exchange port result) E.event }
+        ensures kept { result ≢ loaded → node_in seat.new ≡ reads (node_in seat.old) kinds.Exchange port result }
     {
         let serial = word.serial + 1;
         let asked = Word {
@@ -136,15 +135,15 @@ impl Gates {
 
     /// The node takes a request up that is asked of it at another's port.
     pub fn take(&self, seat: &mut NodeSeat, port: u32) -> TakeAnswer
-        requires here { seat.old.seat.table_id ≡ self.now.words.shared.table_id }
+        requires here { IsSeatOf seat.old self.now }
         requires may { MayTake seat.old.known port }
-        ensures here { seat.new.seat.table_id ≡ seat.old.seat.table_id }
-        ensures node { node_at (node_of seat.new.seat.me.0) ≡ node_at (node_of seat.old.seat.me.0) }
-        ensures does { Does (node_at (node_of seat.old.seat.me.0)) (moves.events_of_take port result) seat.old.known
-            seat.new.known (Some (node_of seat.old.seat.me.0).log) (Some (node_of seat.new.seat.me.0).log) None None }
-        ensures words { ByWord kinds.Take port (taken_in (node_of seat.old.seat.me.0).slot) (λ a n.
-            after n (moves.events_of_take port a)) result (node_of seat.old.seat.me.0) (node_of seat.new.seat.me.0) }
-        ensures says { TakeSays None (node_at (node_of seat.old.seat.me.0)) port result }
+        ensures here { table_of_node seat.new ≡ table_of_node seat.old }
+        ensures node { node_at (node_in seat.new) ≡ node_at (node_in seat.old) }
+        ensures does { Does (node_at (node_in seat.old)) (moves.events_of_take port result) seat.old.known
+            seat.new.known (Some (node_in seat.old).log) (Some (node_in seat.new).log) None None }
+        ensures words { ByWord kinds.Take port (taken_in (node_in seat.old).slot) (λ a n.
+            after n (moves.events_of_take port a)) result (node_in seat.old) (node_in seat.new) }
+        ensures says { TakeSays None (node_at (node_in seat.old)) port result }
     {
         let found = self.take_word(seat, port);
         taken(found, seat.slot)
@@ -152,16 +151,16 @@ impl Gates {
 
     /// The load, and what the node knows by it. Returns the word that is found.
     fn take_word(&self, seat: &mut NodeSeat, port: u32) -> u64
-        requires here { seat.old.seat.table_id ≡ self.now.words.shared.table_id }
+        requires here { IsSeatOf seat.old self.now }
         requires may { MayTake seat.old.known port }
-        ensures here { seat.new.seat.table_id ≡ seat.old.seat.table_id }
+        ensures here { table_of_node seat.new ≡ table_of_node seat.old }
         ensures slot { seat.new.slot ≡ seat.old.slot }
         ensures taken { is_message_to seat.old.slot (unpack result) ≡ true
-            → node_of seat.new.seat.me.0 ≡ does (reads (node_of seat.old.seat.me.0) kinds.Take port result)
+            → node_in seat.new ≡ does (reads (node_in seat.old) kinds.Take port result)
             (event.Take port (unpack result).serial (unpack result).value) }
         ensures kept { is_message_to seat.old.slot (unpack result) ≡ false
-            → node_of seat.new.seat.me.0 ≡ reads (node_of seat.old.seat.me.0) kinds.Take port result }
-        ensures shown { WasShown (node_of seat.old.seat.me.0) port result }
+            → node_in seat.new ≡ reads (node_in seat.old) kinds.Take port result }
+        ensures shown { WasShown (node_in seat.old) port result }
     {
         let found = steps::take(&self.words, &mut seat.seat, port);
         let word = Word::of(found);
@@ -183,11 +182,10 @@ impl Gates {
 
     /// The node answers the request that it services.
     pub fn give(&self, seat: &mut NodeSeat, port: u32, value: u32)
-        requires here { seat.old.seat.table_id ≡ self.now.words.shared.table_id }
+        requires here { IsSeatOf seat.old self.now }
         requires may { MayGive seat.old.known port value }
-        ensures here { seat.new.seat.table_id ≡ seat.old.seat.table_id }
-        ensures node { node_of seat.new.seat.me.0 ≡ after (node_of seat.old.seat.me.0)
-            (moves.events_of_give port value seat.old.known) }
+        ensures here { table_of_node seat.new ≡ table_of_node seat.old }
+        ensures node { node_in seat.new ≡ after (node_in seat.old) (moves.events_of_give port value seat.old.known) }
     {
         let operand = give_operand(seat.value_served(), value);
         let serial = seat.serial_served();
@@ -205,16 +203,14 @@ impl Gates {
 
     /// The node looks for a reply at a port of its own that isn't idle.
     pub fn see(&self, seat: &mut NodeSeat, port: u32) -> SeeAnswer
-        requires here { seat.old.seat.table_id ≡ self.now.words.shared.table_id }
-        requires may { MaySee (node_at (node_of seat.old.seat.me.0)) seat.old.known port }
-        ensures here { seat.new.seat.table_id ≡ seat.old.seat.table_id }
-        ensures node { node_at (node_of seat.new.seat.me.0) ≡ node_at (node_of seat.old.seat.me.0) }
-        ensures known { seat.new.known ≡ moves.with_seen (node_at (node_of seat.old.seat.me.0)) port result
-            seat.old.known }
+        requires here { IsSeatOf seat.old self.now }
+        requires may { MaySee (node_at (node_in seat.old)) seat.old.known port }
+        ensures here { table_of_node seat.new ≡ table_of_node seat.old }
+        ensures node { node_at (node_in seat.new) ≡ node_at (node_in seat.old) }
+        ensures known { seat.new.known ≡ moves.with_seen (node_at (node_in seat.old)) port result seat.old.known }
         ensures words { ByWord kinds.Own port seen_in (λ a n. record n {
-          known = moves.with_seen (node_at n)
-              port a n.known;
-        }) result (node_of seat.old.seat.me.0) (node_of seat.new.seat.me.0) }
+          known = moves.with_seen (node_at n) port a n.known;
+        }) result (node_in seat.old) (node_in seat.new) }
         ensures says { SeeSays None port result }
     {
         let found = steps::see(&self.words, &mut seat.seat, port);
@@ -227,11 +223,11 @@ impl Gates {
 
     /// The node ends a transaction whose answer it saw.
     pub fn end(&self, seat: &mut NodeSeat, port: u32)
-        requires here { seat.old.seat.table_id ≡ self.now.words.shared.table_id }
-        requires may { MayEnd (node_at (node_of seat.old.seat.me.0)) seat.old.known port }
-        ensures here { seat.new.seat.table_id ≡ seat.old.seat.table_id }
-        ensures node { node_of seat.new.seat.me.0 ≡ after (node_of seat.old.seat.me.0)
-            (moves.events_of_end (node_at (node_of seat.old.seat.me.0)) port seat.old.known) }
+        requires here { IsSeatOf seat.old self.now }
+        requires may { MayEnd (node_at (node_in seat.old)) seat.old.known port }
+        ensures here { table_of_node seat.new ≡ table_of_node seat.old }
+        ensures node { node_in seat.new ≡ after (node_in seat.old)
+            (moves.events_of_end (node_at (node_in seat.old)) port seat.old.known) }
     {
         let known = port_known(seat.known, port - seat.first_port);
         let serial = known.serial;

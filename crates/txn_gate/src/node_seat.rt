@@ -16,7 +16,7 @@ use port_gate::GateSeat;
 use quiesce_core::{Known, PortKnown};
 
 /// A node's seat: its steps at the gates are its node's events. Contracts see all that it knows of its node
-/// (`node_of`): slot, kind, argument, first port, source, what the node knows of itself, and its events in order.
+/// (`node_in`): slot, kind, argument, first port, source, what the node knows of itself, and its events in order.
 #[derive(Drop)]
 pub struct NodeSeat {
     pub slot: u32,

@@ -7,7 +7,8 @@ ghost use Rattle.gate_records.specs.declared.entry.Entry.TheVariants.{Looked, Si
 ghost use Rattle.quiesce_core.specs.State.{is_live, slot};
 ghost use Rattle.quiesce_core.specs.Words.{slot_fields_of};
 ghost use Rattle.gate_rule.specs.Merging.{MergeIntoRun};
-ghost use Rattle.gate_rule.specs.Views.{change_of, is_among, node_of, notes};
+ghost use Rattle.gate_rule.specs.Views.{is_among, notes};
+ghost use Rattle.txn_gate.specs.Seats.{IsChangeSeatOf, IsSeatOf, change_in, collected_in, node_in, record_of, table_of_change, table_of_node};
 
 use crate::change_seat::ChangeSeat;
 use crate::gates::Gates;
@@ -18,18 +19,19 @@ impl Gates {
     /// Notes in the record the node and all that it did so far, and gives its seat back with all that it knew. At the
     /// first step, which takes the seat in, the change and the node meet.
     pub fn sight(&self, seat: &mut ChangeSeat, node: NodeSeat) -> NodeSeat
-        requires here { seat.old.seat.table_id ≡ self.now.words.shared.table_id }
-        requires node_here { node.seat.table_id ≡ self.now.words.shared.table_id }
-        ensures here { (seat.new.seat.table_id ≡ seat.old.seat.table_id) × (result.seat.table_id ≡ node.seat.table_id) }
-        ensures change { change_of seat.new.seat.me.0 ≡ notes (change_of seat.old.seat.me.0)
-            (Sighted (node_of node.seat.me.0).slot (node_of node.seat.me.0).log) }
-        ensures nodes { seat.new.seat.me.0.nodes ≡ seat.old.seat.me.0.nodes }
+        requires here { IsChangeSeatOf seat.old self.now }
+        requires node_here { IsSeatOf node self.now }
+        ensures here { (table_of_change seat.new ≡ table_of_change seat.old)
+            × (table_of_node result ≡ table_of_node node) }
+        ensures change { change_in seat.new ≡ notes (change_in seat.old)
+            (Sighted (node_in node).slot (node_in node).log) }
+        ensures nodes { collected_in seat.new ≡ collected_in seat.old }
         ensures spare { seat.new.spare ≡ seat.old.spare }
-        ensures node { node_of result.seat.me.0 ≡ node_of node.seat.me.0 }
-        ensures made { option_map slot_fields_of (slot (config_of (change_of seat.old.seat.me.0).entries)
-            (node_of node.seat.me.0).slot) ≡ Some (node_of node.seat.me.0).made }
-        ensures removed { is_live (config_of (change_of seat.old.seat.me.0).entries) (node_of node.seat.me.0).slot
-            ≡ false → (node_of node.seat.me.0).known.service ≡ None }
+        ensures node { node_in result ≡ node_in node }
+        ensures made { option_map slot_fields_of (slot (config_of (record_of seat.old))
+            (node_in node).slot) ≡ Some (node_in node).made }
+        ensures removed { is_live (config_of (record_of seat.old)) (node_in node).slot
+            ≡ false → (node_in node).known.service ≡ None }
     {
         let NodeSeat {
             slot,
@@ -49,18 +51,18 @@ impl Gates {
 
     /// Takes the seat of a node in for good that was removed, or once every live port is noted as drained.
     pub fn collect(&self, seat: &mut ChangeSeat, node: NodeSeat)
-        requires here { seat.old.seat.table_id ≡ self.now.words.shared.table_id }
-        requires node_here { node.seat.table_id ≡ self.now.words.shared.table_id }
-        requires may { (is_live (config_of (change_of seat.old.seat.me.0).entries) (node_of node.seat.me.0).slot
-            ≡ false) ⊎ AreAllNoted (change_of seat.old.seat.me.0).entries }
-        ensures here { seat.new.seat.table_id ≡ seat.old.seat.table_id }
-        ensures change { change_of seat.new.seat.me.0 ≡ change_of seat.old.seat.me.0 }
-        ensures nodes { seat.new.seat.me.0.nodes ≡ node_of node.seat.me.0 ∷ seat.old.seat.me.0.nodes }
+        requires here { IsChangeSeatOf seat.old self.now }
+        requires node_here { IsSeatOf node self.now }
+        requires may { (is_live (config_of (record_of seat.old)) (node_in node).slot
+            ≡ false) ⊎ AreAllNoted (record_of seat.old) }
+        ensures here { table_of_change seat.new ≡ table_of_change seat.old }
+        ensures change { change_in seat.new ≡ change_in seat.old }
+        ensures nodes { collected_in seat.new ≡ node_in node ∷ collected_in seat.old }
         ensures spare { seat.new.spare ≡ seat.old.spare }
-        ensures made { option_map slot_fields_of (slot (config_of (change_of seat.old.seat.me.0).entries)
-            (node_of node.seat.me.0).slot) ≡ Some (node_of node.seat.me.0).made }
-        ensures removed { is_live (config_of (change_of seat.old.seat.me.0).entries) (node_of node.seat.me.0).slot
-            ≡ false → (node_of node.seat.me.0).known.service ≡ None }
+        ensures made { option_map slot_fields_of (slot (config_of (record_of seat.old))
+            (node_in node).slot) ≡ Some (node_in node).made }
+        ensures removed { is_live (config_of (record_of seat.old)) (node_in node).slot
+            ≡ false → (node_in node).known.service ≡ None }
     {
         let NodeSeat { seat: theirs, .. } = node;
         seat_steps::take_in(&self.words, &mut seat.seat, theirs);
@@ -70,15 +72,14 @@ impl Gates {
     /// Looks once more, at port 0, whether it was made or not: by then the seats of all nodes that were made have
     /// been collected, and so their logs and the record are one run.
     pub fn finish(&self, seat: &mut ChangeSeat)
-        requires here { seat.old.seat.table_id ≡ self.now.words.shared.table_id }
-        requires collected { (n : ℕ) → n < length (config_of (change_of seat.old.seat.me.0).entries).slots
-            → IsTrue (is_among seat.old.seat.me.0.nodes n) }
-        ensures here { seat.new.seat.table_id ≡ seat.old.seat.table_id }
-        ensures change { (word : ℕ)
-            × (change_of seat.new.seat.me.0 ≡ notes (change_of seat.old.seat.me.0) (Looked 0 word)) }
-        ensures nodes { seat.new.seat.me.0.nodes ≡ seat.old.seat.me.0.nodes }
+        requires here { IsChangeSeatOf seat.old self.now }
+        requires collected { (n : ℕ) → n < length (config_of (record_of seat.old)).slots
+            → IsTrue (is_among (collected_in seat.old) n) }
+        ensures here { table_of_change seat.new ≡ table_of_change seat.old }
+        ensures change { (word : ℕ) × (change_in seat.new ≡ notes (change_in seat.old) (Looked 0 word)) }
+        ensures nodes { collected_in seat.new ≡ collected_in seat.old }
         ensures spare { seat.new.spare ≡ seat.old.spare }
-        ensures merged { MergeIntoRun (change_of seat.new.seat.me.0).entries seat.new.seat.me.0.nodes }
+        ensures merged { MergeIntoRun (record_of seat.new) (collected_in seat.new) }
     {
         let word = seat_steps::merge(&self.words, &mut seat.seat, 0);
         seat.tables.look(0, word);

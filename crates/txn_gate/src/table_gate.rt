@@ -1,8 +1,9 @@
 //! The gates as one worker's gate, at which nodes take their turns.
 
 ghost use Rattle.std.specs.Prelude.{◌≡◌, None};
-ghost use Rattle.gate_rule.specs.Views.{node_at, node_of};
+ghost use Rattle.gate_rule.specs.Views.{node_at};
 ghost use Rattle.txn_gate.specs.Places.{within_limits};
+ghost use Rattle.txn_gate.specs.Seats.{IsSeatOf, node_in};
 
 use crate::gates::Gates;
 use crate::node_seat::NodeSeat;
@@ -26,9 +27,9 @@ impl<'g> TableGate<'g> {
 impl<'g> PortGate for TableGate<'g> {
     type Seat = NodeSeat;
 
-    ghost fits = { λ g s. s.seat.table_id ≡ g.gates.now.words.shared.table_id };
+    ghost fits = { λ g s. IsSeatOf s g.gates.now };
 
-    ghost node = { λ g s. node_at (node_of s.seat.me.0) };
+    ghost node = { λ g s. node_at (node_in s) };
 
     ghost state = { λ g. None };
 
@@ -70,6 +71,6 @@ impl<'g> PortGate for TableGate<'g> {
         self.gates.hear(seat, port)
     }
 
-    ghost within = { λ gate seat fits. within_limits (node_of seat.seat.me.0) seat.slot seat.first_port seat.slot_is
+    ghost within = { λ gate seat fits. within_limits (node_in seat) seat.slot seat.first_port seat.slot_is
         seat.first_is seat.slot_within seat.ports_within };
 }
