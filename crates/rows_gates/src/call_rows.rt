@@ -1,6 +1,7 @@
 //! Rows of a source, a map that calls, and a sink at the gates.
 
 ghost use Rattle.std.specs.Prelude.{◌≡◌};
+ghost use Rattle.txn_gate.specs.Seats.{IsSeatOf, table_of_node};
 
 use crate::row_systems::{close, line, look};
 use crate::seated::Seated;
@@ -13,10 +14,10 @@ use txn_gate::Gates;
 
 /// The source begins, and the map takes the request up and calls the sink in its service.
 fn call_on(rt: &impl Abort, gates: &Gates, m: &mut Seated, s: &mut Seated) -> Result<(), Unfit>
-    requires map { m.old.seat.seat.table_id ≡ gates.now.words.shared.table_id }
-    requires source { s.old.seat.seat.table_id ≡ gates.now.words.shared.table_id }
-    ensures map { m.new.seat.seat.table_id ≡ m.old.seat.seat.table_id }
-    ensures source { s.new.seat.seat.table_id ≡ s.old.seat.seat.table_id }
+    requires map { IsSeatOf m.old.seat gates.now }
+    requires source { IsSeatOf s.old.seat gates.now }
+    ensures map { table_of_node m.new.seat ≡ table_of_node m.old.seat }
+    ensures source { table_of_node s.new.seat ≡ table_of_node s.old.seat }
 {
     let begun = BeginAnswer::Begun {
         serial: 1,
@@ -45,9 +46,9 @@ fn answer_back(
     s: &mut Seated,
     t: &mut Seated,
 ) -> Result<(), Unfit>
-    requires map { m.old.seat.seat.table_id ≡ gates.now.words.shared.table_id }
-    requires source { s.old.seat.seat.table_id ≡ gates.now.words.shared.table_id }
-    requires sink { t.old.seat.seat.table_id ≡ gates.now.words.shared.table_id }
+    requires map { IsSeatOf m.old.seat gates.now }
+    requires source { IsSeatOf s.old.seat gates.now }
+    requires sink { IsSeatOf t.old.seat gates.now }
 {
     let taken = TakeAnswer::Taken {
         provide: 0,

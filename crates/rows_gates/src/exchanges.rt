@@ -2,6 +2,7 @@
 //! take its next step, they stop and answer `Unfit`.
 
 ghost use Rattle.std.specs.Prelude.{◌≡◌};
+ghost use Rattle.txn_gate.specs.Seats.{IsSeatOf, table_of_node};
 
 use crate::seated::Seated;
 use crate::unfit::Unfit;
@@ -36,8 +37,8 @@ fn answer_to(value: u32) -> u32 {
 
 /// The source begins a transaction at port 0, once the port is open.
 fn begin<R: Wait>(rt: &R, gates: &Gates, source: &mut Seated, value: u32) -> Result<(), Unfit>
-    requires here { source.old.seat.seat.table_id ≡ gates.now.words.shared.table_id }
-    ensures here { source.new.seat.seat.table_id ≡ source.old.seat.seat.table_id }
+    requires here { IsSeatOf source.old.seat gates.now }
+    ensures here { table_of_node source.new.seat ≡ table_of_node source.old.seat }
 {
     for _ in rt.forever() {
         if let BeginAnswer::Begun { .. } = source.begin(gates, 0, value)? {
@@ -50,8 +51,8 @@ fn begin<R: Wait>(rt: &R, gates: &Gates, source: &mut Seated, value: u32) -> Res
 
 /// The source awaits the answer at port 0.
 fn answer<R: Wait>(rt: &R, gates: &Gates, source: &mut Seated) -> Result<u32, Unfit>
-    requires here { source.old.seat.seat.table_id ≡ gates.now.words.shared.table_id }
-    ensures here { source.new.seat.seat.table_id ≡ source.old.seat.seat.table_id }
+    requires here { IsSeatOf source.old.seat gates.now }
+    ensures here { table_of_node source.new.seat ≡ table_of_node source.old.seat }
 {
     for _ in rt.forever() {
         if let SeeAnswer::Answer { value } = source.see(gates, 0)? {
@@ -64,8 +65,8 @@ fn answer<R: Wait>(rt: &R, gates: &Gates, source: &mut Seated) -> Result<u32, Un
 
 /// The sink takes a request up at port 0.
 fn request<R: Wait>(rt: &R, gates: &Gates, sink: &mut Seated) -> Result<u32, Unfit>
-    requires here { sink.old.seat.seat.table_id ≡ gates.now.words.shared.table_id }
-    ensures here { sink.new.seat.seat.table_id ≡ sink.old.seat.seat.table_id }
+    requires here { IsSeatOf sink.old.seat gates.now }
+    ensures here { table_of_node sink.new.seat ≡ table_of_node sink.old.seat }
 {
     for _ in rt.forever() {
         if let TakeAnswer::Taken { value, .. } = sink.take(gates, 0)? {
@@ -83,8 +84,8 @@ pub fn initiate<R: Wait>(
     source: &mut Seated,
     times: u32,
 ) -> Result<Tally, Unfit>
-    requires here { source.old.seat.seat.table_id ≡ gates.now.words.shared.table_id }
-    ensures here { source.new.seat.seat.table_id ≡ source.old.seat.seat.table_id }
+    requires here { IsSeatOf source.old.seat gates.now }
+    ensures here { table_of_node source.new.seat ≡ table_of_node source.old.seat }
 {
     let mut tally = NONE;
     for value in 0..times {
@@ -97,8 +98,8 @@ pub fn initiate<R: Wait>(
 
 /// The sink answers so many transactions, each with a value that is one more.
 pub fn serve<R: Wait>(rt: &R, gates: &Gates, sink: &mut Seated, times: u32) -> Result<Tally, Unfit>
-    requires here { sink.old.seat.seat.table_id ≡ gates.now.words.shared.table_id }
-    ensures here { sink.new.seat.seat.table_id ≡ sink.old.seat.seat.table_id }
+    requires here { IsSeatOf sink.old.seat gates.now }
+    ensures here { table_of_node sink.new.seat ≡ table_of_node sink.old.seat }
 {
     let mut tally = NONE;
     for _ in 0..times {
@@ -117,8 +118,8 @@ pub fn alone<R: Wait>(
     sink: &mut Seated,
     times: u32,
 ) -> Result<(), Unfit>
-    requires source { source.old.seat.seat.table_id ≡ gates.now.words.shared.table_id }
-    requires sink { sink.old.seat.seat.table_id ≡ gates.now.words.shared.table_id }
+    requires source { IsSeatOf source.old.seat gates.now }
+    requires sink { IsSeatOf sink.old.seat gates.now }
 {
     for value in 0..times {
         begin(rt, gates, source, value % VALUE_LIMIT)?;

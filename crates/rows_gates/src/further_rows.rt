@@ -1,8 +1,9 @@
 //! Rows of an asker and an adder at the gates, and the calls by which messages within a transaction go to and fro.
 
 ghost use Rattle.std.specs.Prelude.{◌≡◌, IfErr};
-ghost use Rattle.gate_rule.specs.Views.{node_at, node_of};
+ghost use Rattle.gate_rule.specs.Views.{node_at};
 ghost use Rattle.port_gate.specs.Seats.{MayAsk, MayHear, MaySendMore};
+ghost use Rattle.txn_gate.specs.Seats.{IsSeatOf, node_in, table_of_node};
 
 use crate::seated::Seated;
 use crate::systems::{node, open_two};
@@ -16,9 +17,9 @@ use txn_gate::Gates;
 impl Seated {
     /// The node sends an intermediate reply for the request that it services.
     fn more(&mut self, gates: &Gates, port: u32, value: u32) -> Result<(), Unfit>
-        requires here { self.old.seat.seat.table_id ≡ gates.now.words.shared.table_id }
-        ensures here { self.new.seat.seat.table_id ≡ self.old.seat.seat.table_id }
-        ensures unfit { IfErr result (λ _. (MaySendMore (node_at (node_of self.old.seat.seat.me.0))
+        requires here { IsSeatOf self.old.seat gates.now }
+        ensures here { table_of_node self.new.seat ≡ table_of_node self.old.seat }
+        ensures unfit { IfErr result (λ _. (MaySendMore (node_at (node_in self.old.seat))
             self.old.seat.known port value → ⊥) × (self.new ≡ self.old)) }
     {
         let sent = self.seat.known.service.map_or(0, |served| served.mores);
@@ -31,9 +32,9 @@ impl Seated {
 
     /// The node replies to an intermediate reply that it saw.
     fn ask(&mut self, gates: &Gates, port: u32, value: u32) -> Result<(), Unfit>
-        requires here { self.old.seat.seat.table_id ≡ gates.now.words.shared.table_id }
-        ensures here { self.new.seat.seat.table_id ≡ self.old.seat.seat.table_id }
-        ensures unfit { IfErr result (λ _. (MayAsk (node_at (node_of self.old.seat.seat.me.0)) self.old.seat.known
+        requires here { IsSeatOf self.old.seat gates.now }
+        ensures here { table_of_node self.new.seat ≡ table_of_node self.old.seat }
+        ensures unfit { IfErr result (λ _. (MayAsk (node_at (node_in self.old.seat)) self.old.seat.known
             port value → ⊥) × (self.new ≡ self.old)) }
     {
         let known = self.port_known(port)?;
@@ -46,8 +47,8 @@ impl Seated {
 
     /// The node listens for the further message for which its service waits.
     fn hear(&mut self, gates: &Gates, port: u32) -> Result<HearAnswer, Unfit>
-        requires here { self.old.seat.seat.table_id ≡ gates.now.words.shared.table_id }
-        ensures here { self.new.seat.seat.table_id ≡ self.old.seat.seat.table_id }
+        requires here { IsSeatOf self.old.seat gates.now }
+        ensures here { table_of_node self.new.seat ≡ table_of_node self.old.seat }
         ensures unfit { IfErr result (λ _. (MayHear self.old.seat.known port → ⊥) × (self.new ≡ self.old)) }
     {
         let Some(served) = self.seat.known.service else {
@@ -62,10 +63,10 @@ impl Seated {
 
 /// The adder, asked with 5, sends 9, for which it gets 6.
 fn go_on(rt: &impl Abort, gates: &Gates, a: &mut Seated, b: &mut Seated) -> Result<(), Unfit>
-    requires asker { a.old.seat.seat.table_id ≡ gates.now.words.shared.table_id }
-    requires adder { b.old.seat.seat.table_id ≡ gates.now.words.shared.table_id }
-    ensures asker { a.new.seat.seat.table_id ≡ a.old.seat.seat.table_id }
-    ensures adder { b.new.seat.seat.table_id ≡ b.old.seat.seat.table_id }
+    requires asker { IsSeatOf a.old.seat gates.now }
+    requires adder { IsSeatOf b.old.seat gates.now }
+    ensures asker { table_of_node a.new.seat ≡ table_of_node a.old.seat }
+    ensures adder { table_of_node b.new.seat ≡ table_of_node b.old.seat }
 {
     a.begin(gates, 0, 5)?;
     b.take(gates, 0)?;
@@ -91,8 +92,8 @@ fn come_to_an_end(
     a: &mut Seated,
     b: &mut Seated,
 ) -> Result<(), Unfit>
-    requires asker { a.old.seat.seat.table_id ≡ gates.now.words.shared.table_id }
-    requires adder { b.old.seat.seat.table_id ≡ gates.now.words.shared.table_id }
+    requires asker { IsSeatOf a.old.seat gates.now }
+    requires adder { IsSeatOf b.old.seat gates.now }
 {
     b.give(gates, 0, 11)?;
     let answered = TakeAnswer::Stale {

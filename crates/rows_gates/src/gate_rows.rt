@@ -1,6 +1,7 @@
 //! Rows of a source and a sink at the gates.
 
 ghost use Rattle.std.specs.Prelude.{◌≡◌};
+ghost use Rattle.txn_gate.specs.Seats.{IsSeatOf};
 
 use crate::row_systems::{apart, close, look, make_later};
 use crate::seated::Seated;
@@ -32,8 +33,8 @@ fn unlinked_source(rt: HostRuntime) -> Result<(), Fail> {
 
 /// A transaction of the source and the sink, with what each sees of it.
 fn exchange(rt: &impl Abort, gates: &Gates, s: &mut Seated, t: &mut Seated) -> Result<(), Unfit>
-    requires source { s.old.seat.seat.table_id ≡ gates.now.words.shared.table_id }
-    requires sink { t.old.seat.seat.table_id ≡ gates.now.words.shared.table_id }
+    requires source { IsSeatOf s.old.seat gates.now }
+    requires sink { IsSeatOf t.old.seat gates.now }
 {
     let begun = s.begin(gates, 0, 5)?;
     assert_eq!(rt;

@@ -7,8 +7,9 @@ ghost use Rattle.config_graph.specs.declared.kind.Kind.TheVariants as kind;
 ghost use Rattle.gate_records.specs.Entries.{config_of};
 ghost use Rattle.gate_records.specs.Notes.{is_noted};
 ghost use Rattle.gate_rule.specs.Merging.{MergeIntoRun};
-ghost use Rattle.gate_rule.specs.Views.{change_of, is_among};
+ghost use Rattle.gate_rule.specs.Views.{is_among};
 ghost use Rattle.rows_gates.specs.Made.{closed_two, made_again, opened_two, removed_second};
+ghost use Rattle.txn_gate.specs.Seats.{IsChangeSeatOf, IsSeatOf, collected_in, record_of, table_of_change, table_of_node};
 
 use crate::row_systems::are_all_noted;
 use crate::seated::Seated;
@@ -27,12 +28,12 @@ fn close_two(
     first: &Node,
     second: &Node,
 ) -> Result<(), Unfit>
-    requires here { change.old.seat.table_id ≡ gates.now.words.shared.table_id }
+    requires here { IsChangeSeatOf change.old gates.now }
     requires opened { (n : ℕ) × (m : ℕ)
-        × ((change_of change.old.seat.me.0).entries ≡ opened_two n m first.now second.now) }
-    ensures here { change.new.seat.table_id ≡ change.old.seat.table_id }
+        × (record_of change.old ≡ opened_two n m first.now second.now) }
+    ensures here { table_of_change change.new ≡ table_of_change change.old }
     ensures closed { IfOk result (λ _. (n : ℕ) × (m : ℕ) × (w : ℕ)
-        × ((change_of change.new.seat.me.0).entries ≡ closed_two n m w first.now second.now)) }
+        × (record_of change.new ≡ closed_two n m w first.now second.now)) }
 {
     let (_, _) = (first, second);
     if !change.is_live_port(0) || change.made().ports == 0 {
@@ -51,13 +52,13 @@ fn remove_second(
     first: &Node,
     second: &Node,
 )
-    requires here { change.old.seat.table_id ≡ gates.now.words.shared.table_id }
+    requires here { IsChangeSeatOf change.old gates.now }
     requires kinds { (first.now.kind ≡ kind.Source) × (second.now.kind ≡ kind.Sink) }
     requires closed { (n : ℕ) × (m : ℕ) × (w : ℕ)
-        × ((change_of change.old.seat.me.0).entries ≡ closed_two n m w first.now second.now) }
-    ensures here { change.new.seat.table_id ≡ change.old.seat.table_id }
+        × (record_of change.old ≡ closed_two n m w first.now second.now) }
+    ensures here { table_of_change change.new ≡ table_of_change change.old }
     ensures removed { (n : ℕ) × (m : ℕ) × (w : ℕ)
-        × ((change_of change.new.seat.me.0).entries ≡ removed_second n m w first.now second.now) }
+        × (record_of change.new ≡ removed_second n m w first.now second.now) }
 {
     let (_, _) = (first, second);
     assert!(rt; change.settled(0));
@@ -81,15 +82,15 @@ fn make_again(
     second: &Node,
     third: &Node,
 ) -> Result<Seated, Unfit>
-    requires here { change.old.seat.table_id ≡ gates.now.words.shared.table_id }
+    requires here { IsChangeSeatOf change.old gates.now }
     requires kinds { (second.now.kind ≡ kind.Sink) × (third.now.kind ≡ kind.Sink) }
     requires paths { bytes_eq first.now.path third.now.path ≡ false }
     requires removed { (n : ℕ) × (m : ℕ) × (w : ℕ)
-        × ((change_of change.old.seat.me.0).entries ≡ removed_second n m w first.now second.now) }
-    ensures here { change.new.seat.table_id ≡ change.old.seat.table_id }
-    ensures seat { IfOk result (λ r. r.seat.seat.table_id ≡ change.old.seat.table_id) }
+        × (record_of change.old ≡ removed_second n m w first.now second.now) }
+    ensures here { table_of_change change.new ≡ table_of_change change.old }
+    ensures seat { IfOk result (λ r. table_of_node r.seat ≡ table_of_change change.old) }
     ensures made { IfOk result (λ _. (n : ℕ) × (m : ℕ) × (w : ℕ) × (k : ℕ)
-        × ((change_of change.new.seat.me.0).entries ≡ made_again n m w k first.now second.now third.now)) }
+        × (record_of change.new ≡ made_again n m w k first.now second.now third.now)) }
 {
     let (_, _) = (first, second);
     make(gates, change, third, Some(1))
@@ -97,13 +98,13 @@ fn make_again(
 
 /// The source, which is settled, leads to the new sink.
 fn link_again(gates: &Gates, change: &mut ChangeSeat, first: &Node, second: &Node, third: &Node)
-    requires here { change.old.seat.table_id ≡ gates.now.words.shared.table_id }
+    requires here { IsChangeSeatOf change.old gates.now }
     requires kinds { (first.now.kind ≡ kind.Source) × (second.now.kind ≡ kind.Sink) × (third.now.kind ≡ kind.Sink) }
     requires made { (n : ℕ) × (m : ℕ) × (w : ℕ) × (k : ℕ)
-        × ((change_of change.old.seat.me.0).entries ≡ made_again n m w k first.now second.now third.now) }
-    requires settled { IsNoted (is_noted (change_of change.old.seat.me.0).entries)
-        (config_of (change_of change.old.seat.me.0).entries) 0 }
-    ensures here { change.new.seat.table_id ≡ change.old.seat.table_id }
+        × (record_of change.old ≡ made_again n m w k first.now second.now third.now) }
+    requires settled { IsNoted (is_noted (record_of change.old))
+        (config_of (record_of change.old)) 0 }
+    ensures here { table_of_change change.new ≡ table_of_change change.old }
 {
     let (_, _, _) = (first, second, third);
     gates.link(change, 0, 2, 0);
@@ -118,12 +119,12 @@ fn replace(
     second: &Node,
     third: &Node,
 ) -> Result<Seated, Unfit>
-    requires here { change.old.seat.table_id ≡ gates.now.words.shared.table_id }
+    requires here { IsChangeSeatOf change.old gates.now }
     requires kinds { (first.now.kind ≡ kind.Source) × (second.now.kind ≡ kind.Sink) × (third.now.kind ≡ kind.Sink) }
     requires opened { (n : ℕ) × (m : ℕ)
-        × ((change_of change.old.seat.me.0).entries ≡ opened_two n m first.now second.now) }
-    ensures here { change.new.seat.table_id ≡ change.old.seat.table_id }
-    ensures seat { IfOk result (λ r. r.seat.seat.table_id ≡ change.old.seat.table_id) }
+        × (record_of change.old ≡ opened_two n m first.now second.now) }
+    ensures here { table_of_change change.new ≡ table_of_change change.old }
+    ensures seat { IfOk result (λ r. table_of_node r.seat ≡ table_of_change change.old) }
 {
     if first.path == third.path {
         return Err(Unfit);
@@ -139,10 +140,10 @@ fn replace(
 
 /// A sight of a node.
 fn sighted(gates: &Gates, change: &mut ChangeSeat, node: Seated) -> Seated
-    requires change { change.old.seat.table_id ≡ gates.now.words.shared.table_id }
-    requires node { node.seat.seat.table_id ≡ gates.now.words.shared.table_id }
-    ensures change { change.new.seat.table_id ≡ change.old.seat.table_id }
-    ensures node { result.seat.seat.table_id ≡ node.seat.seat.table_id }
+    requires change { IsChangeSeatOf change.old gates.now }
+    requires node { IsSeatOf node.seat gates.now }
+    ensures change { table_of_change change.new ≡ table_of_change change.old }
+    ensures node { table_of_node result.seat ≡ table_of_node node.seat }
 {
     let Seated { kind, seat } = node;
     Seated {
@@ -153,10 +154,10 @@ fn sighted(gates: &Gates, change: &mut ChangeSeat, node: Seated) -> Seated
 
 /// A transaction of the source and the new sink.
 fn exchange(rt: &impl Abort, gates: &Gates, s: &mut Seated, u: &mut Seated) -> Result<(), Unfit>
-    requires source { s.old.seat.seat.table_id ≡ gates.now.words.shared.table_id }
-    requires sink { u.old.seat.seat.table_id ≡ gates.now.words.shared.table_id }
-    ensures source { s.new.seat.seat.table_id ≡ s.old.seat.seat.table_id }
-    ensures sink { u.new.seat.seat.table_id ≡ u.old.seat.seat.table_id }
+    requires source { IsSeatOf s.old.seat gates.now }
+    requires sink { IsSeatOf u.old.seat gates.now }
+    ensures source { table_of_node s.new.seat ≡ table_of_node s.old.seat }
+    ensures sink { table_of_node u.new.seat ≡ table_of_node u.old.seat }
 {
     let begun = BeginAnswer::Begun {
         serial: 1,
@@ -176,10 +177,10 @@ fn exchange(rt: &impl Abort, gates: &Gates, s: &mut Seated, u: &mut Seated) -> R
 
 /// The seat of the removed node is collected while the port is open. Then the port is closed and looked at.
 fn collect_removed(gates: &Gates, change: &mut ChangeSeat, removed: Seated) -> Result<(), Unfit>
-    requires here { change.old.seat.table_id ≡ gates.now.words.shared.table_id }
-    requires seat { removed.seat.seat.table_id ≡ gates.now.words.shared.table_id }
-    ensures here { change.new.seat.table_id ≡ change.old.seat.table_id }
-    ensures among { IfOk result (λ _. IsTrue (is_among change.new.seat.me.0.nodes 1)) }
+    requires here { IsChangeSeatOf change.old gates.now }
+    requires seat { IsSeatOf removed.seat gates.now }
+    ensures here { table_of_change change.new ≡ table_of_change change.old }
+    ensures among { IfOk result (λ _. IsTrue (is_among (collected_in change.new) 1)) }
 {
     if removed.seat.slot() != 1 || change.is_live(1) || !change.is_live_port(0) {
         return Err(Unfit);
@@ -201,12 +202,12 @@ fn finish_three(
     first: Seated,
     third: Seated,
 ) -> Result<(), Unfit>
-    requires here { change.old.seat.table_id ≡ gates.now.words.shared.table_id }
-    requires seats { (first.seat.seat.table_id ≡ gates.now.words.shared.table_id)
-        × (third.seat.seat.table_id ≡ gates.now.words.shared.table_id) }
-    requires removed { IsTrue (is_among change.old.seat.me.0.nodes 1) }
+    requires here { IsChangeSeatOf change.old gates.now }
+    requires seats { (IsSeatOf first.seat gates.now)
+        × (IsSeatOf third.seat gates.now) }
+    requires removed { IsTrue (is_among (collected_in change.old) 1) }
     ensures merged { IfOk result
-        (λ _. MergeIntoRun (change_of change.new.seat.me.0).entries change.new.seat.me.0.nodes) }
+        (λ _. MergeIntoRun (record_of change.new) (collected_in change.new)) }
 {
     if change.made().nodes != 3 || first.seat.slot() != 0 || third.seat.slot() != 2 {
         return Err(Unfit);

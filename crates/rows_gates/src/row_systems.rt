@@ -6,9 +6,9 @@ ghost use Rattle.config_graph.specs.declared.kind.Kind.TheVariants as kind;
 ghost use Rattle.gate_records.specs.Entries.{config_of};
 ghost use Rattle.gate_records.specs.Records.{AreAllNoted};
 ghost use Rattle.gate_rule.specs.Merging.{MergeIntoRun};
-ghost use Rattle.gate_rule.specs.Views.{change_of, node_of};
 ghost use Rattle.quiesce_core.specs.Rules.{is_live_port};
 ghost use Rattle.rows_gates.specs.Made.{made_three, opened_two};
+ghost use Rattle.txn_gate.specs.Seats.{IsChangeSeatOf, IsSeatOf, collected_in, node_in, record_of, table_of_change, table_of_node};
 
 use crate::seated::Seated;
 use crate::systems::{make, make_two, node, reopen};
@@ -26,14 +26,14 @@ fn make_three(
     second: &Node,
     third: &Node,
 ) -> Result<(Seated, Seated, Seated), Unfit>
-    requires here { change.old.seat.table_id ≡ gates.now.words.shared.table_id }
-    requires fresh { (change_of change.old.seat.me.0).entries ≡ [] }
-    ensures here { change.new.seat.table_id ≡ change.old.seat.table_id }
-    ensures seats { IfOk result (λ r. (r.0.seat.seat.table_id ≡ change.old.seat.table_id)
-        × (r.1.seat.seat.table_id ≡ change.old.seat.table_id)
-        × (r.2.seat.seat.table_id ≡ change.old.seat.table_id)) }
+    requires here { IsChangeSeatOf change.old gates.now }
+    requires fresh { record_of change.old ≡ [] }
+    ensures here { table_of_change change.new ≡ table_of_change change.old }
+    ensures seats { IfOk result (λ r. (table_of_node r.0.seat ≡ table_of_change change.old)
+        × (table_of_node r.1.seat ≡ table_of_change change.old)
+        × (table_of_node r.2.seat ≡ table_of_change change.old)) }
     ensures made { IfOk result (λ _. (n : ℕ) × (m : ℕ) × (k : ℕ)
-        × ((change_of change.new.seat.me.0).entries ≡ made_three n m k first.now second.now third.now)) }
+        × (record_of change.new ≡ made_three n m k first.now second.now third.now)) }
 {
     if first.path == third.path || second.path == third.path {
         return Err(Unfit);
@@ -45,9 +45,9 @@ fn make_three(
 
 /// The change closes a live port.
 pub fn close(gates: &Gates, change: &mut ChangeSeat, port: u32) -> Result<(), Unfit>
-    requires here { change.old.seat.table_id ≡ gates.now.words.shared.table_id }
-    ensures here { change.new.seat.table_id ≡ change.old.seat.table_id }
-    ensures unfit { IfErr result (λ _. (is_live_port (config_of (change_of change.old.seat.me.0).entries)
+    requires here { IsChangeSeatOf change.old gates.now }
+    ensures here { table_of_change change.new ≡ table_of_change change.old }
+    ensures unfit { IfErr result (λ _. (is_live_port (config_of (record_of change.old))
         port ≡ false) × (change.new ≡ change.old)) }
 {
     if !change.is_live_port(port) {
@@ -59,9 +59,9 @@ pub fn close(gates: &Gates, change: &mut ChangeSeat, port: u32) -> Result<(), Un
 
 /// The change looks at a port that was made.
 pub fn look(gates: &Gates, change: &mut ChangeSeat, port: u32) -> Result<Look, Unfit>
-    requires here { change.old.seat.table_id ≡ gates.now.words.shared.table_id }
-    ensures here { change.new.seat.table_id ≡ change.old.seat.table_id }
-    ensures unfit { IfErr result (λ _. (length (config_of (change_of change.old.seat.me.0).entries).gates ≤ port)
+    requires here { IsChangeSeatOf change.old gates.now }
+    ensures here { table_of_change change.new ≡ table_of_change change.old }
+    ensures unfit { IfErr result (λ _. (length (config_of (record_of change.old)).gates ≤ port)
         × (change.new ≡ change.old)) }
 {
     if port >= change.made().ports {
@@ -78,11 +78,11 @@ pub fn make_later(
     second: &Node,
     later: &Node,
 ) -> Result<Seated, Unfit>
-    requires here { change.old.seat.table_id ≡ gates.now.words.shared.table_id }
+    requires here { IsChangeSeatOf change.old gates.now }
     requires opened { (n : ℕ) × (m : ℕ)
-        × ((change_of change.old.seat.me.0).entries ≡ opened_two n m first.now second.now) }
-    ensures here { change.new.seat.table_id ≡ change.old.seat.table_id }
-    ensures seat { IfOk result (λ r. r.seat.seat.table_id ≡ change.old.seat.table_id) }
+        × (record_of change.old ≡ opened_two n m first.now second.now) }
+    ensures here { table_of_change change.new ≡ table_of_change change.old }
+    ensures seat { IfOk result (λ r. table_of_node r.seat ≡ table_of_change change.old) }
 {
     if first.path == later.path || second.path == later.path {
         return Err(Unfit);
@@ -96,11 +96,11 @@ pub fn apart(
     gates: &Gates,
     change: &mut ChangeSeat,
 ) -> Result<(Seated, Seated), Unmade>
-    requires here { change.old.seat.table_id ≡ gates.now.words.shared.table_id }
-    requires fresh { (change_of change.old.seat.me.0).entries ≡ [] }
-    ensures here { change.new.seat.table_id ≡ change.old.seat.table_id }
-    ensures seats { IfOk result (λ r. (r.0.seat.seat.table_id ≡ change.old.seat.table_id)
-        × (r.1.seat.seat.table_id ≡ change.old.seat.table_id)) }
+    requires here { IsChangeSeatOf change.old gates.now }
+    requires fresh { record_of change.old ≡ [] }
+    ensures here { table_of_change change.new ≡ table_of_change change.old }
+    ensures seats { IfOk result (λ r. (table_of_node r.0.seat ≡ table_of_change change.old)
+        × (table_of_node r.1.seat ≡ table_of_change change.old)) }
 {
     let source = node(alloc, b"s", Kind::Source, Some(9))?;
     let sink = node(alloc, b"t", Kind::Sink, None)?;
@@ -116,12 +116,12 @@ pub fn line(
     change: &mut ChangeSeat,
     whole: bool,
 ) -> Result<(Seated, Seated, Seated), Unmade>
-    requires here { change.old.seat.table_id ≡ gates.now.words.shared.table_id }
-    requires fresh { (change_of change.old.seat.me.0).entries ≡ [] }
-    ensures here { change.new.seat.table_id ≡ change.old.seat.table_id }
-    ensures seats { IfOk result (λ r. (r.0.seat.seat.table_id ≡ change.old.seat.table_id)
-        × (r.1.seat.seat.table_id ≡ change.old.seat.table_id)
-        × (r.2.seat.seat.table_id ≡ change.old.seat.table_id)) }
+    requires here { IsChangeSeatOf change.old gates.now }
+    requires fresh { record_of change.old ≡ [] }
+    ensures here { table_of_change change.new ≡ table_of_change change.old }
+    ensures seats { IfOk result (λ r. (table_of_node r.0.seat ≡ table_of_change change.old)
+        × (table_of_node r.1.seat ≡ table_of_change change.old)
+        × (table_of_node r.2.seat ≡ table_of_change change.old)) }
 {
     let map = node(alloc, b"m", Kind::Map, Some(10))?;
     let source = node(alloc, b"s", Kind::Source, Some(3))?;
@@ -144,11 +144,11 @@ fn link_three(
     third: &Node,
     whole: bool,
 )
-    requires here { change.old.seat.table_id ≡ gates.now.words.shared.table_id }
+    requires here { IsChangeSeatOf change.old gates.now }
     requires kinds { (first.now.kind ≡ kind.Map) × (second.now.kind ≡ kind.Source) × (third.now.kind ≡ kind.Sink) }
     requires made { (n : ℕ) × (m : ℕ) × (k : ℕ)
-        × ((change_of change.old.seat.me.0).entries ≡ made_three n m k first.now second.now third.now) }
-    ensures here { change.new.seat.table_id ≡ change.old.seat.table_id }
+        × (record_of change.old ≡ made_three n m k first.now second.now third.now) }
+    ensures here { table_of_change change.new ≡ table_of_change change.old }
 {
     let (_, _, _) = (first, second, third);
     if whole {
@@ -161,7 +161,7 @@ fn link_three(
 
 /// Whether each port of a live node is noted as drained.
 pub fn are_all_noted(change: &ChangeSeat) -> bool
-    ensures { IsTrue result ↔ AreAllNoted (change_of change.now.seat.me.0).entries }
+    ensures { IsTrue result ↔ AreAllNoted (record_of change.now) }
 {
     for port in 0..change.made().ports {
         if change.is_live_port(port) && !change.is_noted(port) {
@@ -179,14 +179,14 @@ pub fn finish_two(
     first: Seated,
     second: Seated,
 ) -> Result<(), Unfit>
-    requires here { change.old.seat.table_id ≡ gates.now.words.shared.table_id }
-    requires seats { (first.seat.seat.table_id ≡ gates.now.words.shared.table_id)
-        × (second.seat.seat.table_id ≡ gates.now.words.shared.table_id) }
+    requires here { IsChangeSeatOf change.old gates.now }
+    requires seats { (IsSeatOf first.seat gates.now)
+        × (IsSeatOf second.seat gates.now) }
     ensures merged { IfOk result
-        (λ _. MergeIntoRun (change_of change.new.seat.me.0).entries change.new.seat.me.0.nodes) }
-    ensures unfit { IfErr result (λ _. (length (config_of (change_of change.old.seat.me.0).entries).slots ≡ 2
-        → (node_of first.seat.seat.me.0).slot ≡ 0
-        → (node_of second.seat.seat.me.0).slot ≡ 1 → AreAllNoted (change_of change.old.seat.me.0).entries
+        (λ _. MergeIntoRun (record_of change.new) (collected_in change.new)) }
+    ensures unfit { IfErr result (λ _. (length (config_of (record_of change.old)).slots ≡ 2
+        → (node_in first.seat).slot ≡ 0
+        → (node_in second.seat).slot ≡ 1 → AreAllNoted (record_of change.old)
         → ⊥) × (change.new ≡ change.old)) }
 {
     if change.made().nodes != 2 || first.seat.slot() != 0 || second.seat.slot() != 1 {

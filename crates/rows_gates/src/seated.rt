@@ -3,9 +3,10 @@
 
 ghost use Rattle.std.specs.Prelude.{◌≡◌, ◌<◌, ◌↔◌, IfOk, IfErr, IsTrue, slice_index_or};
 ghost use Rattle.quiesce_core.specs.Knowledge.{port_at_start};
-ghost use Rattle.gate_rule.specs.Views.{node_at, node_of};
+ghost use Rattle.gate_rule.specs.Views.{node_at};
 ghost use Rattle.port_gate.specs.Seats as seats;
 ghost use Rattle.port_gate.specs.Seats.{HasEndedCalls, IsOwn, MayBegin, MayCall, MayEnd, MayGive, MaySee, MayTake};
+ghost use Rattle.txn_gate.specs.Seats.{IsSeatOf, node_in, table_of_node};
 
 use crate::unfit::Unfit;
 use config_graph::{Kind, MAX_PORTS, VALUE_LIMIT, kinds_are_small};
@@ -18,7 +19,7 @@ use txn_gate::{Gates, NodeSeat};
 pub struct Seated {
     pub kind: Kind,
     pub seat: NodeSeat,
-    pub ghost kind_is: { (node_of seat.seat.me.0).made.kind ≡ kind },
+    pub ghost kind_is: { (node_in seat).made.kind ≡ kind },
 }
 
 /// What is known of the port of this requirement.
@@ -39,9 +40,9 @@ fn has_ended_calls(known: &Known) -> bool
 impl Seated {
     /// The node begins a transaction of its own, at an idle port of its own.
     pub fn begin(&mut self, gates: &Gates, port: u32, value: u32) -> Result<BeginAnswer, Unfit>
-        requires here { self.old.seat.seat.table_id ≡ gates.now.words.shared.table_id }
-        ensures here { self.new.seat.seat.table_id ≡ self.old.seat.seat.table_id }
-        ensures unfit { IfErr result (λ _. (MayBegin (node_at (node_of self.old.seat.seat.me.0)) self.old.seat.known
+        requires here { IsSeatOf self.old.seat gates.now }
+        ensures here { table_of_node self.new.seat ≡ table_of_node self.old.seat }
+        ensures unfit { IfErr result (λ _. (MayBegin (node_at (node_in self.old.seat)) self.old.seat.known
             port value → ⊥) × (self.new ≡ self.old)) }
     {
         let known = self.port_known(port)?;
@@ -53,10 +54,10 @@ impl Seated {
 
     /// What is known of a port of its own.
     pub(crate) fn port_known(&self, port: u32) -> Result<PortKnown, Unfit>
-        ensures own { IfOk result (λ _. IsOwn (node_at (node_of self.now.seat.seat.me.0)) port) }
+        ensures own { IfOk result (λ _. IsOwn (node_at (node_in self.now.seat)) port) }
         ensures known { IfOk result
-            (λ k. k ≡ seats.port_known (node_at (node_of self.now.seat.seat.me.0)) self.now.seat.known port) }
-        ensures unfit { IfErr result (λ _. IsOwn (node_at (node_of self.now.seat.seat.me.0)) port → ⊥) }
+            (λ k. k ≡ seats.port_known (node_at (node_in self.now.seat)) self.now.seat.known port) }
+        ensures unfit { IfErr result (λ _. IsOwn (node_at (node_in self.now.seat)) port → ⊥) }
     {
         let first = self.seat.first_port();
         if port < first {
@@ -72,9 +73,9 @@ impl Seated {
 
     /// The node calls in its service, by a provision that depends on the idle port.
     pub fn call(&mut self, gates: &Gates, port: u32, value: u32) -> Result<CallAnswer, Unfit>
-        requires here { self.old.seat.seat.table_id ≡ gates.now.words.shared.table_id }
-        ensures here { self.new.seat.seat.table_id ≡ self.old.seat.seat.table_id }
-        ensures unfit { IfErr result (λ _. (MayCall (node_at (node_of self.old.seat.seat.me.0)) self.old.seat.known
+        requires here { IsSeatOf self.old.seat gates.now }
+        ensures here { table_of_node self.new.seat ≡ table_of_node self.old.seat }
+        ensures unfit { IfErr result (λ _. (MayCall (node_at (node_in self.old.seat)) self.old.seat.known
             port value → ⊥) × (self.new ≡ self.old)) }
     {
         let known = self.port_known(port)?;
@@ -95,8 +96,8 @@ impl Seated {
 
     /// The node, which services nothing, takes up what is asked of it at a port.
     pub fn take(&mut self, gates: &Gates, port: u32) -> Result<TakeAnswer, Unfit>
-        requires here { self.old.seat.seat.table_id ≡ gates.now.words.shared.table_id }
-        ensures here { self.new.seat.seat.table_id ≡ self.old.seat.seat.table_id }
+        requires here { IsSeatOf self.old.seat gates.now }
+        ensures here { table_of_node self.new.seat ≡ table_of_node self.old.seat }
         ensures unfit { IfErr result (λ _. (MayTake self.old.seat.known port → ⊥) × (self.new ≡ self.old)) }
     {
         if self.seat.known.service.is_some() || port >= MAX_PORTS {
@@ -120,8 +121,8 @@ impl Seated {
 
     /// The node answers the request that it services at a port.
     pub fn give(&mut self, gates: &Gates, port: u32, value: u32) -> Result<(), Unfit>
-        requires here { self.old.seat.seat.table_id ≡ gates.now.words.shared.table_id }
-        ensures here { self.new.seat.seat.table_id ≡ self.old.seat.seat.table_id }
+        requires here { IsSeatOf self.old.seat gates.now }
+        ensures here { table_of_node self.new.seat ≡ table_of_node self.old.seat }
         ensures unfit { IfErr result (λ _. (MayGive self.old.seat.known port value → ⊥) × (self.new ≡ self.old)) }
     {
         if !self.may_give(port, value) {
@@ -133,9 +134,9 @@ impl Seated {
 
     /// The node looks for a reply at a port of its own that is in a transaction.
     pub fn see(&mut self, gates: &Gates, port: u32) -> Result<SeeAnswer, Unfit>
-        requires here { self.old.seat.seat.table_id ≡ gates.now.words.shared.table_id }
-        ensures here { self.new.seat.seat.table_id ≡ self.old.seat.seat.table_id }
-        ensures unfit { IfErr result (λ _. (MaySee (node_at (node_of self.old.seat.seat.me.0)) self.old.seat.known
+        requires here { IsSeatOf self.old.seat gates.now }
+        ensures here { table_of_node self.new.seat ≡ table_of_node self.old.seat }
+        ensures unfit { IfErr result (λ _. (MaySee (node_at (node_in self.old.seat)) self.old.seat.known
             port → ⊥) × (self.new ≡ self.old)) }
     {
         let known = self.port_known(port)?;
@@ -147,9 +148,9 @@ impl Seated {
 
     /// The node ends the transaction whose answer it saw.
     pub fn end(&mut self, gates: &Gates, port: u32) -> Result<(), Unfit>
-        requires here { self.old.seat.seat.table_id ≡ gates.now.words.shared.table_id }
-        ensures here { self.new.seat.seat.table_id ≡ self.old.seat.seat.table_id }
-        ensures unfit { IfErr result (λ _. (MayEnd (node_at (node_of self.old.seat.seat.me.0)) self.old.seat.known
+        requires here { IsSeatOf self.old.seat gates.now }
+        ensures here { table_of_node self.new.seat ≡ table_of_node self.old.seat }
+        ensures unfit { IfErr result (λ _. (MayEnd (node_at (node_in self.old.seat)) self.old.seat.known
             port → ⊥) × (self.new ≡ self.old)) }
     {
         let known = self.port_known(port)?;

@@ -5,11 +5,11 @@ ghost use Rattle.std.specs.Prelude.{◌≡◌, ℕ, false, [], ◌∷◌, ◌++�
 ghost use Rattle.std.specs.Option.{option_map_or};
 ghost use Rattle.gate_records.specs.Entries.{config_of};
 ghost use Rattle.gate_records.specs.declared.entry.Entry.TheVariants.{Did};
-ghost use Rattle.gate_rule.specs.Views.{change_of, node_of};
 ghost use Rattle.quiesce_core.specs.Legal.{CanMake};
 ghost use Rattle.quiesce_core.specs.Rules.{can_move, is_live_port, is_path_taken};
 ghost use Rattle.quiesce_core.specs.declared.event.Event.TheVariants as event;
 ghost use Rattle.rows_gates.specs.Made.{DidNothing, LeadsTo, made_two, opened_two};
+ghost use Rattle.txn_gate.specs.Seats.{IsChangeSeatOf, node_in, record_of, table_of_change, table_of_node};
 
 use crate::seated::Seated;
 use crate::unfit::{Unfit, Unmade};
@@ -38,18 +38,18 @@ pub(crate) fn make(
     node: &Node,
     from: Option<u32>,
 ) -> Result<Seated, Unfit>
-    requires here { change.old.seat.table_id ≡ gates.now.words.shared.table_id }
-    requires new_path { is_path_taken (config_of (change_of change.old.seat.me.0).entries) node.now.path ≡ false }
-    requires moves { IsTrue (option_map_or (λ k. can_move (config_of (change_of change.old.seat.me.0).entries) k
+    requires here { IsChangeSeatOf change.old gates.now }
+    requires new_path { is_path_taken (config_of (record_of change.old)) node.now.path ≡ false }
+    requires moves { IsTrue (option_map_or (λ k. can_move (config_of (record_of change.old)) k
         node.now.kind) from true) }
-    ensures here { change.new.seat.table_id ≡ change.old.seat.table_id }
-    ensures seat { IfOk result (λ r. r.seat.seat.table_id ≡ change.old.seat.table_id) }
-    ensures fresh { IfOk result (λ r. DidNothing (node_of r.seat.seat.me.0)) }
-    ensures made { IfOk result (λ _. (n : ℕ) × ((change_of change.new.seat.me.0).entries
-        ≡ (change_of change.old.seat.me.0).entries ++ Did (event.Make n node.now from) ∷ [])) }
+    ensures here { table_of_change change.new ≡ table_of_change change.old }
+    ensures seat { IfOk result (λ r. table_of_node r.seat ≡ table_of_change change.old) }
+    ensures fresh { IfOk result (λ r. DidNothing (node_in r.seat)) }
+    ensures made { IfOk result (λ _. (n : ℕ) × (record_of change.new
+        ≡ record_of change.old ++ Did (event.Make n node.now from) ∷ [])) }
     ensures unfit { IfErr result
-        (λ _. (0 < change.old.spare → CanMake (config_of (change_of change.old.seat.me.0).entries)
-        (length (config_of (change_of change.old.seat.me.0).entries).slots) node.now from → ⊥)
+        (λ _. (0 < change.old.spare → CanMake (config_of (record_of change.old))
+        (length (config_of (record_of change.old)).slots) node.now from → ⊥)
         × (change.new ≡ change.old)) }
 {
     let made = change.made();
@@ -78,15 +78,15 @@ pub(crate) fn make_two(
     first: &Node,
     second: &Node,
 ) -> Result<(Seated, Seated), Unfit>
-    requires here { change.old.seat.table_id ≡ gates.now.words.shared.table_id }
-    requires fresh { (change_of change.old.seat.me.0).entries ≡ [] }
-    ensures here { change.new.seat.table_id ≡ change.old.seat.table_id }
-    ensures seats { IfOk result (λ r. (r.0.seat.seat.table_id ≡ change.old.seat.table_id)
-        × (r.1.seat.seat.table_id ≡ change.old.seat.table_id)) }
-    ensures fresh { IfOk result (λ r. DidNothing (node_of r.0.seat.seat.me.0)
-        × DidNothing (node_of r.1.seat.seat.me.0)) }
+    requires here { IsChangeSeatOf change.old gates.now }
+    requires fresh { record_of change.old ≡ [] }
+    ensures here { table_of_change change.new ≡ table_of_change change.old }
+    ensures seats { IfOk result (λ r. (table_of_node r.0.seat ≡ table_of_change change.old)
+        × (table_of_node r.1.seat ≡ table_of_change change.old)) }
+    ensures fresh { IfOk result (λ r. DidNothing (node_in r.0.seat)
+        × DidNothing (node_in r.1.seat)) }
     ensures made { IfOk result (λ _. (n : ℕ) × (m : ℕ)
-        × ((change_of change.new.seat.me.0).entries ≡ made_two n m first.now second.now)) }
+        × (record_of change.new ≡ made_two n m first.now second.now)) }
 {
     if first.path == second.path {
         return Err(Unfit);
@@ -98,11 +98,11 @@ pub(crate) fn make_two(
 
 /// The change opens a live port.
 pub fn reopen(gates: &Gates, change: &mut ChangeSeat, port: u32) -> Result<(), Unfit>
-    requires here { change.old.seat.table_id ≡ gates.now.words.shared.table_id }
-    ensures here { change.new.seat.table_id ≡ change.old.seat.table_id }
-    ensures reopened { IfOk result (λ _. (change_of change.new.seat.me.0).entries
-        ≡ (change_of change.old.seat.me.0).entries ++ Did (event.Reopen port) ∷ []) }
-    ensures unfit { IfErr result (λ _. (is_live_port (config_of (change_of change.old.seat.me.0).entries)
+    requires here { IsChangeSeatOf change.old gates.now }
+    ensures here { table_of_change change.new ≡ table_of_change change.old }
+    ensures reopened { IfOk result (λ _. record_of change.new
+        ≡ record_of change.old ++ Did (event.Reopen port) ∷ []) }
+    ensures unfit { IfErr result (λ _. (is_live_port (config_of (record_of change.old))
         port ≡ false) × (change.new ≡ change.old)) }
 {
     if !change.is_live_port(port) {
@@ -114,11 +114,11 @@ pub fn reopen(gates: &Gates, change: &mut ChangeSeat, port: u32) -> Result<(), U
 
 /// The first node, in slot 0, leads to the second in slot 1.
 fn link_two(gates: &Gates, change: &mut ChangeSeat, first: &Node, second: &Node)
-    requires here { change.old.seat.table_id ≡ gates.now.words.shared.table_id }
+    requires here { IsChangeSeatOf change.old gates.now }
     requires kinds { LeadsTo first.now.kind second.now.kind }
-    requires made { (n : ℕ) × (m : ℕ) × ((change_of change.old.seat.me.0).entries ≡ made_two n m first.now second.now) }
-    ensures here { change.new.seat.table_id ≡ change.old.seat.table_id }
-    ensures linked { (n : ℕ) × (m : ℕ) × ((change_of change.new.seat.me.0).entries ≡ made_two n m first.now
+    requires made { (n : ℕ) × (m : ℕ) × (record_of change.old ≡ made_two n m first.now second.now) }
+    ensures here { table_of_change change.new ≡ table_of_change change.old }
+    ensures linked { (n : ℕ) × (m : ℕ) × (record_of change.new ≡ made_two n m first.now
         second.now ++ Did (event.Link 0 1 0) ∷ []) }
 {
     let (_, _) = (first, second);
@@ -132,16 +132,16 @@ pub(crate) fn open_two(
     first: &Node,
     second: &Node,
 ) -> Result<(Seated, Seated), Unfit>
-    requires here { change.old.seat.table_id ≡ gates.now.words.shared.table_id }
+    requires here { IsChangeSeatOf change.old gates.now }
     requires kinds { LeadsTo first.now.kind second.now.kind }
-    requires fresh { (change_of change.old.seat.me.0).entries ≡ [] }
-    ensures here { change.new.seat.table_id ≡ change.old.seat.table_id }
-    ensures seats { IfOk result (λ r. (r.0.seat.seat.table_id ≡ change.old.seat.table_id)
-        × (r.1.seat.seat.table_id ≡ change.old.seat.table_id)) }
-    ensures fresh { IfOk result (λ r. DidNothing (node_of r.0.seat.seat.me.0)
-        × DidNothing (node_of r.1.seat.seat.me.0)) }
+    requires fresh { record_of change.old ≡ [] }
+    ensures here { table_of_change change.new ≡ table_of_change change.old }
+    ensures seats { IfOk result (λ r. (table_of_node r.0.seat ≡ table_of_change change.old)
+        × (table_of_node r.1.seat ≡ table_of_change change.old)) }
+    ensures fresh { IfOk result (λ r. DidNothing (node_in r.0.seat)
+        × DidNothing (node_in r.1.seat)) }
     ensures opened { IfOk result (λ _. (n : ℕ) × (m : ℕ)
-        × ((change_of change.new.seat.me.0).entries ≡ opened_two n m first.now second.now)) }
+        × (record_of change.new ≡ opened_two n m first.now second.now)) }
 {
     let made = make_two(gates, change, first, second)?;
     link_two(gates, change, first, second);
@@ -155,11 +155,11 @@ pub fn pipe(
     gates: &Gates,
     change: &mut ChangeSeat,
 ) -> Result<(Seated, Seated), Unmade>
-    requires here { change.old.seat.table_id ≡ gates.now.words.shared.table_id }
-    requires fresh { (change_of change.old.seat.me.0).entries ≡ [] }
-    ensures here { change.new.seat.table_id ≡ change.old.seat.table_id }
-    ensures seats { IfOk result (λ r. (r.0.seat.seat.table_id ≡ change.old.seat.table_id)
-        × (r.1.seat.seat.table_id ≡ change.old.seat.table_id)) }
+    requires here { IsChangeSeatOf change.old gates.now }
+    requires fresh { record_of change.old ≡ [] }
+    ensures here { table_of_change change.new ≡ table_of_change change.old }
+    ensures seats { IfOk result (λ r. (table_of_node r.0.seat ≡ table_of_change change.old)
+        × (table_of_node r.1.seat ≡ table_of_change change.old)) }
 {
     let source = node(alloc, b"s", Kind::Source, Some(9))?;
     let sink = node(alloc, b"t", Kind::Sink, None)?;

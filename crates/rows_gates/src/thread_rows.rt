@@ -1,6 +1,7 @@
 //! A source and a sink in threads of their own, while a third closes and opens the gate between them.
 
 ghost use Rattle.std.specs.Prelude.{◌≡◌};
+ghost use Rattle.txn_gate.specs.Seats.{IsChangeSeatOf, IsSeatOf, table_of_change, table_of_node};
 
 use crate::exchanges::{Tally, initiate, serve};
 use crate::row_systems::{close, finish_two, look};
@@ -25,8 +26,8 @@ fn close_and_open<R: Wait>(
     change: &mut ChangeSeat,
     done: &AtomicBool,
 ) -> Result<u32, Unfit>
-    requires here { change.old.seat.table_id ≡ gates.now.words.shared.table_id }
-    ensures here { change.new.seat.table_id ≡ change.old.seat.table_id }
+    requires here { IsChangeSeatOf change.old gates.now }
+    ensures here { table_of_change change.new ≡ table_of_change change.old }
 {
     let mut times = 0_u32;
     for _ in rt.forever() {
@@ -49,8 +50,8 @@ fn initiate_all<R: Wait>(
     source: &mut Seated,
     done: &AtomicBool,
 ) -> Result<Tally, Unfit>
-    requires here { source.old.seat.seat.table_id ≡ gates.now.words.shared.table_id }
-    ensures here { source.new.seat.seat.table_id ≡ source.old.seat.seat.table_id }
+    requires here { IsSeatOf source.old.seat gates.now }
+    ensures here { table_of_node source.new.seat ≡ table_of_node source.old.seat }
 {
     let tally = initiate(rt, gates, source, TIMES);
     done.store(true, Ordering::SeqCst);
@@ -69,20 +70,20 @@ fn all_at_once<R: Threads + Wait + Sync>(
     (Seated, Result<Tally, Unfit>),
     (ChangeSeat, Result<u32, Unfit>),
 )
-    requires source { source.seat.seat.table_id ≡ gates.now.words.shared.table_id }
-    requires sink { sink.seat.seat.table_id ≡ gates.now.words.shared.table_id }
-    requires change { change.seat.table_id ≡ gates.now.words.shared.table_id }
-    ensures source { result.0.0.seat.seat.table_id ≡ gates.now.words.shared.table_id }
-    ensures sink { result.1.0.seat.seat.table_id ≡ gates.now.words.shared.table_id }
-    ensures change { result.2.0.seat.table_id ≡ gates.now.words.shared.table_id }
+    requires source { IsSeatOf source.seat gates.now }
+    requires sink { IsSeatOf sink.seat gates.now }
+    requires change { IsChangeSeatOf change gates.now }
+    ensures source { IsSeatOf result.0.0.seat gates.now }
+    ensures sink { IsSeatOf result.1.0.seat gates.now }
+    ensures change { IsChangeSeatOf result.2.0 gates.now }
 {
     let done = AtomicBool::new(false);
     let flag = &done;
     let (first, (second, third)) = thread::join(
         rt,
         move || -> (Seated, Result<Tally, Unfit>)
-            requires { source.seat.seat.table_id ≡ gates.now.words.shared.table_id }
-            ensures { result.0.seat.seat.table_id ≡ gates.entry.now.words.shared.table_id }
+            requires { IsSeatOf source.seat gates.now }
+            ensures { IsSeatOf result.0.seat gates.entry.now }
         {
             let tally = initiate_all(rt, gates, &mut source, flag);
             (source, tally)
@@ -91,23 +92,23 @@ fn all_at_once<R: Threads + Wait + Sync>(
             (Seated, Result<Tally, Unfit>),
             (ChangeSeat, Result<u32, Unfit>),
         )
-            requires { (sink.seat.seat.table_id ≡ gates.now.words.shared.table_id)
-                × (change.seat.table_id ≡ gates.now.words.shared.table_id) }
-            ensures { (result.0.0.seat.seat.table_id ≡ gates.entry.now.words.shared.table_id)
-                × (result.1.0.seat.table_id ≡ gates.entry.now.words.shared.table_id) }
+            requires { (IsSeatOf sink.seat gates.now)
+                × (IsChangeSeatOf change gates.now) }
+            ensures { (IsSeatOf result.0.0.seat gates.entry.now)
+                × (IsChangeSeatOf result.1.0 gates.entry.now) }
         {
             thread::join(
                 rt,
                 move || -> (Seated, Result<Tally, Unfit>)
-                    requires { sink.seat.seat.table_id ≡ gates.now.words.shared.table_id }
-                    ensures { result.0.seat.seat.table_id ≡ gates.entry.now.words.shared.table_id }
+                    requires { IsSeatOf sink.seat gates.now }
+                    ensures { IsSeatOf result.0.seat gates.entry.now }
                 {
                     let tally = serve(rt, gates, &mut sink, TIMES);
                     (sink, tally)
                 },
                 move || -> (ChangeSeat, Result<u32, Unfit>)
-                    requires { change.seat.table_id ≡ gates.now.words.shared.table_id }
-                    ensures { result.0.seat.table_id ≡ gates.entry.now.words.shared.table_id }
+                    requires { IsChangeSeatOf change gates.now }
+                    ensures { IsChangeSeatOf result.0 gates.entry.now }
                 {
                     let times = close_and_open(rt, gates, &mut change, flag);
                     (change, times)

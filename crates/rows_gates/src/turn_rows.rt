@@ -1,10 +1,10 @@
 //! A row of turns: a source and the sink that it leads to take turns at the gates until neither moves.
 
 ghost use Rattle.std.specs.Prelude.{◌≡◌, ◌≤◌, IfOk};
-ghost use Rattle.gate_rule.specs.Views as views;
 ghost use Rattle.gate_rule.specs.Views.{node_at};
 ghost use Rattle.node_host.specs.Hosted.{node_of};
 ghost use Rattle.rows_gates.specs.Made.{DidNothing};
+ghost use Rattle.txn_gate.specs.Seats.{IsSeatOf, node_in, table_of_node};
 
 use crate::seated::Seated;
 use crate::systems::{node, open_two};
@@ -24,9 +24,9 @@ type Host = HostNode<AnyNode, NodeSeat>;
 
 /// A node that did nothing, with its component.
 fn hosted(rt: &impl Abort, alloc: Global, seated: Seated, arg: Option<u32>) -> Host
-    requires fresh { DidNothing (views.node_of seated.seat.seat.me.0) }
-    ensures here { result.seat.seat.table_id ≡ seated.seat.seat.table_id }
-    ensures node { node_at (views.node_of result.seat.seat.me.0) ≡ node_of result.slot result.first_port
+    requires fresh { DidNothing (node_in seated.seat) }
+    ensures here { table_of_node result.seat ≡ table_of_node seated.seat }
+    ensures node { node_at (node_in result.seat) ≡ node_of result.slot result.first_port
         (⟦<AnyNode as Component>⟧.state result.inner) }
 {
     let Seated { kind, seat } = seated;
@@ -44,17 +44,17 @@ fn round(
     a: &mut Host,
     b: &mut Host,
 ) -> Result<bool, NoMemory>
-    requires here_a { a.old.seat.seat.table_id ≡ gates.now.words.shared.table_id }
-    requires node_a { node_at (views.node_of a.old.seat.seat.me.0) ≡ node_of a.old.slot a.old.first_port
+    requires here_a { IsSeatOf a.old.seat gates.now }
+    requires node_a { node_at (node_in a.old.seat) ≡ node_of a.old.slot a.old.first_port
         (⟦<AnyNode as Component>⟧.state a.old.inner) }
-    requires here_b { b.old.seat.seat.table_id ≡ gates.now.words.shared.table_id }
-    requires node_b { node_at (views.node_of b.old.seat.seat.me.0) ≡ node_of b.old.slot b.old.first_port
+    requires here_b { IsSeatOf b.old.seat gates.now }
+    requires node_b { node_at (node_in b.old.seat) ≡ node_of b.old.slot b.old.first_port
         (⟦<AnyNode as Component>⟧.state b.old.inner) }
-    ensures here_a { a.new.seat.seat.table_id ≡ a.old.seat.seat.table_id }
-    ensures node_a { node_at (views.node_of a.new.seat.seat.me.0) ≡ node_of a.new.slot a.new.first_port
+    ensures here_a { table_of_node a.new.seat ≡ table_of_node a.old.seat }
+    ensures node_a { node_at (node_in a.new.seat) ≡ node_of a.new.slot a.new.first_port
         (⟦<AnyNode as Component>⟧.state a.new.inner) }
-    ensures here_b { b.new.seat.seat.table_id ≡ b.old.seat.seat.table_id }
-    ensures node_b { node_at (views.node_of b.new.seat.seat.me.0) ≡ node_of b.new.slot b.new.first_port
+    ensures here_b { table_of_node b.new.seat ≡ table_of_node b.old.seat }
+    ensures node_b { node_at (node_in b.new.seat) ≡ node_of b.new.slot b.new.first_port
         (⟦<AnyNode as Component>⟧.state b.new.inner) }
 {
     let first = turn_at_gates(a, gates, hints, true)?;
@@ -70,11 +70,11 @@ fn rounds(
     b: &mut Host,
     most: u32,
 ) -> Result<u32, NoMemory>
-    requires here_a { a.old.seat.seat.table_id ≡ gates.now.words.shared.table_id }
-    requires node_a { node_at (views.node_of a.old.seat.seat.me.0) ≡ node_of a.old.slot a.old.first_port
+    requires here_a { IsSeatOf a.old.seat gates.now }
+    requires node_a { node_at (node_in a.old.seat) ≡ node_of a.old.slot a.old.first_port
         (⟦<AnyNode as Component>⟧.state a.old.inner) }
-    requires here_b { b.old.seat.seat.table_id ≡ gates.now.words.shared.table_id }
-    requires node_b { node_at (views.node_of b.old.seat.seat.me.0) ≡ node_of b.old.slot b.old.first_port
+    requires here_b { IsSeatOf b.old.seat gates.now }
+    requires node_b { node_at (node_in b.old.seat) ≡ node_of b.old.slot b.old.first_port
         (⟦<AnyNode as Component>⟧.state b.old.inner) }
     ensures few { IfOk result (λ n. n ≤ most) }
 {
