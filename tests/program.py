@@ -95,6 +95,19 @@ def ran(program, folder, words, files=None, stdout=subprocess.PIPE, environment=
     return Ran(done.returncode, done.stdout, done.stderr)
 
 
+def blocks(text):
+    """The blocks of code of a document, each with the number of its first line and its lines."""
+    found, inside = [], False
+    for number, line in enumerate(text.split("\n"), 1):
+        if line.startswith("```"):
+            inside = not inside
+            if inside:
+                found.append((number + 1, []))
+        elif inside:
+            found[-1][1].append(line)
+    return found
+
+
 def want(program, commands):
     """Fails where the program's help doesn't name each of these commands: their rows must not be passed over."""
     came = ran(program, HERE, ["--help"])

@@ -1,0 +1,20 @@
+# Completion of darwin_run's words for bash: `source tools/darwin_run.bash`. Commands come from the program's help, components from
+# the description that the words name, and else files.
+_darwin_run_components() {
+  sed -n 's/.*\<component  *\([A-Za-z_][A-Za-z0-9_]*\).*/\1/p' "$1" 2>/dev/null
+}
+
+_darwin_run() {
+  local word=${COMP_WORDS[COMP_CWORD]} command=${COMP_WORDS[1]} file=${COMP_WORDS[2]}
+  local IFS=$'\n'
+  case $COMP_CWORD:$command in
+    1:*) COMPREPLY=($(compgen -W "$("${COMP_WORDS[0]}" --help 2>/dev/null | awk '$1 == "darwin_run" { print $2 }')" -- "$word")) ;;
+    2:flat | 2:plan | 2:replay) COMPREPLY=($(compgen -f -X '!*.dar' -- "$word") $(compgen -d -S / -- "$word")) ;;
+    3:flat) COMPREPLY=($(compgen -W "$(_darwin_run_components "$file")" -- "$word")) ;;
+    *:flat | *:big) COMPREPLY=() ;;
+    *:plan) COMPREPLY=($(compgen -W "$(_darwin_run_components "$file")"$'\n--' -- "$word")) ;;
+    *) COMPREPLY=($(compgen -f -- "$word")) ;;
+  esac
+}
+
+complete -o filenames -F _darwin_run darwin_run
