@@ -4,6 +4,7 @@ pub mod DifferenceLemmas
 pub mod MoveLaws
 pub mod MoveLemmas
 pub mod PlanningLemmas
+pub mod PlanLaws
 pub mod StepLaws
 pub mod ApplyingLemmas
 pub mod TextLemmas

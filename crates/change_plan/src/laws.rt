@@ -9,7 +9,7 @@ ghost use Rattle.change_plan.specs.Applying.{Connection, ConnectionAfter, IsConn
 ghost use Rattle.change_plan.specs.Moves.{IsOfOneKind, IsShifts, MayMoveAll};
 ghost use Rattle.change_plan.specs.PlanText.{plan_text};
 ghost use Rattle.change_plan.specs.PlanWithin.{IsPlanWithin};
-ghost use Rattle.change_plan.specs.Plans.{HasSameSteps, HasStepsBetween};
+ghost use Rattle.change_plan.specs.Plans.{HasSameSteps, HasStepsBetween, IsPlanOf};
 ghost use Rattle.change_plan.specs.Refusals.{CanPlan, IsRefusal};
 ghost use Rattle.change_plan.specs.declared.error.PlanError.{PlanError};
 ghost use Rattle.config_graph.specs.declared.node.Made.{Made};
@@ -75,4 +75,10 @@ pub fn a_plan_or_a_refusal()
         → (e : PlanError) → CanPlan old new moves made → ¬ IsRefusal old new moves made e }
     ensures one_refusal { (old new : Graph) (moves : List Move) (made : Made) → IsGraph old → IsGraph new
         → (d e : PlanError) → IsRefusal old new moves made d → IsRefusal old new moves made e → d ≡ e }
+{}
+
+/// A law: there is one plan with given moves.
+pub fn there_is_one_plan()
+    ensures { (old new : Graph) (moves : List Move) (p q : Plan) → IsPlanOf old new moves p
+        → IsPlanOf old new moves q → p ≡ q }
 {}

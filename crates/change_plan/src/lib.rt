@@ -14,7 +14,7 @@ mod writing;
 pub use error::PlanError;
 pub use laws::{
     a_plan_leads_to_the_new_graph, a_plan_or_a_refusal, a_state_goes_to_one_node_of_its_kind,
-    only_what_is_frozen_or_created_is_linked_anew, texts_tell_plans,
+    only_what_is_frozen_or_created_is_linked_anew, texts_tell_plans, there_is_one_plan,
     what_is_not_frozen_keeps_its_links,
 };
 pub use plan_data::{Move, OldPort, Plan, Shift};

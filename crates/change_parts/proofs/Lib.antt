@@ -1,0 +1,9 @@
+pub mod LinkedLemmas
+pub mod TieLemmas
+pub mod StageLemmas
+pub mod FreezeLemmas
+pub mod PartLemmas
+pub mod OneLemmas
+pub mod CountLemmas
+pub mod MovingLemmas
+pub mod RoomLemmas
