@@ -2,23 +2,23 @@ use Rattle.std.proofs.Common.{◌≡◌, ◌+◌, ◌++◌, [], ◌∷◌, ◌�
 use Rattle.std.specs.Prelude.{slice_get}
 use Rattle.std.proofs.lemmas.Option.{slice_get-get_or}
 use Rattle.quiesce_core.specs.State.{slot}
-use Rattle.quiesce_core.specs.Tables.{state_of}
+use Rattle.quiesce_core.specs.Links.{config_in}
 use Rattle.quiesce_core.specs.Listed.{AreNodesOf}
 use Rattle.quiesce_core.proofs.TableLaws.{live_made}
 use Rattle.quiesce_core.proofs.OrderLemmas.{nodes_more}
-use Rattle.quiesce_core.proofs.tables.Tables.nodes_in.Goals as goal
+use Rattle.quiesce_core.proofs.links.Links.nodes_in.Goals as goal
 
 pub index-requires : goal.index-requires
 index-requires c =
     let order = c.args.order.now in
     let k = c.loop-slot.slot-index in
     let at : slice_get order k ≡ Some (get_or order k 0) = slice_get-get_or order k 0 c.loop-slot-test.true in
-    omega (arith, live_made (state_of c.args.self.now).config (get_or order k 0) (c.requires.order.live k (get_or order k 0) at), c.args.self.now.slots.ok.0, c.args.self.now.slots.ok.1)
+    omega (arith, live_made (config_in c.args.self.now) (get_or order k 0) (c.requires.order.live k (get_or order k 0) at), c.args.self.now.slots.ok.0, c.args.self.now.slots.ok.1)
 
 pub loop-slot-preserved : goal.loop-slot-preserved
 loop-slot-preserved c =
     let order = c.args.order.now in
-    let config = (state_of c.args.self.now).config in
+    let config = config_in c.args.self.now in
     let k = c.loop-slot.slot-index in
     let n = get_or order k 0 in
     let m = c.index.result.now in

@@ -2,7 +2,7 @@ use Rattle.std.proofs.Common.{◌≡◌, ◌<◌, ◌+◌, ◌++◌, ◌∷◌, 
 use Rattle.std.specs.Prelude.{vec_len, vec_capacity}
 use Rattle.quiesce_core.specs.declared.state.Gate.{Gate}
 use Rattle.quiesce_core.proofs.TableLaws.{new_gates_more, new_gates_length}
-use Rattle.quiesce_core.proofs.making.push_gates.Goals as goal
+use Rattle.quiesce_core.proofs.links.push_gates.Goals as goal
 
 pub loop-require-preserved : goal.loop-require-preserved
 loop-require-preserved c =

@@ -1,23 +1,23 @@
 use Rattle.std.proofs.Common.{◌≡◌, ◌<◌, ◌∙◌, Some, length, get_or, subst, arith, length-set}
 use Rattle.std.specs.Prelude.{slice_get}
 use Rattle.std.proofs.lemmas.Option.{slice_get-get_or}
-use Rattle.quiesce_core.specs.Tables.{state_of}
+use Rattle.quiesce_core.specs.Links.{config_in}
 use Rattle.quiesce_core.specs.Listed.{ArePlaces}
 use Rattle.quiesce_core.proofs.TableLaws.{live_made}
 use Rattle.quiesce_core.proofs.OrderLemmas.{places_more}
-use Rattle.quiesce_core.proofs.tables.Tables.places_in.Goals as goal
+use Rattle.quiesce_core.proofs.links.Links.places_in.Goals as goal
 
 pub index_mut-requires : goal.index_mut-requires
 index_mut-requires c =
     let order = c.args.order.now in
     let k = c.loop-place.place in
     let at : slice_get order k ≡ Some (get_or order k 0) = slice_get-get_or order k 0 c.loop-place-test.true in
-    omega (arith, live_made (state_of c.args.self.now).config (get_or order k 0) (c.requires.order.live k (get_or order k 0) at), c.loop-place.invariant.count)
+    omega (arith, live_made (config_in c.args.self.now) (get_or order k 0) (c.requires.order.live k (get_or order k 0) at), c.loop-place.invariant.count)
 
 pub loop-place-preserved : goal.loop-place-preserved
 loop-place-preserved c =
     let order = c.args.order.now in
-    let config = (state_of c.args.self.now).config in
+    let config = config_in c.args.self.now in
     let k = c.loop-place.place in
     let n = get_or order k 0 in
     let places = c.loop-place.places.items in

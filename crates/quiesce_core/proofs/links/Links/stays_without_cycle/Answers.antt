@@ -2,14 +2,14 @@ use Rattle.std.proofs.Common.{◌≡◌, ◌&&◌, not, true, false, sym, ap, �
 use Rattle.std.proofs.lemmas.Bool.{and_left}
 use Rattle.quiesce_core.specs.State.{owner, is_depended}
 use Rattle.quiesce_core.specs.Searched.{leads_up}
-use Rattle.quiesce_core.specs.Tables.{state_of}
+use Rattle.quiesce_core.specs.Links.{config_in}
 use Rattle.quiesce_core.proofs.ReachLaws.{no_cycle-linked}
-use Rattle.quiesce_core.proofs.tables.Tables.stays_without_cycle.Goals as goal
-use Rattle.quiesce_core.proofs.tables.Tables.stays_without_cycle.Goals.{then-is_depended, else-is_depended}
+use Rattle.quiesce_core.proofs.links.Links.stays_without_cycle.Goals as goal
+use Rattle.quiesce_core.proofs.links.Links.stays_without_cycle.Goals.{then-is_depended, else-is_depended}
 
 pub returns : goal.returns
 returns c =
-    let config = (state_of c.args.self.now).config in
+    let config = config_in c.args.self.now in
     let mine : c.gate-owner.result.owner ≡ owner config c.args.port = ap (λ g. g.owner) c.gate-owner.ensures in
     let both : c.if-is_depended.result ≡ (is_depended config (owner config c.args.port) c.args.port && leads_up config (owner config c.args.port) c.args.target.node) =
     elim c.if-is_depended.branch [

@@ -1,6 +1,6 @@
 use Rattle.std.proofs.Common.{◌≡◌, length}
 use Rattle.quiesce_core.specs.Listed.{ArePlaces}
-use Rattle.quiesce_core.proofs.tables.Tables.places_in.Given as goal
+use Rattle.quiesce_core.proofs.links.Links.places_in.Given as goal
 
 abbrev pub invariant-loop-place : goal.invariant-loop-place
 invariant-loop-place l = record {

@@ -1,7 +1,7 @@
 use Rattle.std.proofs.Common.{◌≡◌, ◌≤◌, ◌++◌}
 use Rattle.std.specs.Prelude.{vec_capacity}
 use Rattle.quiesce_core.specs.Effect.{new_gates}
-use Rattle.quiesce_core.proofs.making.push_gates.Given as goal
+use Rattle.quiesce_core.proofs.links.push_gates.Given as goal
 
 abbrev pub invariant-loop-require : goal.invariant-loop-require
 invariant-loop-require l = record {
