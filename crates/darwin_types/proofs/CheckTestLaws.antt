@@ -16,9 +16,9 @@ use Rattle.darwin_types.specs.NameUses.{NameUse, value, variable, binding_end, n
 use Rattle.darwin_types.specs.declared.error.TypeError.{TypeError}
 use Rattle.darwin_types.specs.Faults.{is_repeated, FaultIn, HasFault, NoFault}
 use Rattle.darwin_types.specs.Faults as fault
-use Rattle.fault_rows.proofs.ListLaws.{all_have, one_left, one_of_two}
-use Rattle.fault_rows.specs.Checks.{Case, case_in, case_of}
-use Rattle.fault_rows.specs.Checks as case
+use Rattle.base.proofs.ListLaws.{all_have, counted_there, one_left}
+use Rattle.darwin_types.specs.FaultCases.{Case, case_in, case_of}
+use Rattle.darwin_types.specs.FaultCases as case
 
 -- ---- truths
 
@@ -118,7 +118,7 @@ is_clear t case = clear_names t case && list_all (clear_in t case) t
 
 repeated : (names : List Name) (x : Name) → are_new names ≡ true → is_repeated names x ≡ true → ⊥
 repeated names x clear two =
-    let found = one_of_two (bytes_eq x) names (omega (arith, leb-true 2 (count_by (bytes_eq x) names) two)) in
+    let found = counted_there (bytes_eq x) names (omega (arith, leb-true 2 (count_by (bytes_eq x) names) two)) in
     both_ways (not (is_repeated names found.0)) (ap not (subst (λ y. is_repeated names y ≡ true) (same_bytes x found.0 found.2) two))
     (all_have (λ y. not (is_repeated names y)) names clear found.0 found.1)
 

@@ -1,7 +1,7 @@
 -- Tests of a description, one for each case of the faults of an elaboration: what passes them all has no fault, and where they
 -- refute all cases but one, it is by this one.
-use Rattle.std.proofs.Common.{◌≡◌, ◌≢◌, ◌∙◌, ◌⊎◌, inl, inr, ℕ, Bool, true, false, not, ◌&&◌, ◌||◌, nat_lt, bytes_eq, List, [], ◌∷◌, length, Option, Some, is_some, slice_get, refl, sym, ap, subst, ⊎_elim, ◌<◌, drop, map, None, arith, Contains}
-use Rattle.std.specs.Prelude.{◌==◌, if◌then◌else◌, option_map}
+use Rattle.std.proofs.Common.{◌≡◌, ◌≢◌, ◌∙◌, ◌⊎◌, inl, inr, ℕ, Bool, true, false, not, ◌&&◌, ◌||◌, nat_lt, bytes_eq, List, [], ◌∷◌, length, Option, Some, is_some, slice_get, refl, sym, ap, subst, ⊎_elim, ◌<◌, drop, map, arith, Contains}
+use Rattle.std.specs.Prelude.{◌==◌}
 use Rattle.std.specs.List.{list_all}
 use Rattle.std.specs.Option.{option_map_or}
 use Rattle.std.proofs.lemmas.Bool.{and_from, and_parts, both_ways, eqb-true, ltb-true, or_cases, or_left, or_right}
@@ -10,8 +10,6 @@ use Rattle.base.proofs.BytesLaws.{bytes_eq_self}
 use Rattle.base.proofs.ContainsLaws.{Contains-at, Contains-cons_cases, Contains-nil, Contains-map}
 use Rattle.config_graph.specs.Cycles.{graph_wiring}
 use Rattle.config_graph.specs.Graph.{Graph}
-use Rattle.config_graph.specs.Kinds.{kind_named}
-use Rattle.config_graph.specs.declared.kind.Kind.{Kind}
 use Rattle.config_graph.specs.declared.node.Node.{Node}
 use Rattle.config_graph.specs.Walks.{Walk}
 use Rattle.config_graph.specs.Walks.Walk.{step, onward}
@@ -24,7 +22,7 @@ use Rattle.darwin_walk.specs.declared.fault.Fault.TheVariants as shown
 use Rattle.elaborator.specs.Bindings.{Bound, BoundThrough, NamedPort, Pair, Port, bindings_in, pair_of, pairs_in, resolve}
 use Rattle.elaborator.specs.Bindings.Bound.{bound}
 use Rattle.elaborator.specs.Bindings.BoundThrough.{at_once, through}
-use Rattle.elaborator.specs.Graph.{IsElab, natural, node_of}
+use Rattle.elaborator.specs.Graph.{IsElab}
 use Rattle.elaborator.specs.Instances.{Inst, Instance, levels, instances, paths_in, top_instance, total}
 use Rattle.elaborator.specs.Paths.{Path}
 use Rattle.elaborator.specs.Faults.{NotesDiffer, Twice, faults_in}
@@ -32,11 +30,12 @@ use Rattle.elaborator.specs.Faults as fault
 use Rattle.elaborator.specs.Faults.NotesDiffer.{differ}
 use Rattle.elaborator.specs.declared.error.ElabError.{ElabError}
 use Rattle.elaborator.proofs.CountLaws.{counted-within}
+use Rattle.elaborator.proofs.NodeLemmas.{node_path}
 use Rattle.elaborator.proofs.InstanceLaws.{instances-listed, top_depth, twice_cases}
 use Rattle.elaborator.proofs.TwiceLaws.{twice_places}
-use Rattle.fault_rows.specs.Elaborations.{Case, FaultOf, Query, case_of}
-use Rattle.fault_rows.specs.Elaborations as case
-use Rattle.fault_rows.proofs.ListLaws.{all_have, one_left}
+use Rattle.elaborator.specs.FaultCases.{Case, FaultOf, Query, case_of}
+use Rattle.elaborator.specs.FaultCases as case
+use Rattle.base.proofs.ListLaws.{all_have, one_left}
 
 -- ---- tests of a description, one for each case; what passes has no fault by the case
 
@@ -180,17 +179,6 @@ one_by_key {A = A} key (z ∷ xs) once x y there other same =
     by rest (inr later) (inl two) = absurd (fresh x later (same ∙ ap key two))
     by rest (inr later) (inr after) = rest later after
 
-node_path : (i : Instance) (n : Node) → node_of i ≡ Some n → n.path ≡ i.path
-node_path i n is = by (is_primitive i.component) (kind_named i.component.name) is
-  where
-    node : Kind → Node
-    node kind = record { path = i.path; kind = kind; arg = option_map (λ v. natural v.value) (slice_get i.env 0) }
-
-    by : (b : Bool) (k : Option Kind) → (if b then option_map node k else None) ≡ Some n → n.path ≡ i.path
-    by true (Some kind) same = sym (ap (λ (m : Node). m.path) (same_Some (node kind) n same))
-    by true None same = absurd (none-some n same)
-    by false k same = absurd (none-some n same)
-
 module _ (rank : Path → ℕ) (tree : Tree) (top : Instance) (shallow : top.depth ≡ 0) (clear : clear_below rank tree case.depends_cycle top ≡ true) where
   bound_rises : (x y : Port) → Bound tree top x y → rank x.path < rank y.path
   bound_rises _ _ (bound i p inst there) =
@@ -259,31 +247,33 @@ none_of rank q _ (fault.top_is_kind c named primitive) clear =
     both_ways (not (is_primitive c)) (ap not primitive) (sym (ap (λ o. option_map_or (λ (c : Component). not (is_primitive c)) o true) named) ∙ at_top rank q case.top_is_kind clear)
 none_of rank q _ (fault.top_args c named unlike) clear =
     unlike (eqb-true (length c.params) (length q.arguments) (sym (ap (λ o. option_map_or (λ (c : Component). length c.params == length q.arguments) o true) named) ∙ at_top rank q case.top_args clear))
-none_of rank q _ (fault.out_of_range top i at is inst shows) clear =
-    none_shown is_range q.tree top i (depth q top is) inst (shown.OutOfRange at) shows refl (below_top rank q case.out_of_range top is clear)
-none_of rank q _ (fault.zero_divisor top i at is inst shows) clear =
-    none_shown is_divisor q.tree top i (depth q top is) inst (shown.ZeroDivisor at) shows refl (below_top rank q case.zero_divisor top is clear)
-none_of rank q _ (fault.bad_index top i at is inst shows) clear =
-    none_shown is_index q.tree top i (depth q top is) inst (shown.BadIndex at) shows refl (below_top rank q case.bad_index top is clear)
-none_of rank q _ (fault.two_instances top i path is inst two) clear =
-    once_only (paths_in q.tree i) (each (λ i. are_once (paths_in q.tree i)) q top is (below_top rank q case.two_instances top is clear) i inst) path two
-none_of rank q _ (fault.two_apart top i j path is inst other unlike makes makes') clear =
+none_of rank q _ (fault.out_of_range i at m shows) clear =
+    none_shown is_range q.tree m.top i (depth q m.top m.is_top) m.inst (shown.OutOfRange at) shows refl (below_top rank q case.out_of_range m.top m.is_top clear)
+none_of rank q _ (fault.zero_divisor i at m shows) clear =
+    none_shown is_divisor q.tree m.top i (depth q m.top m.is_top) m.inst (shown.ZeroDivisor at) shows refl (below_top rank q case.zero_divisor m.top m.is_top clear)
+none_of rank q _ (fault.bad_index i at m shows) clear =
+    none_shown is_index q.tree m.top i (depth q m.top m.is_top) m.inst (shown.BadIndex at) shows refl (below_top rank q case.bad_index m.top m.is_top clear)
+none_of rank q _ (fault.two_instances i path m two) clear =
+    once_only (paths_in q.tree i) (each (λ i. are_once (paths_in q.tree i)) q m.top m.is_top (below_top rank q case.two_instances m.top m.is_top clear) i m.inst) path two
+none_of rank q _ (fault.two_apart i j path m m' unlike makes makes') clear =
+    let here = listed q m.top m.is_top i m.inst in
+    let there = listed q m.top m.is_top j (subst (λ t. Inst q.tree t j) (same_Some m'.top m.top (sym m'.is_top ∙ m.is_top)) m'.inst) in
     ⊎_elim
-    (λ (of_top : list_all (λ i. is_empty (paths_in q.tree i)) (drop 1 (instances q.tree top)) ≡ true).
-    unlike (top_only q.tree top of_top i (listed q top is i inst) path makes ∙ sym (top_only q.tree top of_top j (listed q top is j other) path makes')))
-    (λ (apart : are_apart q.tree (instances q.tree top) ≡ true).
-    apart_only q.tree (instances q.tree top) apart i j (listed q top is i inst) (listed q top is j other) unlike path makes makes')
-    (or_cases (list_all (λ i. is_empty (paths_in q.tree i)) (drop 1 (instances q.tree top))) (are_apart q.tree (instances q.tree top)) (below_top rank q case.two_apart top is clear))
-none_of rank q _ (fault.bound_twice top i p r is inst first second same unlike) clear =
-    unlike (ap (λ (p : Pair). p.target) (one_by_key source_path (pairs_in q.tree i) (each (λ i. are_once (map source_path (pairs_in q.tree i))) q top is (below_top rank q case.bound_twice top is clear) i inst) p r first second (ap (λ (x : Port). x.path) same)))
-none_of rank q _ (fault.bad_binding top i b is inst there none) clear =
+    (λ (of_top : list_all (λ i. is_empty (paths_in q.tree i)) (drop 1 (instances q.tree m.top)) ≡ true).
+    unlike (top_only q.tree m.top of_top i here path makes ∙ sym (top_only q.tree m.top of_top j there path makes')))
+    (λ (apart : are_apart q.tree (instances q.tree m.top) ≡ true).
+    apart_only q.tree (instances q.tree m.top) apart i j here there unlike path makes makes')
+    (or_cases (list_all (λ i. is_empty (paths_in q.tree i)) (drop 1 (instances q.tree m.top))) (are_apart q.tree (instances q.tree m.top)) (below_top rank q case.two_apart m.top m.is_top clear))
+none_of rank q _ (fault.bound_twice i p r m first second same unlike) clear =
+    unlike (ap (λ (p : Pair). p.target) (one_by_key source_path (pairs_in q.tree i) (each (λ i. are_once (map source_path (pairs_in q.tree i))) q m.top m.is_top (below_top rank q case.bound_twice m.top m.is_top clear) i m.inst) p r first second (ap (λ (x : Port). x.path) same)))
+none_of rank q _ (fault.bad_binding i b m there none) clear =
     both_ways (not (is_empty (pair_of q.tree i b))) (ap (λ ps. not (is_empty ps)) none)
-    (all_have (λ b. not (is_empty (pair_of q.tree i b))) (bindings_in i) (each (λ i. list_all (λ b. not (is_empty (pair_of q.tree i b))) (bindings_in i)) q top is (below_top rank q case.bad_binding top is clear) i inst) b there)
-none_of rank q _ (fault.annotation top i b is inst there notes) clear =
+    (all_have (λ b. not (is_empty (pair_of q.tree i b))) (bindings_in i) (each (λ i. list_all (λ b. not (is_empty (pair_of q.tree i b))) (bindings_in i)) q m.top m.is_top (below_top rank q case.bad_binding m.top m.is_top clear) i m.inst) b there)
+none_of rank q _ (fault.annotation i b m there notes) clear =
     both_ways (not (has_notes q.tree i b)) (ap not (both_noted q.tree i b notes))
-    (all_have (λ b. not (has_notes q.tree i b)) (bindings_in i) (each (λ i. list_all (λ b. not (has_notes q.tree i b)) (bindings_in i)) q top is (below_top rank q case.annotation top is clear) i inst) b there)
-none_of rank q _ (fault.too_deep top i is inst deep) clear =
-    both_ways (not (i.depth == 33)) (ap (λ n. not (n == 33)) deep) (each (λ i. not (i.depth == 33)) q top is (below_top rank q case.too_deep top is clear) i inst)
+    (all_have (λ b. not (has_notes q.tree i b)) (bindings_in i) (each (λ i. list_all (λ b. not (has_notes q.tree i b)) (bindings_in i)) q m.top m.is_top (below_top rank q case.annotation m.top m.is_top clear) i m.inst) b there)
+none_of rank q _ (fault.too_deep i m deep) clear =
+    both_ways (not (i.depth == 33)) (ap (λ n. not (n == 33)) deep) (each (λ i. not (i.depth == 33)) q m.top m.is_top (below_top rank q case.too_deep m.top m.is_top clear) i m.inst)
 none_of rank q _ (fault.too_many top is more) clear =
     omega (arith, counted-within q.tree top 65536 (depth q top is) more, ltb-true (total q.tree top) 65537 (below_top rank q case.too_many top is clear))
 none_of rank q _ (fault.depends_cycle top g i n is elab first at) clear =
