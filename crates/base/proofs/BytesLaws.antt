@@ -5,9 +5,10 @@ use Rattle.std.proofs.lemmas.Bool.{true≢false}
 use Rattle.std.proofs.lemmas.Slice.Eq.{bytes_eq-Decides}
 use Rattle.std.specs.Map.{lookup}
 use Rattle.std.specs.Option.{option_or}
-use Rattle.std.specs.Ordering.{nat_cmp, is_eq}
-use Rattle.std.specs.Cmp.Lexicographic.{slice_cmp}
-use Rattle.std.specs.declared.cmp.Ordering.TheVariants.{Equal}
+use Rattle.std.specs.Ordering.{nat_cmp, is_eq, is_lt, ordering_reverse}
+use Rattle.std.specs.Cmp.Lexicographic.{slice_cmp, nat_list_cmp_total}
+use Rattle.std.specs.declared.cmp.Ordering.{Ordering}
+use Rattle.std.specs.declared.cmp.Ordering.TheVariants.{Less, Equal, Greater}
 use Rattle.std.proofs.lemmas.Map.Text.{is_eq-slice_cmp}
 use Rattle.base.proofs.ContainsLaws.{Contains-cons_cases, Contains-nil}
 use Rattle.base.proofs.FindLaws.{found_any, kept_any}
@@ -39,3 +40,9 @@ lookup-append {K} {X} test (x ∷ xs) ys =
 -- texts that stand at one place in the order of bytes
 pub equal_bytes : (p q : List ℕ) → slice_cmp nat_cmp p q ≡ Equal → p ≡ q
 equal_bytes p q e = (bytes_eq-Decides p q).0 (sym (is_eq-slice_cmp p q) ∙ ap is_eq e)
+
+-- of two texts that differ, one is before the other
+pub before_the_other : (p q : List ℕ) (o : Ordering) → slice_cmp nat_cmp q p ≡ o → is_lt o ≡ false → (p ≡ q → ⊥) → slice_cmp nat_cmp p q ≡ Less
+before_the_other p q Less is not_less other = absurd (true≢false not_less)
+before_the_other p q Equal is not_less other = absurd (other (sym (equal_bytes q p is)))
+before_the_other p q Greater is not_less other = nat_list_cmp_total.antisymm p q ∙ ap ordering_reverse is

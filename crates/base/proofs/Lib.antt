@@ -5,7 +5,9 @@ pub mod DecimalLaws
 pub mod EachLaws
 pub mod FindLaws
 pub mod LinesLaws
+pub mod ListLaws
 pub mod MapLaws
+pub mod NumberLaws
 pub mod OptionLaws
 pub mod OrderedLaws
 pub mod PlaceLaws

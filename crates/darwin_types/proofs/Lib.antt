@@ -10,3 +10,4 @@ pub mod Found
 pub mod Sound
 pub mod Complete
 pub mod Verdict
+pub mod CheckTestLaws

@@ -1,39 +1,18 @@
 -- Names that stand twice in a list of names.
-use Rattle.std.proofs.Common.{◌≡◌, ℕ, ◌+◌, ◌≤◌, Bool, true, false, cond, ◌||◌, List, [], ◌∷◌, ◌++◌, bytes_eq, nat_le, refl, ap, sym, subst, zero-add, ◌∙◌, arith}
-use Rattle.std.specs.List.{Contains, count_by, list_any}
-use Rattle.std.proofs.lemmas.Bool.{false≢true, true≢false, le-leb, lt-leb, leb-false, leb-true}
+use Rattle.std.proofs.Common.{◌≡◌, ℕ, ◌+◌, Bool, true, false, cond, List, [], ◌∷◌, ◌++◌, bytes_eq, nat_le, refl, ap, sym, subst, ◌∙◌, arith}
+use Rattle.std.specs.List.{Contains, count_by}
+use Rattle.std.proofs.lemmas.Bool.{le-leb, lt-leb, leb-false, leb-true}
 use Rattle.std.proofs.lemmas.Map.Views.{Contains-from_any}
 use Rattle.darwin_parser.specs.Tree.{Name}
 use Rattle.darwin_types.specs.Scope.{has}
 use Rattle.darwin_types.specs.Faults.{is_repeated}
 use Rattle.base.proofs.BytesLaws.{bytes_eq_self, same_bytes}
 use Rattle.base.proofs.MapLaws.{count_by-append}
-
-none_step : (b c : Bool) (n : ℕ) → (b || c) ≡ false → (c ≡ false → n ≡ 0) → cond b 1 0 + n ≡ 0
-none_step true c n h k = absurd (true≢false h)
-none_step false c n h k = omega (arith, k h)
-
-some_step : (b c : Bool) (n : ℕ) → (b || c) ≡ true → (c ≡ true → 1 ≤ n) → 1 ≤ cond b 1 0 + n
-some_step true c n h k = omega arith
-some_step false c n h k = omega (arith, k h)
+use Rattle.base.proofs.ListLaws.{count_by-cons, count_by-none, count_by-one, count_by-some}
 
 push_step : (b : Bool) (n m : ℕ) → m ≡ n + cond b 1 0 → nat_le 2 n ≡ false → (b ≡ true → n ≡ 0) → nat_le 2 m ≡ false
 push_step true n m e h k = lt-leb 2 m (omega (arith, k refl))
 push_step false n m e h k = lt-leb 2 m (omega (arith, leb-false 2 n h))
-
-count_by-one : {A : Type 0} (p : A → Bool) (x : A) → count_by p (x ∷ []) ≡ cond (p x) 1 0
-count_by-one p x = zero-add (cond (p x) 1 0)
-
-count_by-cons : {A : Type 0} (p : A → Bool) (x : A) (xs : List A) → count_by p (x ∷ xs) ≡ cond (p x) 1 0 + count_by p xs
-count_by-cons p x xs = count_by-append p (x ∷ []) xs ∙ ap (λ n. n + count_by p xs) (count_by-one p x)
-
-count_by-none : {A : Type 0} (p : A → Bool) (xs : List A) → list_any p xs ≡ false → count_by p xs ≡ 0
-count_by-none p [] h = refl
-count_by-none p (x ∷ xs) h = rw count_by-cons (none_step (p x) (list_any p xs) (count_by p xs) h (count_by-none p xs))
-
-count_by-some : {A : Type 0} (p : A → Bool) (xs : List A) → list_any p xs ≡ true → 1 ≤ count_by p xs
-count_by-some p [] h = absurd (false≢true h)
-count_by-some p (x ∷ xs) h = rw count_by-cons (some_step (p x) (list_any p xs) (count_by p xs) h (count_by-some p xs))
 
 -- a list in which no name stands twice stays so with a name that it lacks
 pub is_repeated-push : (xs : List Name) (y : Name) → ((x : Name) → is_repeated xs x ≡ false) → has xs y ≡ false → (x : Name) → is_repeated (xs ++ y ∷ []) x ≡ false

@@ -118,12 +118,12 @@ is_of_binding tree i b f there port = Contains-append_right (own_faults tree i) 
 -- ---- a fault that a part names is one of the whole
 
 pub growth_fault : (tree : Tree) (name : Name) (arguments : List ℤ) (top : Instance) → top_instance tree name arguments ≡ Some top → (f : ElabError) → GrowthFault tree top f → Faults tree name arguments f
-growth_fault tree name arguments top is_top _ (growth.out_of_range i at inst there) = fault.out_of_range top i at is_top inst (is_own tree i (shown.OutOfRange at) there)
-growth_fault tree name arguments top is_top _ (growth.zero_divisor i at inst there) = fault.zero_divisor top i at is_top inst (is_own tree i (shown.ZeroDivisor at) there)
-growth_fault tree name arguments top is_top _ (growth.bad_index i at inst there) = fault.bad_index top i at is_top inst (is_own tree i (shown.BadIndex at) there)
-growth_fault tree name arguments top is_top _ (growth.two_instances i path inst again) = fault.two_instances top i path is_top inst again
-growth_fault tree name arguments top is_top _ (growth.two_apart i j path inst inst' apart there there') = fault.two_apart top i j path is_top inst inst' apart there there'
-growth_fault tree name arguments top is_top _ (growth.too_deep i inst deep) = fault.too_deep top i is_top inst deep
+growth_fault tree name arguments top is_top _ (growth.out_of_range i at inst there) = fault.out_of_range i at (record { top = top; is_top = is_top; inst = inst }) (is_own tree i (shown.OutOfRange at) there)
+growth_fault tree name arguments top is_top _ (growth.zero_divisor i at inst there) = fault.zero_divisor i at (record { top = top; is_top = is_top; inst = inst }) (is_own tree i (shown.ZeroDivisor at) there)
+growth_fault tree name arguments top is_top _ (growth.bad_index i at inst there) = fault.bad_index i at (record { top = top; is_top = is_top; inst = inst }) (is_own tree i (shown.BadIndex at) there)
+growth_fault tree name arguments top is_top _ (growth.two_instances i path inst again) = fault.two_instances i path (record { top = top; is_top = is_top; inst = inst }) again
+growth_fault tree name arguments top is_top _ (growth.two_apart i j path inst inst' apart there there') = fault.two_apart i j path (record { top = top; is_top = is_top; inst = inst }) (record { top = top; is_top = is_top; inst = inst' }) apart there there'
+growth_fault tree name arguments top is_top _ (growth.too_deep i inst deep) = fault.too_deep i (record { top = top; is_top = is_top; inst = inst }) deep
 growth_fault tree name arguments top is_top _ (growth.too_many many) = fault.too_many top is_top many
 
 binding_fault : (e : Expanded) (name : Name) (arguments : List ℤ) (top : Instance) → IsOf e top → top_instance e.tree name arguments ≡ Some top → (f : ElabError) → BindingFault e f → Faults e.tree name arguments f
@@ -133,11 +133,11 @@ binding_fault e name arguments top is_of is_top _ (binding.of_binding n i b f at
     inst = is_of.sound n i at
 
     by : (f : ElabError) → FaultOf e.tree i b f → Faults e.tree name arguments f
-    by _ (of.bad_binding none) = fault.bad_binding top i b is_top inst there none
-    by _ (of.bad_index place port) = fault.bad_index top i place is_top inst (is_of_binding e.tree i b (shown.BadIndex place) there port)
-    by _ (of.annotation notes) = fault.annotation top i b is_top inst there notes
+    by _ (of.bad_binding none) = fault.bad_binding i b (record { top = top; is_top = is_top; inst = inst }) there none
+    by _ (of.bad_index place port) = fault.bad_index i place (record { top = top; is_top = is_top; inst = inst }) (is_of_binding e.tree i b (shown.BadIndex place) there port)
+    by _ (of.annotation notes) = fault.annotation i b (record { top = top; is_top = is_top; inst = inst }) there notes
 binding_fault e name arguments top is_of is_top _ (binding.bound_twice n i p at there clash) =
-    fault.bound_twice top i p clash.other is_top (is_of.sound n i at) there clash.is_there clash.same_source clash.other_target
+    fault.bound_twice i p clash.other (record { top = top; is_top = is_top; inst = is_of.sound n i at }) there clash.is_there clash.same_source clash.other_target
 
 pub build_fault : (e : Expanded) (name : Name) (arguments : List ℤ) (top : Instance) → IsOf e top → top_instance e.tree name arguments ≡ Some top → (f : ElabError) → BuildFault e top f → Faults e.tree name arguments f
 build_fault e name arguments top is_of is_top _ (in_bindings f is) = binding_fault e name arguments top is_of is_top f is
@@ -181,21 +181,21 @@ no_fault e name arguments top g is_of is_top clear built = refuted
     refuted _ (fault.no_top none) = none-some parts.component (sym none ∙ parts.named)
     refuted _ (fault.top_is_kind c named primitive) = false≢true (sym parts.composite ∙ ap is_primitive (sym (one_component c named)) ∙ primitive)
     refuted _ (fault.top_args c named differ) = differ (ap (λ (d : Component). length d.params) (one_component c named) ∙ parts.params)
-    refuted _ (fault.out_of_range t i at is made there) = not_of_value i (shown.OutOfRange at) (inst t i is made) (λ place same. cc) there
-    refuted _ (fault.zero_divisor t i at is made there) = not_of_value i (shown.ZeroDivisor at) (inst t i is made) (λ place same. cc) there
-    refuted _ (fault.bad_index t i at is made there) =
+    refuted _ (fault.out_of_range i at made there) = not_of_value i (shown.OutOfRange at) (inst made.top i made.is_top made.inst) (λ place same. cc) there
+    refuted _ (fault.zero_divisor i at made there) = not_of_value i (shown.ZeroDivisor at) (inst made.top i made.is_top made.inst) (λ place same. cc) there
+    refuted _ (fault.bad_index i at made there) =
         elim (fault_cases e.tree i (shown.BadIndex at) there) [
-          | inl own ↦ not_own i (shown.BadIndex at) (inst t i is made) own
-          | inr port ↦ of_binding i port.0 (error.BadIndex i.path at) (inst t i is made) port.1 (of.bad_index at port.2)
+          | inl own ↦ not_own i (shown.BadIndex at) (inst made.top i made.is_top made.inst) own
+          | inr port ↦ of_binding i port.0 (error.BadIndex i.path at) (inst made.top i made.is_top made.inst) port.1 (of.bad_index at port.2)
         ]
-    refuted _ (fault.two_instances t i path is made again) = clear.once i path (inst t i is made) again
-    refuted _ (fault.two_apart t i j path is made made' apart there there') = apart (clear.apart i j path (inst t i is made) (inst t j is made') there there')
-    refuted _ (fault.bound_twice t i p q is made there there' same other) =
-        let at = is_of.complete i (inst t i is made) in
+    refuted _ (fault.two_instances i path made again) = clear.once i path (inst made.top i made.is_top made.inst) again
+    refuted _ (fault.two_apart i j path made made' apart there there') = apart (clear.apart i j path (inst made.top i made.is_top made.inst) (inst made'.top j made'.is_top made'.inst) there there')
+    refuted _ (fault.bound_twice i p q made there there' same other) =
+        let at = is_of.complete i (inst made.top i made.is_top made.inst) in
         built.no_fault (error.BoundTwice i.path _) (binding.bound_twice at.0 i p at.1 there (record { other = q; is_there = there'; same_source = same; other_target = other }))
-    refuted _ (fault.bad_binding t i b is made there none) = of_binding i b (error.BadBinding i.path b.at) (inst t i is made) there (of.bad_binding none)
-    refuted _ (fault.annotation t i b is made there notes) = of_binding i b (error.Annotation i.path b.at) (inst t i is made) there (of.annotation notes)
-    refuted _ (fault.too_deep t i is made deep) = omega (arith, clear.shallow i (inst t i is made), deep)
+    refuted _ (fault.bad_binding i b made there none) = of_binding i b (error.BadBinding i.path b.at) (inst made.top i made.is_top made.inst) there (of.bad_binding none)
+    refuted _ (fault.annotation i b made there notes) = of_binding i b (error.Annotation i.path b.at) (inst made.top i made.is_top made.inst) there (of.annotation notes)
+    refuted _ (fault.too_deep i made deep) = omega (arith, clear.shallow i (inst made.top i made.is_top made.inst), deep)
     refuted _ (fault.too_many t is many) = omega (arith, clear.few, counted-within e.tree top 65536 (ap (λ (i : Instance). i.depth) parts.is_top) (subst (λ s. CountsMore e.tree s 65536) (one t is) many))
     refuted _ (fault.depends_cycle t h i n is is_elab first at) =
         let same = one_graph e.tree top h g (subst (λ s. IsElab e.tree s h) (one t is) is_elab) built.is_elab in
@@ -230,7 +230,7 @@ bound_once tree name arguments top is_top made_once none = record {
   depth = ap (λ (i : Instance). i.depth) parts.is_top;
   composite = ap (λ (i : Instance). is_primitive i.component) parts.is_top ∙ parts.composite;
   single = single-if_none tree name arguments top is_top made_once;
-  once = λ i p q inst there there' same differ. none i.path (end_bytes p.end) (fault.bound_twice top i p q is_top inst there there' same differ);
+  once = λ i p q inst there there' same differ. none i.path (end_bytes p.end) (fault.bound_twice i p q (record { top = top; is_top = is_top; inst = inst }) there there' same differ);
 }
   where
     parts : IsTopOf tree name arguments top

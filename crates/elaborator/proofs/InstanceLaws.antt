@@ -204,8 +204,8 @@ pub single-if_none :
     → ((path : Path) → ¬ Faults tree name arguments (error.TwoInstances path)) → IsSingle tree top
 single-if_none tree name arguments top is none =
     record {
-      once = λ a path there two. none path (two_instances top a path is there two);
-      apart = λ a b path there there' differ has has'. none path (two_apart top a b path is there there' differ has has');
+      once = λ a path there two. none path (two_instances a path (record { top = top; is_top = is; inst = there }) two);
+      apart = λ a b path there there' differ has has'. none path (two_apart a b path (record { top = top; is_top = is; inst = there }) (record { top = top; is_top = is; inst = there' }) differ has has');
     }
 
 -- where no two entries make one instance, one that isn't the top is told by its path

@@ -7,6 +7,7 @@ pub mod ChainLemmas
 pub mod ChildLaws
 pub mod CountLaws
 pub mod ElaborationLemmas
+pub mod ElaborationTestLaws
 pub mod ExistenceLemmas
 pub mod ExpandLemmas
 pub mod FewLaws

@@ -4,11 +4,10 @@ use Rattle.std.specs.Global.{Vec}
 use Rattle.std.specs.Result.{IfOk}
 use Rattle.std.specs.List.{IsDistinct, slice_get}
 use Rattle.std.specs.List.Sorted.{IsPermutation, IsSortedBy}
-use Rattle.std.specs.Ordering.{nat_cmp, is_lt, ordering_reverse}
+use Rattle.std.specs.Ordering.{nat_cmp, is_lt}
 use Rattle.std.specs.Cmp.Lexicographic.{slice_cmp, nat_list_cmp_total}
-use Rattle.std.specs.declared.cmp.Ordering.{Ordering}
-use Rattle.std.specs.declared.cmp.Ordering.TheVariants.{Less, Equal, Greater}
-use Rattle.std.proofs.lemmas.Bool.{both_ways, cases_eq, false≢true, ne_eqb, eq-eqb, eqb-false}
+use Rattle.std.specs.declared.cmp.Ordering.TheVariants.{Less}
+use Rattle.std.proofs.lemmas.Bool.{cases_eq, false≢true, ne_eqb, eqb-false}
 use Rattle.std.proofs.lemmas.List.{length-map, length_push}
 use Rattle.std.proofs.lemmas.List.Quantifiers.{all_pairs_push}
 use Rattle.std.proofs.lemmas.List.Elements.{Contains-append_left, Contains-append_right, Contains-append_cases}
@@ -21,10 +20,11 @@ use Rattle.elaborator.specs.Numbering.{Expanded, Numbered, IsExpanded}
 use Rattle.elaborator.specs.NodeOrder.{AreListed, IsInOrder}
 use Rattle.elaborator.specs.declared.nodes.Listed.{Listed}
 use Rattle.elaborator.proofs.IndexLemmas.{same_numbered}
-use Rattle.base.proofs.BytesLaws.{equal_bytes}
+use Rattle.base.proofs.BytesLaws.{before_the_other}
 use Rattle.base.proofs.ContainsLaws.{Contains-at, Contains-here, Contains-nil, Contains-one, at_some_place}
 use Rattle.base.proofs.OptionLaws.{option_map_some}
 use Rattle.base.proofs.PlaceLaws.{slice_get-map_at}
+use Rattle.base.proofs.NumberLaws.{eqb_flips}
 
 -- ---- the list
 
@@ -90,17 +90,6 @@ below x y = is_lt (slice_cmp nat_cmp x.path.now y.path.now)
 abbrev same_number : Listed → Listed → Bool
 same_number x y = eqb x.number y.number
 
-eqb_flips : (x y : ℕ) → eqb x y ≡ eqb y x
-eqb_flips x y = ⊎_elim
-    (λ (same : x ≡ y). eq-eqb x y same ∙ sym (eq-eqb y x (sym same)))
-    (λ (other : x ≡ y → ⊥). ne_eqb x y other ∙ sym (ne_eqb y x (λ e. other (sym e)))) (cases_eq x y)
-
--- a path that isn't behind another and differs is before it
-turned : (p q : List ℕ) (o : Ordering) → slice_cmp nat_cmp q p ≡ o → is_lt o ≡ false → (p ≡ q → ⊥) → slice_cmp nat_cmp p q ≡ Less
-turned p q Less is not_less other = absurd (both_ways true not_less refl)
-turned p q Equal is not_less other = absurd (other (sym (equal_bytes q p is)))
-turned p q Greater is not_less other = nat_list_cmp_total.antisymm p q ∙ ap ordering_reverse is
-
 -- the element at a place has the number
 abbrev Found : List Listed → ℕ → ℕ → Type 0
 Found order a m = (x : Listed) × (slice_get order a ≡ Some x) × (x.number ≡ m)
@@ -116,7 +105,7 @@ in_order e expanded few listed order are moved sorted = record {
       let far : below (get_or order b x.0) (get_or order a x.0) ≡ false = sorted_far below (ranks_by nat_list_cmp_total (λ (z : Listed). z.path.now)) order sorted a b x.0 (omega (arith, before)) within in
       let here : below y.0 x.0 ≡ false =
       ap (λ z. below z x.0) (sym (get_or_from_slice_get order b y.0 x.0 y.1)) ∙ ap (λ z. below (get_or order b x.0) z) (sym (get_or_from_slice_get order a x.0 x.0 x.1)) ∙ far in
-      let less = turned x.0.path.now y.0.path.now (slice_cmp nat_cmp y.0.path.now x.0.path.now) refl here (λ same.
+      let less = before_the_other x.0.path.now y.0.path.now (slice_cmp nat_cmp y.0.path.now x.0.path.now) refl here (λ same.
       let one = one_path m n i j at_i at_j (primitive a m i x at_i) (primitive b n j y at_j) (path a m i x at_i ∙ same ∙ sym (path b n j y at_j)) in
       eqb-false (get_or order a x.0).number (get_or order b x.0).number (apart_from_distinct same_number order a b x.0 distinct before within)
       (ap (λ (z : Listed). z.number) (get_or_from_slice_get order a x.0 x.0 x.1) ∙ x.2 ∙ one ∙ sym y.2 ∙ ap (λ (z : Listed). z.number) (sym (get_or_from_slice_get order b y.0 x.0 y.1)))) in

@@ -145,7 +145,7 @@ unfolding source sink Box Top
 twice_fault =
     let first = twice_pair (codes "t") in
     let second = twice_pair (codes "u") in
-    bound_twice twice_top twice_top first second refl at_top (subst (λ ps. Contains ps first) (sym twice_pairs) (0, omega arith, refl)) (subst (λ ps. Contains ps second) (sym twice_pairs) (1, omega arith, refl)) refl other_target
+    bound_twice twice_top first second (record { top = twice_top; is_top = refl; inst = at_top }) (subst (λ ps. Contains ps first) (sym twice_pairs) (0, omega arith, refl)) (subst (λ ps. Contains ps second) (sym twice_pairs) (1, omega arith, refl)) refl other_target
 
 -- ---- one sink
 --   component One { inst t:sink; }

@@ -191,12 +191,12 @@ module _ (tree : Tree) (name : Name) (arguments : List ℤ) where
         where
           by : (fs : List walk.Fault) → faults_in tree i ≡ fs → Some_fault ⊎ (faults_in tree i ≡ [])
           by [] is = inr is
-          by (shown.OutOfRange at ∷ fs) is = inl (error.OutOfRange i.path at, fault.out_of_range top i at is_top here (subst (λ gs. Contains gs (shown.OutOfRange at)) (sym is) (Contains-here (shown.OutOfRange at) fs)))
-          by (shown.ZeroDivisor at ∷ fs) is = inl (error.ZeroDivisor i.path at, fault.zero_divisor top i at is_top here (subst (λ gs. Contains gs (shown.ZeroDivisor at)) (sym is) (Contains-here (shown.ZeroDivisor at) fs)))
-          by (shown.BadIndex at ∷ fs) is = inl (error.BadIndex i.path at, fault.bad_index top i at is_top here (subst (λ gs. Contains gs (shown.BadIndex at)) (sym is) (Contains-here (shown.BadIndex at) fs)))
+          by (shown.OutOfRange at ∷ fs) is = inl (error.OutOfRange i.path at, fault.out_of_range i at (record { top = top; is_top = is_top; inst = here }) (subst (λ gs. Contains gs (shown.OutOfRange at)) (sym is) (Contains-here (shown.OutOfRange at) fs)))
+          by (shown.ZeroDivisor at ∷ fs) is = inl (error.ZeroDivisor i.path at, fault.zero_divisor i at (record { top = top; is_top = is_top; inst = here }) (subst (λ gs. Contains gs (shown.ZeroDivisor at)) (sym is) (Contains-here (shown.ZeroDivisor at) fs)))
+          by (shown.BadIndex at ∷ fs) is = inl (error.BadIndex i.path at, fault.bad_index i at (record { top = top; is_top = is_top; inst = here }) (subst (λ gs. Contains gs (shown.BadIndex at)) (sym is) (Contains-here (shown.BadIndex at) fs)))
 
       tell_once : Some_fault ⊎ ((path : Path) → Twice (paths_in tree i) path → ⊥)
-      tell_once = elim (twice_or_not (paths_in tree i)) [ inl two ↦ inl (error.TwoInstances two.0, fault.two_instances top i two.0 is_top here two.1) | inr none ↦ inr none ]
+      tell_once = elim (twice_or_not (paths_in tree i)) [ inl two ↦ inl (error.TwoInstances two.0, fault.two_instances i two.0 (record { top = top; is_top = is_top; inst = here }) two.1) | inr none ↦ inr none ]
 
       tell_apart : Some_fault ⊎ ((j : Instance) → Contains (instances tree top) j → i ≢ j → (path : Path) → Contains (paths_in tree i) path → Contains (paths_in tree j) path → ⊥)
       tell_apart = all_or Some_fault (λ j. i ≢ j → (path : Path) → Contains (paths_in tree i) path → Contains (paths_in tree j) path → ⊥) (instances tree top) (λ j there. other j ((instances-listed tree top j depth).1 there))
@@ -209,7 +209,7 @@ module _ (tree : Tree) (name : Name) (arguments : List ℤ) where
                     elim (all_or Some_fault (λ path. (z : Path) → Contains (paths_in tree j) z → z ≡ path → ⊥) (paths_in tree i) (λ path has. all_or Some_fault (λ z. z ≡ path → ⊥) (paths_in tree j) (λ z has'.
                     elim (one_bytes z path) [
                       | inr apart ↦ inr apart
-                      | inl same ↦ inl (error.TwoInstances path, fault.two_apart top i j path is_top here there differs has (subst (Contains (paths_in tree j)) same has'))
+                      | inl same ↦ inl (error.TwoInstances path, fault.two_apart i j path (record { top = top; is_top = is_top; inst = here }) (record { top = top; is_top = is_top; inst = there }) differs has (subst (Contains (paths_in tree j)) same has'))
                     ]))) [
                       | inl f ↦ inl f
                       | inr none ↦ inr (λ _ path has has'. none path has path has' refl)
@@ -226,24 +226,24 @@ module _ (tree : Tree) (name : Name) (arguments : List ℤ) where
               → (p.target ≡ q.target) ⊎ (p.target ≡ q.target → ⊥) → Some_fault ⊎ (p.source ≡ q.source → p.target ≢ q.target → ⊥)
           by p q there there' (inr apart) target = inr (λ same differs. apart same)
           by p q there there' (inl same) (inl is) = inr (λ _ differs. differs is)
-          by p q there there' (inl same) (inr differs) = inl (error.BoundTwice i.path (end_bytes p.end), fault.bound_twice top i p q is_top here there there' same differs)
+          by p q there there' (inl same) (inr differs) = inl (error.BoundTwice i.path (end_bytes p.end), fault.bound_twice i p q (record { top = top; is_top = is_top; inst = here }) there there' same differs)
 
       tell_formed : Some_fault ⊎ ((b : Binding) → Contains (bindings_in i) b → pair_of tree i b ≡ [] → ⊥)
       tell_formed = all_or Some_fault (λ b. pair_of tree i b ≡ [] → ⊥) (bindings_in i) (λ b there. by b there (pair_of tree i b) refl)
         where
           by : (b : Binding) → Contains (bindings_in i) b → (ps : List Pair) → pair_of tree i b ≡ ps → Some_fault ⊎ (pair_of tree i b ≡ [] → ⊥)
-          by b there [] is = inl (error.BadBinding i.path b.at, fault.bad_binding top i b is_top here there is)
+          by b there [] is = inl (error.BadBinding i.path b.at, fault.bad_binding i b (record { top = top; is_top = is_top; inst = here }) there is)
           by b there (p ∷ ps) is = inr (λ none. Contains-nil p (subst (λ qs. Contains qs p) (sym is ∙ none) (Contains-here p ps)))
 
       tell_noted : Some_fault ⊎ ((b : Binding) → Contains (bindings_in i) b → NotesDiffer (resolve tree i b.left) (resolve tree i b.right) → ⊥)
       tell_noted = all_or Some_fault (λ b. NotesDiffer (resolve tree i b.left) (resolve tree i b.right) → ⊥) (bindings_in i) (λ b there.
           elim (notes_or_not (resolve tree i b.left) (resolve tree i b.right)) [
-            | inl notes ↦ inl (error.Annotation i.path b.at, fault.annotation top i b is_top here there notes)
+            | inl notes ↦ inl (error.Annotation i.path b.at, fault.annotation i b (record { top = top; is_top = is_top; inst = here }) there notes)
             | inr same ↦ inr same
           ])
 
       tell_shallow : Some_fault ⊎ (i.depth ≡ 33 → ⊥)
-      tell_shallow = elim (one_number i.depth 33) [ inl deep ↦ inl (error.TooDeep i.path, fault.too_deep top i is_top here deep) | inr less ↦ inr less ]
+      tell_shallow = elim (one_number i.depth 33) [ inl deep ↦ inl (error.TooDeep i.path, fault.too_deep i (record { top = top; is_top = is_top; inst = here }) deep) | inr less ↦ inr less ]
 
       tell_faultless : Some_fault ⊎ IsFaultless tree top i
       tell_faultless = by tell_values tell_once tell_apart tell_bound tell_formed tell_noted tell_shallow
@@ -323,15 +323,15 @@ module _ (tree : Tree) (name : Name) (arguments : List ℤ) where
           refuted _ (fault.no_top missing) = none-some parts.component (sym missing ∙ parts.named)
           refuted _ (fault.top_is_kind c is primitive) = false≢true (sym parts.composite ∙ ap is_primitive (same_Some parts.component c (sym parts.named ∙ is)) ∙ primitive)
           refuted _ (fault.top_args c is differs) = differs (ap (λ (d : Component). length d.params) (same_Some c parts.component (sym is ∙ parts.named)) ∙ parts.params)
-          refuted _ (fault.out_of_range t i at is there has) = no_value t i (shown.OutOfRange at) is there has
-          refuted _ (fault.zero_divisor t i at is there has) = no_value t i (shown.ZeroDivisor at) is there has
-          refuted _ (fault.bad_index t i at is there has) = no_value t i (shown.BadIndex at) is there has
-          refuted _ (fault.two_instances t i path is there two) = (faultless t i is there).once path two
-          refuted _ (fault.two_apart t i j path is there there' differs has has') = (faultless t i is there).apart j (there_too t j is there') differs path has has'
-          refuted _ (fault.bound_twice t i p q is there h h' same differs) = (faultless t i is there).bound p h q h' same differs
-          refuted _ (fault.bad_binding t i b is there h none) = (faultless t i is there).formed b h none
-          refuted _ (fault.annotation t i b is there h notes) = (faultless t i is there).noted b h notes
-          refuted _ (fault.too_deep t i is there deep) = (faultless t i is there).shallow deep
+          refuted _ (fault.out_of_range i at m has) = no_value m.top i (shown.OutOfRange at) m.is_top m.inst has
+          refuted _ (fault.zero_divisor i at m has) = no_value m.top i (shown.ZeroDivisor at) m.is_top m.inst has
+          refuted _ (fault.bad_index i at m has) = no_value m.top i (shown.BadIndex at) m.is_top m.inst has
+          refuted _ (fault.two_instances i path m two) = (faultless m.top i m.is_top m.inst).once path two
+          refuted _ (fault.two_apart i j path m m' differs has has') = (faultless m.top i m.is_top m.inst).apart j (there_too m'.top j m'.is_top m'.inst) differs path has has'
+          refuted _ (fault.bound_twice i p q m h h' same differs) = (faultless m.top i m.is_top m.inst).bound p h q h' same differs
+          refuted _ (fault.bad_binding i b m h none) = (faultless m.top i m.is_top m.inst).formed b h none
+          refuted _ (fault.annotation i b m h notes) = (faultless m.top i m.is_top m.inst).noted b h notes
+          refuted _ (fault.too_deep i m deep) = (faultless m.top i m.is_top m.inst).shallow deep
           refuted _ (fault.too_many t is many) = few (counted-within tree top 65536 depth (subst (λ s. CountsMore tree s 65536) (one t is) many))
           refuted _ (fault.depends_cycle t g i n is is_elab first at) =
               subst (λ g. HasNoCycle (graph_wiring g)) (one_graph tree top elab.0 g elab.1 (subst (λ s. IsElab tree s g) (one t is) is_elab)) acyclic i first.on_cycle

@@ -72,6 +72,12 @@ pub record CountsMore (tree : Tree) (top : Instance) (limit : ℕ) : Type 0 wher
   pub each : (i : Instance) → Contains counted i → Inst tree top i
   pub above : limit < sum_by count_in counted
 
+-- an instance of the elaboration: the one at the top, or one that is made in an instance of it
+pub record IsInstance (tree : Tree) (name : Name) (arguments : List ℤ) (i : Instance) : Type 0 where
+  pub top : Instance
+  pub is_top : top_instance tree name arguments ≡ Some top
+  pub inst : Inst tree top i
+
 -- the faults of the elaboration of a description, with a component of a name at the top that has arguments
 pub data Faults (tree : Tree) (name : Name) (arguments : List ℤ) : ElabError → Type 0 where
   -- no component has the name
@@ -85,42 +91,39 @@ pub data Faults (tree : Tree) (name : Name) (arguments : List ℤ) : ElabError �
       → Faults tree name arguments (error.TopArgs (carried (length c.params)) (carried (length arguments)))
   -- a result isn't from -2,147,483,648 to 2,147,483,647, or a kind's argument isn't from 0 to 16,777,215
   out_of_range :
-      (top i : Instance) (at : At) → top_instance tree name arguments ≡ Some top → Inst tree top i
-      → Contains (faults_in tree i) (shown.OutOfRange at) → Faults tree name arguments (error.OutOfRange i.path at)
+      (i : Instance) (at : At) → IsInstance tree name arguments i → Contains (faults_in tree i) (shown.OutOfRange at)
+      → Faults tree name arguments (error.OutOfRange i.path at)
   -- a right side of `/` or `%` is 0
   zero_divisor :
-      (top i : Instance) (at : At) → top_instance tree name arguments ≡ Some top → Inst tree top i
-      → Contains (faults_in tree i) (shown.ZeroDivisor at) → Faults tree name arguments (error.ZeroDivisor i.path at)
+      (i : Instance) (at : At) → IsInstance tree name arguments i → Contains (faults_in tree i) (shown.ZeroDivisor at)
+      → Faults tree name arguments (error.ZeroDivisor i.path at)
   -- an index isn't from 0 to the size less 1
   bad_index :
-      (top i : Instance) (at : At) → top_instance tree name arguments ≡ Some top → Inst tree top i
-      → Contains (faults_in tree i) (shown.BadIndex at) → Faults tree name arguments (error.BadIndex i.path at)
+      (i : Instance) (at : At) → IsInstance tree name arguments i → Contains (faults_in tree i) (shown.BadIndex at)
+      → Faults tree name arguments (error.BadIndex i.path at)
   -- two reached entries make the instance of a path: two of one instance, or one each of two
   two_instances :
-      (top i : Instance) (path : Path) → top_instance tree name arguments ≡ Some top → Inst tree top i → Twice (paths_in tree i) path
+      (i : Instance) (path : Path) → IsInstance tree name arguments i → Twice (paths_in tree i) path
       → Faults tree name arguments (error.TwoInstances path)
   two_apart :
-      (top i j : Instance) (path : Path) → top_instance tree name arguments ≡ Some top → Inst tree top i → Inst tree top j → i ≢ j
+      (i j : Instance) (path : Path) → IsInstance tree name arguments i → IsInstance tree name arguments j → i ≢ j
       → Contains (paths_in tree i) path → Contains (paths_in tree j) path → Faults tree name arguments (error.TwoInstances path)
   -- in an instance one source is bound to two different ends
   bound_twice :
-      (top i : Instance) (p q : Pair) → top_instance tree name arguments ≡ Some top → Inst tree top i
-      → Contains (pairs_in tree i) p → Contains (pairs_in tree i) q → p.source ≡ q.source → p.target ≢ q.target
-      → Faults tree name arguments (error.BoundTwice i.path (end_bytes p.end))
+      (i : Instance) (p q : Pair) → IsInstance tree name arguments i → Contains (pairs_in tree i) p → Contains (pairs_in tree i) q
+      → p.source ≡ q.source → p.target ≢ q.target → Faults tree name arguments (error.BoundTwice i.path (end_bytes p.end))
   -- a reached binding gives no pair: it is of another form, or names an instance that isn't made, or an index is
   -- missing or stands where none belongs
   bad_binding :
-      (top i : Instance) (b : Binding) → top_instance tree name arguments ≡ Some top → Inst tree top i
-      → Contains (bindings_in i) b → pair_of tree i b ≡ [] → Faults tree name arguments (error.BadBinding i.path b.at)
+      (i : Instance) (b : Binding) → IsInstance tree name arguments i → Contains (bindings_in i) b → pair_of tree i b ≡ []
+      → Faults tree name arguments (error.BadBinding i.path b.at)
   -- both ports of a reached binding have a note, and the notes differ
   annotation :
-      (top i : Instance) (b : Binding) → top_instance tree name arguments ≡ Some top → Inst tree top i
-      → Contains (bindings_in i) b → NotesDiffer (resolve tree i b.left) (resolve tree i b.right)
-      → Faults tree name arguments (error.Annotation i.path b.at)
+      (i : Instance) (b : Binding) → IsInstance tree name arguments i → Contains (bindings_in i) b
+      → NotesDiffer (resolve tree i b.left) (resolve tree i b.right) → Faults tree name arguments (error.Annotation i.path b.at)
   -- a reached entry makes an instance of depth 33
   too_deep :
-      (top i : Instance) → top_instance tree name arguments ≡ Some top → Inst tree top i → i.depth ≡ 33
-      → Faults tree name arguments (error.TooDeep i.path)
+      (i : Instance) → IsInstance tree name arguments i → i.depth ≡ 33 → Faults tree name arguments (error.TooDeep i.path)
   -- more than 65,536 turns are taken and entries reached, each instance counted once
   too_many : (top : Instance) → top_instance tree name arguments ≡ Some top → CountsMore tree top 65536
       → Faults tree name arguments error.TooMany

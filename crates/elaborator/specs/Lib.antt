@@ -5,6 +5,7 @@ pub mod Expansion
 pub mod ExpansionFaults
 pub mod Growth
 pub mod Faults
+pub mod FaultCases
 pub mod Graph
 pub mod Instances
 pub mod Links

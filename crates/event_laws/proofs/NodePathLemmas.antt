@@ -373,9 +373,9 @@ module _ (reached : (c : Component) (env : Env) (r : Reached) → Contains (reac
               (Contains-append_left (instance_faults i.component i.env) _ f there)
 
           by : (g : Fault) → Contains (faults_in tree i) g → ⊥
-          by (shown.OutOfRange at) there = clear (error.OutOfRange i.path at) (out_of_range_holds top i at is_top inst there)
-          by (shown.ZeroDivisor at) there = clear (error.ZeroDivisor i.path at) (zero_divisor_holds top i at is_top inst there)
-          by (shown.BadIndex at) there = clear (error.BadIndex i.path at) (bad_index_holds top i at is_top inst there)
+          by (shown.OutOfRange at) there = clear (error.OutOfRange i.path at) (out_of_range_holds i at (record { top = top; is_top = is_top; inst = inst }) there)
+          by (shown.ZeroDivisor at) there = clear (error.ZeroDivisor i.path at) (zero_divisor_holds i at (record { top = top; is_top = is_top; inst = inst }) there)
+          by (shown.BadIndex at) there = clear (error.BadIndex i.path at) (bad_index_holds i at (record { top = top; is_top = is_top; inst = inst }) there)
 
       -- the path of what is made is a path
       right_below : (i j : Instance) → Inst tree top i → IsRight tree i → Contains (made_in tree i) j → IsRight tree j × IsGood j.path

@@ -9,9 +9,10 @@ use Rattle.darwin_types.specs.Faults.{FaultIn}
 use Rattle.darwin_types.specs.Faults as fault
 use Rattle.config_graph.specs.declared.kind.Kind.TheVariants.{Sink}
 use Rattle.fault_rows.specs.Trees.{here, idle, inner, outer}
-use Rattle.fault_rows.specs.Checks.{Case, StandsAlone, case_in, description}
-use Rattle.fault_rows.specs.Checks as case
-use Rattle.fault_rows.proofs.CheckTestLaws.{alone, leaves_alone}
+use Rattle.darwin_types.specs.FaultCases.{Case, case_in}
+use Rattle.darwin_types.specs.FaultCases as case
+use Rattle.darwin_types.proofs.CheckTestLaws.{alone, leaves_alone}
+use Rattle.fault_rows.specs.Checks.{StandsAlone, description}
 
 abbrev first : Tree → Component
 first [] = idle [] []

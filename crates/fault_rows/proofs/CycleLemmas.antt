@@ -20,7 +20,7 @@ use Rattle.elaborator.specs.Instances.Inst.{at_top}
 use Rattle.elaborator.proofs.InstanceLaws.{instances-listed}
 use Rattle.elaborator.proofs.UniqueLaws.{elab_by_list}
 use Rattle.fault_rows.specs.Elaborations.{query}
-use Rattle.fault_rows.specs.Elaborations as case
+use Rattle.elaborator.specs.FaultCases as case
 
 abbrev tree : Tree
 tree = (query case.depends_cycle).tree

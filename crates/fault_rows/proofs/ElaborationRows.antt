@@ -17,10 +17,11 @@ use Rattle.elaborator.proofs.TwiceLaws.{twice_places}
 use Rattle.std.proofs.lemmas.Option.{slice_get_within}
 use Rattle.fault_rows.proofs.CycleLemmas.{the_graph, is_graph, is_first, map_node}
 use Rattle.fault_rows.specs.Trees.{here, idle, component, instance, row}
-use Rattle.fault_rows.specs.Elaborations.{Case, FaultOf, StandsAlone, case_of, query}
-use Rattle.fault_rows.specs.Elaborations as case
-use Rattle.fault_rows.proofs.CheckTestLaws as checks
-use Rattle.fault_rows.proofs.ElaborationTestLaws.{alone, leaves_alone}
+use Rattle.darwin_types.proofs.CheckTestLaws as checks
+use Rattle.elaborator.specs.FaultCases.{Case, FaultOf, case_of}
+use Rattle.elaborator.specs.FaultCases as case
+use Rattle.elaborator.proofs.ElaborationTestLaws.{alone, leaves_alone}
+use Rattle.fault_rows.specs.Elaborations.{StandsAlone, query}
 
 -- a fault of a checked description, alone by its case
 standing :
@@ -57,19 +58,19 @@ top c = record { path = []; depth = 0; component = first (query c).tree; env = [
 
 out_of_range : StandsAlone (query case.out_of_range) case.out_of_range
 unfolding levels
-out_of_range = standing case.out_of_range _ (fault.out_of_range (top case.out_of_range) (top case.out_of_range) here refl at_top (Contains-at (faults_in (query case.out_of_range).tree (top case.out_of_range)) 0 _ refl)) refl refl refl
+out_of_range = standing case.out_of_range _ (fault.out_of_range (top case.out_of_range) here (record { top = top case.out_of_range; is_top = refl; inst = at_top }) (Contains-at (faults_in (query case.out_of_range).tree (top case.out_of_range)) 0 _ refl)) refl refl refl
 
 zero_divisor : StandsAlone (query case.zero_divisor) case.zero_divisor
 unfolding levels
-zero_divisor = standing case.zero_divisor _ (fault.zero_divisor (top case.zero_divisor) (top case.zero_divisor) here refl at_top (Contains-at (faults_in (query case.zero_divisor).tree (top case.zero_divisor)) 0 _ refl)) refl refl refl
+zero_divisor = standing case.zero_divisor _ (fault.zero_divisor (top case.zero_divisor) here (record { top = top case.zero_divisor; is_top = refl; inst = at_top }) (Contains-at (faults_in (query case.zero_divisor).tree (top case.zero_divisor)) 0 _ refl)) refl refl refl
 
 bad_index : StandsAlone (query case.bad_index) case.bad_index
 unfolding levels
-bad_index = standing case.bad_index _ (fault.bad_index (top case.bad_index) (top case.bad_index) here refl at_top (Contains-at (faults_in (query case.bad_index).tree (top case.bad_index)) 0 _ refl)) refl refl refl
+bad_index = standing case.bad_index _ (fault.bad_index (top case.bad_index) here (record { top = top case.bad_index; is_top = refl; inst = at_top }) (Contains-at (faults_in (query case.bad_index).tree (top case.bad_index)) 0 _ refl)) refl refl refl
 
 two_instances : StandsAlone (query case.two_instances) case.two_instances
 unfolding levels
-two_instances = standing case.two_instances _ (fault.two_instances (top case.two_instances) (top case.two_instances) (codes "x") refl at_top (twice [] [] [] refl)) refl refl refl
+two_instances = standing case.two_instances _ (fault.two_instances (top case.two_instances) (codes "x") (record { top = top case.two_instances; is_top = refl; inst = at_top }) (twice [] [] [] refl)) refl refl refl
 
 -- the instance at a place of the list
 listed : (c : Case) (n : ℕ) (i : Instance) → slice_get (instances (query c).tree (top c)) n ≡ Some i → Inst (query c).tree (top c) i
@@ -81,14 +82,14 @@ second_maker = record { path = codes "x"; depth = 1; component = component (code
 two_apart : StandsAlone (query case.two_apart) case.two_apart
 unfolding levels second_maker
 two_apart =
-    standing case.two_apart _ (fault.two_apart (top case.two_apart) (top case.two_apart) second_maker (codes "x.y") refl at_top (listed case.two_apart 2 second_maker refl) (λ same.
+    standing case.two_apart _ (fault.two_apart (top case.two_apart) second_maker (codes "x.y") (record { top = top case.two_apart; is_top = refl; inst = at_top }) (record { top = top case.two_apart; is_top = refl; inst = listed case.two_apart 2 second_maker refl }) (λ same.
     let depths : ◌≡◌ {A = ℕ} 0 1 = ap (λ (i : Instance). i.depth) same in
     omega (arith, depths)) (Contains-at (paths_in (query case.two_apart).tree (top case.two_apart)) 0 _ refl) (Contains-at (paths_in (query case.two_apart).tree second_maker) 0 _ refl)) refl refl refl
 
 bound_twice : StandsAlone (query case.bound_twice) case.bound_twice
 unfolding levels
 bound_twice =
-    standing case.bound_twice _ (fault.bound_twice (top case.bound_twice) (top case.bound_twice) _ _ refl at_top (Contains-at (pairs_in (query case.bound_twice).tree (top case.bound_twice)) 0 _ refl) (Contains-at (pairs_in (query case.bound_twice).tree (top case.bound_twice)) 1 _ refl) refl (λ same.
+    standing case.bound_twice _ (fault.bound_twice (top case.bound_twice) _ _ (record { top = top case.bound_twice; is_top = refl; inst = at_top }) (Contains-at (pairs_in (query case.bound_twice).tree (top case.bound_twice)) 0 _ refl) (Contains-at (pairs_in (query case.bound_twice).tree (top case.bound_twice)) 1 _ refl) refl (λ same.
     let letters : ◌≡◌ {A = ℕ} 112 113 = ap (λ (x : Port). get_or x.name 0 0) same in
     omega (arith, letters))) refl refl refl
 
@@ -103,18 +104,18 @@ bound left right = record { left = left; right = right; at = here }
 
 bad_binding : StandsAlone (query case.bad_binding) case.bad_binding
 unfolding levels
-bad_binding = standing case.bad_binding _ (fault.bad_binding (top case.bad_binding) (top case.bad_binding) (bound (outer_end (codes "r")) (outer_end (codes "r"))) refl at_top (Contains-at (bindings_in (top case.bad_binding)) 0 _ refl) refl) refl refl refl
+bad_binding = standing case.bad_binding _ (fault.bad_binding (top case.bad_binding) (bound (outer_end (codes "r")) (outer_end (codes "r"))) (record { top = top case.bad_binding; is_top = refl; inst = at_top }) (Contains-at (bindings_in (top case.bad_binding)) 0 _ refl) refl) refl refl refl
 
 annotation : StandsAlone (query case.annotation) case.annotation
 unfolding levels
 annotation =
-    standing case.annotation _ (fault.annotation (top case.annotation) (top case.annotation) (bound (outer_end (codes "r")) x_p) refl at_top (Contains-at (bindings_in (top case.annotation)) 0 _ refl) (differ _ _ (codes "m" ∷ []) (codes "n" ∷ []) refl refl refl refl (λ same.
+    standing case.annotation _ (fault.annotation (top case.annotation) (bound (outer_end (codes "r")) x_p) (record { top = top case.annotation; is_top = refl; inst = at_top }) (Contains-at (bindings_in (top case.annotation)) 0 _ refl) (differ _ _ (codes "m" ∷ []) (codes "n" ∷ []) refl refl refl refl (λ same.
     let letters : ◌≡◌ {A = ℕ} 109 110 = ap (λ (names : List Name). get_or (get_or names 0 []) 0 0) same in
     omega (arith, letters)))) refl refl refl
 
 too_deep : StandsAlone (query case.too_deep) case.too_deep
 unfolding levels
-too_deep = standing case.too_deep _ (fault.too_deep (top case.too_deep) _ refl (listed case.too_deep 33 _ refl) refl) refl refl refl
+too_deep = standing case.too_deep _ (fault.too_deep _ (record { top = top case.too_deep; is_top = refl; inst = listed case.too_deep 33 _ refl }) refl) refl refl refl
 
 one_top : (i : Instance) → ¬ Twice (top case.too_many ∷ []) i
 one_top i two =

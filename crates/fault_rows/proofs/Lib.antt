@@ -1,7 +1,4 @@
-pub mod ListLaws
-pub mod CheckTestLaws
 mod CheckRows
-pub mod ElaborationTestLaws
 mod CycleLemmas
 mod ElaborationRows
 mod TextRows

@@ -11,6 +11,8 @@ ghost use Rattle.darwin_lexer.specs.declared.front.LexicalFault.TheVariants.{Bad
 ghost use Rattle.darwin_lexer.specs.declared.token.At.{At};
 ghost use Rattle.darwin_lexer.specs.Tokens.{FirstFault};
 ghost use Rattle.darwin_parser.specs.Refusals.{IsTooNested, IsUnexpected};
+ghost use Rattle.darwin_types.specs.FaultCases as check_faults;
+ghost use Rattle.elaborator.specs.FaultCases as elaboration_faults;
 ghost use Rattle.fault_rows.specs.Checks as checks;
 ghost use Rattle.fault_rows.specs.Elaborations as elaborations;
 ghost use Rattle.fault_rows.specs.Plans.{IsRefused, a_to_c, b_to_c, empty, fork_b, made, move, one, sink_a, sink_b, sink_c, source_b, two};
@@ -45,13 +47,13 @@ pub fn each_refusal_of_tokens_is_needed()
 
 /// For each case of the faults of `check` there is a description in which a fault stands by it, and none by another.
 pub fn each_case_of_a_check_is_needed()
-    ensures { (case : checks.Case) → checks.StandsAlone (checks.description case) case }
+    ensures { (case : check_faults.Case) → checks.StandsAlone (checks.description case) case }
 {}
 
 /// For each case of the faults of an elaboration there is a checked description that has a fault by it, and none by
 /// another.
 pub fn each_case_of_an_elaboration_is_needed()
-    ensures { (case : elaborations.Case) → elaborations.StandsAlone (elaborations.query case) case }
+    ensures { (case : elaboration_faults.Case) → elaborations.StandsAlone (elaborations.query case) case }
 {}
 
 /// For each refusal of a plan there are two graphs and moves that have it. A source isn't removed, or a target

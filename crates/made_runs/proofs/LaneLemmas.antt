@@ -11,9 +11,9 @@ use Rattle.command_words.specs.CommandLine.{Asks}
 use Rattle.command_words.specs.declared.words.Command.TheVariants as commands
 use Rattle.elaborator.specs.Instances.{levels}
 use Rattle.elaborator.specs.Paths.{Path}
-use Rattle.fault_rows.specs.Elaborations.{Query}
-use Rattle.fault_rows.proofs.ElaborationTestLaws.{cases, is_clear}
-use Rattle.fault_rows.proofs.ListLaws.{all_have}
+use Rattle.elaborator.specs.FaultCases.{Query}
+use Rattle.elaborator.proofs.ElaborationTestLaws.{cases, is_clear}
+use Rattle.base.proofs.ListLaws.{all_have}
 use Rattle.made_runs.proofs.Few.{nodes_below}
 use Rattle.made_runs.specs.MadeTrees.{made_tree}
 

@@ -32,7 +32,7 @@ use Rattle.command_runs.specs.Scripts.{lines_of_script}
 use Rattle.command_runs.specs.Ways.{AreRefused, LeadTo, UseLeads}
 use Rattle.command_runs.proofs.TotalityLaws.{wanted}
 use Rattle.run_laws.specs.MadeScripts.{made_script}
-use Rattle.fault_rows.proofs.ElaborationTestLaws.{cases, is_clear, none_at_all}
+use Rattle.elaborator.proofs.ElaborationTestLaws.{cases, is_clear, none_at_all}
 use Rattle.made_runs.proofs.Few.{few_nodes, few_ports, few_selected, nodes_below}
 use Rattle.made_runs.proofs.LaneLemmas.{arguments, both_may_run, may_run, query, rank, script_is_short}
 use Rattle.made_runs.proofs.TextLemmas.{checked, sound}

@@ -11,7 +11,7 @@ use Rattle.darwin_parser.specs.Grammar.{IsUnit}
 use Rattle.darwin_parser.specs.Reading as reading
 use Rattle.darwin_parser.proofs.UnitLaws.{tree_read}
 use Rattle.darwin_types.specs.Faults.{NoFault}
-use Rattle.fault_rows.proofs.CheckTestLaws.{none_at_all}
+use Rattle.darwin_types.proofs.CheckTestLaws.{none_at_all}
 use Rattle.made_runs.specs.MadeTrees.{made_tree}
 
 -- the tokens from an offset on, in so many pieces at most, and where they end

@@ -147,63 +147,64 @@ no_fault_back t u name arguments trees lawful _ (top_is_kind c there primitive) 
 no_fault_back t u name arguments trees lawful _ (top_args c there other) =
     let w = both-some Alike (component_named t name) (component_named u name) c (trees.component name) there in
     lawful _ (top_args w.0 w.1 (λ is. other (ap length (sym w.2.params) ∙ is)))
-no_fault_back t u name arguments trees lawful _ (out_of_range top' i' at is inst there) =
-    let s = settled t u name arguments trees lawful top' is in
-    let w = fault-there at t u s.0 top' s.2 i' inst (shown.OutOfRange at) there in
+no_fault_back t u name arguments trees lawful _ (out_of_range i' at m there) =
+    let s = settled t u name arguments trees lawful m.top m.is_top in
+    let w = fault-there at t u s.0 m.top s.2 i' m.inst (shown.OutOfRange at) there in
     let v = is_out at w.2.0 w.2.2 in
-    lawful _ (out_of_range s.0 w.0 v.0 s.1 w.1 (subst (λ f. Contains (faults_in t w.0) f) v.1 w.2.1))
-no_fault_back t u name arguments trees lawful _ (zero_divisor top' i' at is inst there) =
-    let s = settled t u name arguments trees lawful top' is in
-    let w = fault-there at t u s.0 top' s.2 i' inst (shown.ZeroDivisor at) there in
+    lawful _ (out_of_range w.0 v.0 (record { top = s.0; is_top = s.1; inst = w.1 }) (subst (λ f. Contains (faults_in t w.0) f) v.1 w.2.1))
+no_fault_back t u name arguments trees lawful _ (zero_divisor i' at m there) =
+    let s = settled t u name arguments trees lawful m.top m.is_top in
+    let w = fault-there at t u s.0 m.top s.2 i' m.inst (shown.ZeroDivisor at) there in
     let v = is_zero at w.2.0 w.2.2 in
-    lawful _ (zero_divisor s.0 w.0 v.0 s.1 w.1 (subst (λ f. Contains (faults_in t w.0) f) v.1 w.2.1))
-no_fault_back t u name arguments trees lawful _ (bad_index top' i' at is inst there) =
-    let s = settled t u name arguments trees lawful top' is in
-    let w = fault-there at t u s.0 top' s.2 i' inst (shown.BadIndex at) there in
+    lawful _ (zero_divisor w.0 v.0 (record { top = s.0; is_top = s.1; inst = w.1 }) (subst (λ f. Contains (faults_in t w.0) f) v.1 w.2.1))
+no_fault_back t u name arguments trees lawful _ (bad_index i' at m there) =
+    let s = settled t u name arguments trees lawful m.top m.is_top in
+    let w = fault-there at t u s.0 m.top s.2 i' m.inst (shown.BadIndex at) there in
     let v = is_bad at w.2.0 w.2.2 in
-    lawful _ (bad_index s.0 w.0 v.0 s.1 w.1 (subst (λ f. Contains (faults_in t w.0) f) v.1 w.2.1))
-no_fault_back t u name arguments trees lawful _ (two_instances top' i' path is inst two) =
-    let s = settled t u name arguments trees lawful top' is in
-    let i = inst-back t u s.0 top' s.2 i' inst in
-    lawful _ (two_instances s.0 i.0 path s.1 i.1
+    lawful _ (bad_index w.0 v.0 (record { top = s.0; is_top = s.1; inst = w.1 }) (subst (λ f. Contains (faults_in t w.0) f) v.1 w.2.1))
+no_fault_back t u name arguments trees lawful _ (two_instances i' path m two) =
+    let s = settled t u name arguments trees lawful m.top m.is_top in
+    let i = inst-back t u s.0 m.top s.2 i' m.inst in
+    lawful _ (two_instances i.0 path (record { top = s.0; is_top = s.1; inst = i.1 })
     (twice-same (paths_in u i') (paths_in t i.0) path (paths_in-same u t (alike_trees-sym t u trees) i' i.0 (same_instance-sym i.0 i' i.2)) two))
-no_fault_back t u name arguments trees lawful _ (two_apart top' i' j' path is inst inst' other has has') =
-    let s = settled t u name arguments trees lawful top' is in
-    let i = inst-back t u s.0 top' s.2 i' inst in
-    let j = inst-back t u s.0 top' s.2 j' inst' in
+no_fault_back t u name arguments trees lawful _ (two_apart i' j' path m m' other has has') =
+    let inst' : Inst u m.top j' = subst (λ r. Inst u r j') (same_Some m'.top m.top (sym m'.is_top ∙ m.is_top)) m'.inst in
+    let s = settled t u name arguments trees lawful m.top m.is_top in
+    let i = inst-back t u s.0 m.top s.2 i' m.inst in
+    let j = inst-back t u s.0 m.top s.2 j' inst' in
     let same = same_instance-sym i.0 i' i.2 in
     let same' = same_instance-sym j.0 j' j.2 in
     let back = alike_trees-sym t u trees in
-    let top_named = top-named u name arguments top' is in
-    lawful _ (two_apart s.0 i.0 j.0 path s.1 i.1 j.1
-    (λ one. other (one_instance u i' j' j.0 (inst-named u top' top_named i' inst) (inst-named u top' top_named j' inst') (subst (SameInstance i') one same) same'))
+    let top_named = top-named u name arguments m.top m.is_top in
+    lawful _ (two_apart i.0 j.0 path (record { top = s.0; is_top = s.1; inst = i.1 }) (record { top = s.0; is_top = s.1; inst = j.1 })
+    (λ one. other (one_instance u i' j' j.0 (inst-named u m.top top_named i' m.inst) (inst-named u m.top top_named j' inst') (subst (SameInstance i') one same) same'))
     (contains-same (paths_in u i') (paths_in t i.0) path (paths_in-same u t back i' i.0 same) has)
     (contains-same (paths_in u j') (paths_in t j.0) path (paths_in-same u t back j' j.0 same') has'))
-no_fault_back t u name arguments trees lawful _ (bound_twice top' i' p q is inst there there' one other) =
-    let s = settled t u name arguments trees lawful top' is in
-    let i = inst-back t u s.0 top' s.2 i' inst in
-    let x = pairs_in-back t u s.0 top' s.2 i.0 i' i.1 i.2 p there in
-    let y = pairs_in-back t u s.0 top' s.2 i.0 i' i.1 i.2 q there' in
-    lawful _ (bound_twice s.0 i.0 x.0 y.0 s.1 i.1 x.1 y.1
+no_fault_back t u name arguments trees lawful _ (bound_twice i' p q m there there' one other) =
+    let s = settled t u name arguments trees lawful m.top m.is_top in
+    let i = inst-back t u s.0 m.top s.2 i' m.inst in
+    let x = pairs_in-back t u s.0 m.top s.2 i.0 i' i.1 i.2 p there in
+    let y = pairs_in-back t u s.0 m.top s.2 i.0 i' i.1 i.2 q there' in
+    lawful _ (bound_twice i.0 x.0 y.0 (record { top = s.0; is_top = s.1; inst = i.1 }) x.1 y.1
     (sym (ap (λ (w : Port × Port). w.0) x.2) ∙ one ∙ ap (λ (w : Port × Port). w.0) y.2)
     (λ same. other (ap (λ (w : Port × Port). w.1) x.2 ∙ same ∙ sym (ap (λ (w : Port × Port). w.1) y.2))))
-no_fault_back t u name arguments trees lawful _ (bad_binding top' i' b' is inst there none) =
-    let s = settled t u name arguments trees lawful top' is in
-    let i = inst-back t u s.0 top' s.2 i' inst in
+no_fault_back t u name arguments trees lawful _ (bad_binding i' b' m there none) =
+    let s = settled t u name arguments trees lawful m.top m.is_top in
+    let i = inst-back t u s.0 m.top s.2 i' m.inst in
     let b = bindings_in-like i' i.0 (same_instance-sym i.0 i' i.2) b' there in
     let ends : SameBound b.0 b' = record { left = sym b.2.left; right = sym b.2.right } in
-    lawful _ (bad_binding s.0 i.0 b.0 s.1 i.1 b.1
-    (no_elements_mapped ports_of (pair_of t i.0 b.0) (pairs-same t u s.0 top' s.2 i.0 i' i.1 i.2 b.0 b' ends ∙ ap (map ports_of) none)))
-no_fault_back t u name arguments trees lawful _ (annotation top' i' b' is inst there notes) =
-    let s = settled t u name arguments trees lawful top' is in
-    let i = inst-back t u s.0 top' s.2 i' inst in
+    lawful _ (bad_binding i.0 b.0 (record { top = s.0; is_top = s.1; inst = i.1 }) b.1
+    (no_elements_mapped ports_of (pair_of t i.0 b.0) (pairs-same t u s.0 m.top s.2 i.0 i' i.1 i.2 b.0 b' ends ∙ ap (map ports_of) none)))
+no_fault_back t u name arguments trees lawful _ (annotation i' b' m there notes) =
+    let s = settled t u name arguments trees lawful m.top m.is_top in
+    let i = inst-back t u s.0 m.top s.2 i' m.inst in
     let b = bindings_in-like i' i.0 (same_instance-sym i.0 i' i.2) b' there in
     let ends : SameBound b.0 b' = record { left = sym b.2.left; right = sym b.2.right } in
-    lawful _ (annotation s.0 i.0 b.0 s.1 i.1 b.1 (notes-back t u s.0 top' s.2 i.0 i' i.1 i.2 b.0 b' ends notes))
-no_fault_back t u name arguments trees lawful _ (too_deep top' i' is inst deep) =
-    let s = settled t u name arguments trees lawful top' is in
-    let i = inst-back t u s.0 top' s.2 i' inst in
-    lawful _ (too_deep s.0 i.0 s.1 i.1 (i.2.depth ∙ deep))
+    lawful _ (annotation i.0 b.0 (record { top = s.0; is_top = s.1; inst = i.1 }) b.1 (notes-back t u s.0 m.top s.2 i.0 i' i.1 i.2 b.0 b' ends notes))
+no_fault_back t u name arguments trees lawful _ (too_deep i' m deep) =
+    let s = settled t u name arguments trees lawful m.top m.is_top in
+    let i = inst-back t u s.0 m.top s.2 i' m.inst in
+    lawful _ (too_deep i.0 (record { top = s.0; is_top = s.1; inst = i.1 }) (i.2.depth ∙ deep))
 no_fault_back t u name arguments trees lawful _ (too_many top' is many) =
     let s = settled t u name arguments trees lawful top' is in
     let above = counted-within u top' 65536 (top_depth u name arguments top' is) many in

@@ -183,7 +183,7 @@ pub link_reconfigures : (c : Configuration) (q n x : ℕ) → q < length c.gates
 link_reconfigures c q n x made =
     gate_alters c q (λ i. record (gate c i) { target = Some (record { node = n; provide = x }) }) (Link q n x) made refl refl (λ n. refl) (λ p. refl)
 
-removed_length : (c : Configuration) (n : ℕ) (o : Option Slot) → length (option_map_or (λ (k : Slot). set c.slots n (record k { live = false })) o c.slots) ≡ length c.slots
+pub removed_length : (c : Configuration) (n : ℕ) (o : Option Slot) → length (option_map_or (λ (k : Slot). set c.slots n (record k { live = false })) o c.slots) ≡ length c.slots
 removed_length c n None = refl
 removed_length c n (Some k) = length-set c.slots n (record k { live = false })
 

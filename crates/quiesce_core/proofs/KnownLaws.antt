@@ -364,3 +364,12 @@ module _ (s : State) (w : IsWellFormed s) (c : IsConsistent s) (n : ℕ) (m : Sl
         let here : IsPortKnown s p x.0 = subst (λ i. IsPortKnown s i x.0) at (known.ports (p - m.first_port) x.0 x.1 (subst (λ i. IsPortOf s.config n i) (sym at) o)) in
         sym here.consequent ∙ none_ (p - m.first_port) x.0 within x.1),
   )
+
+-- a node is in a service exactly where it knows of one
+pub knows_some : (s : State) (o : Option Service) (u : Served) → KnowsService s o (Some u) → (v : Service) × (o ≡ Some v) × IsServed s v u
+knows_some s None u h = absurd h
+knows_some s (Some v) u h = (v, refl, h)
+
+pub knows_none : (s : State) (o : Option Service) → KnowsService s o None → o ≡ None
+knows_none s None h = refl
+knows_none s (Some v) h = absurd h

@@ -1,3 +1,4 @@
+pub mod ArgumentLaws
 pub mod CycleLaws
 pub mod ReachLaws
 pub mod LegalLaws

@@ -1,8 +1,8 @@
 -- What the word that a step loads tells of the events that it may do at the port.
-use Rattle.std.proofs.Common.{◌≡◌, ◌∙◌, ℕ, ◌+◌, ◌≤◌, ◌&&◌, ◌||◌, not, Bool, true, false, cond, length, Option, Some, None, refl, sym, ap, subst, ⊎_elim, arith}
+use Rattle.std.proofs.Common.{◌≡◌, ◌∙◌, ℕ, ◌+◌, ◌≤◌, ◌&&◌, not, Bool, true, false, cond, length, Option, Some, None, refl, sym, ap, subst, ⊎_elim, arith}
 use Rattle.std.specs.Prelude.{is_none, is_some, nat_le, option_map, ◌==◌}
 use Rattle.std.specs.Option.{option_map_or}
-use Rattle.std.proofs.lemmas.Bool.{and_from, and_parts, both_ways, cases_eq, eq-eqb, eqb-true, le-leb, lt-leb, ne_eqb}
+use Rattle.std.proofs.lemmas.Bool.{and_from, and_parts, both_ways, cases_eq, eq-eqb, eqb-true, le-leb, lt-leb, ne_eqb, or_parts}
 use Rattle.std.proofs.lemmas.List.{get_or_past}
 use Rattle.std.proofs.lemmas.Option.{slice_get_past}
 use Rattle.config_graph.specs.declared.node.Target.{Target}
@@ -87,18 +87,13 @@ begin_judged s p v w live value =
     let P : Word → Type 0 = λ x. is_idle x.phase ≡ true → denial s (Begin p (x.serial + 1) v) ≡ root_denial x in
     subst P (sym (port_words_decode s w p)) (begin_at s p v w live value)
 
--- neither of two tests
-neither : (a b : Bool) → (a || b) ≡ false → (a ≡ false) × (b ≡ false)
-neither true b h = absurd (both_ways true h refl)
-neither false b h = (refl, h)
-
 some_if : (o : Option Target) → is_none o ≡ false → is_some o ≡ true
 some_if None h = absurd (both_ways true h refl)
 some_if (Some t) h = refl
 
 call_at : (s : State) (p v : ℕ) → IsWellFormed s → CallsThrough s p → is_value v ≡ true → is_missing (fields_of s p) ≡ false → denial s (Call p ((exchange s p).serial + 1) v) ≡ None
 call_at s p v w c value found =
-    let both = neither (is_none (target s.config p)) (is_spent (fields_of s p)) found in
+    let both = or_parts (is_none (target s.config p)) (is_spent (fields_of s p)) found in
     allowed s (Call p ((exchange s p).serial + 1) v) (record {
       live = c.live;
       serves_through = c.serves_through;

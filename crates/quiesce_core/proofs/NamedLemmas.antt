@@ -1,8 +1,8 @@
 -- Each event keeps live nodes' paths apart, and each node with its argument.
-use Rattle.std.proofs.Common.{◌≡◌, ◌∙◌, ℕ, ◌<◌, ◌^◌, Bool, true, false, cond, not, ◌&&◌, List, Option, Some, None, length, set, refl, sym, ap, subst, ⊎_elim}
-use Rattle.std.specs.Prelude.{slice_get, is_some, is_none, bytes_eq, IfSome}
+use Rattle.std.proofs.Common.{◌≡◌, ◌∙◌, ℕ, ◌<◌, true, false, not, ◌&&◌, List, Option, Some, length, set, refl, sym, ap, subst, ⊎_elim}
+use Rattle.std.specs.Prelude.{slice_get, is_some, bytes_eq}
 use Rattle.std.specs.Option.{option_map_or}
-use Rattle.std.proofs.lemmas.Bool.{and_parts, both_ways, cases_eq, ltb-true, not-true}
+use Rattle.std.proofs.lemmas.Bool.{and_parts, both_ways, cases_eq, not-true}
 use Rattle.std.proofs.lemmas.Option.{same_Some}
 use Rattle.std.proofs.lemmas.Slice.Eq.{bytes_eq-Decides}
 use Rattle.config_graph.specs.Kinds.{row}
@@ -13,21 +13,16 @@ use Rattle.quiesce_core.specs.declared.event.Event.TheVariants.{Close, Reopen, M
 use Rattle.quiesce_core.specs.declared.state.Slot.{Slot}
 use Rattle.quiesce_core.specs.State.{Configuration, State, empty, slot}
 use Rattle.quiesce_core.specs.Effect.{with_node, with_removed, effect}
-use Rattle.quiesce_core.specs.Rules.{is_value, is_path_taken, has_its_argument, value_limit}
+use Rattle.quiesce_core.specs.Rules.{is_path_taken, has_its_argument}
 use Rattle.quiesce_core.specs.Legal.{Legal}
 use Rattle.quiesce_core.specs.Named.{AreNamed}
 use Rattle.base.proofs.OptionLaws.{map_or_true}
 use Rattle.quiesce_core.proofs.SoundnessLaws.{here_gone, slot_elsewhere}
 use Rattle.base.proofs.PlaceLaws.{any_at, slice_get-snoc}
-
-argument_if : (b : Bool) (o : Option ℕ) → cond b (option_map_or is_value o false) (is_none o) ≡ true → (is_some o ≡ b) × IfSome o (λ a. a < 2 ^ 24)
-argument_if true None h = absurd (both_ways false refl h)
-argument_if true (Some a) h = (refl, ltb-true a value_limit h)
-argument_if false None h = (refl, tt)
-argument_if false (Some a) h = absurd (both_ways false refl h)
+use Rattle.quiesce_core.proofs.ArgumentLaws.{argument_fits}
 
 has_argument : (node : Node) → has_its_argument node ≡ true → HasItsArgument node
-has_argument node h = let w = argument_if (is_some (row node.kind).arg) node.arg h in record { present = w.0; below = w.1 }
+has_argument node h = let w = argument_fits (is_some (row node.kind).arg) node.arg h in record { present = w.0; below = w.1 }
 
 -- a path that no live node has
 path_new : (c : Configuration) (path : List ℕ) → is_path_taken c path ≡ false → (i : ℕ) (m : Slot) → slot c i ≡ Some m → m.live ≡ true → m.node.path ≡ path → ⊥

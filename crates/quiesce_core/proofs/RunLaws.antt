@@ -57,6 +57,13 @@ runs_grow es e = (
 pub done_by_more : (n : ℕ) (es : List Event) (e : Event) → done_by n (es ++ e ∷ []) ≡ done_by n es ++ cond (is_doer (state_after es) n e) (e ∷ []) []
 done_by_more n es e = done_more empty n es e
 
+-- one event more that node n did, or that it didn't
+pub done_by_own : (n : ℕ) (es : List Event) (e : Event) → is_doer (state_after es) n e ≡ true → done_by n (es ++ e ∷ []) ≡ done_by n es ++ e ∷ []
+done_by_own n es e own = done_by_more n es e ∙ ap (λ b. done_by n es ++ cond b (e ∷ []) []) own
+
+pub done_by_other : (n : ℕ) (es : List Event) (e : Event) → is_doer (state_after es) n e ≡ false → done_by n (es ++ e ∷ []) ≡ done_by n es
+done_by_other n es e other = done_by_more n es e ∙ ap (λ b. done_by n es ++ cond b (e ∷ []) []) other ∙ append-nil (done_by n es)
+
 run_from : (before es : List Event) → can_run (state_after before) es ≡ true → EachAfter StepAt before es
 run_from before [] h = tt
 run_from before (e ∷ es) h =

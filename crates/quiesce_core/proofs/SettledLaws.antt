@@ -1,5 +1,5 @@
 -- The test that a node is settled, and what it means.
-use Rattle.std.proofs.Common.{◌≡◌, ℕ, zero, suc, ◌<◌, Bool, true, false, not, ◌&&◌, ◌||◌, length, Some, refl, sym, ap, ◌∙◌, ⊎_elim, arith}
+use Rattle.std.proofs.Common.{◌≡◌, ℕ, zero, suc, ◌<◌, Bool, true, false, not, ◌&&◌, ◌||◌, length, Some, None, refl, sym, ap, ◌∙◌, ⊎_elim, arith}
 use Rattle.std.specs.Prelude.{◌==◌, ◌↔◌, is_none}
 use Rattle.std.specs.List.{list_any, list_all, range_with_len}
 use Rattle.std.proofs.lemmas.Bool.{and_parts, and_from, or_cases, or_left, or_right, both_ways, cases_Bool, eqb-true, eq-eqb, not-true, not_from_false}
@@ -46,8 +46,14 @@ reaches_complete c s n _ (through {p = q} {q = p} {m} {x} r d e) =
     (of_any c m (λ q. depends c m x q && reaches c n q) q d.0 (and_from (depends c m x q) (reaches c n q) d.1 (reaches_complete c s n q r)))
 
 -- a port that reaches a node is linked, and so was made
-reaching_made : (c : Configuration) (n p : ℕ) → Reach (wiring_of c) n p → p < length c.gates
+pub reaching_made : (c : Configuration) (n p : ℕ) → Reach (wiring_of c) n p → p < length c.gates
 reaching_made c n p r = let to = reach_linked (wiring_of c) n p r in linked_made c p (record { node = to.0; provide = to.1 }) to.2
+
+pub settled_serves_nothing : (s : State) (n : ℕ) → is_settled s n ≡ true → service s n ≡ None
+settled_serves_nothing s n h =
+    let far = and_parts (is_live s.config n && list_all (λ p. is_quiet s p) (ports_of s.config n) && is_none (service s n))
+    (list_all (λ p. is_quiet s p || not (reaches s.config n p)) (range_with_len 0 (length s.config.gates))) h in
+    None-from_is_none (service s n) (and_parts (is_live s.config n && list_all (λ p. is_quiet s p) (ports_of s.config n)) (is_none (service s n)) far.0).1
 
 pub settled_if : (s : State) → IsSound s.config → (n : ℕ) → is_settled s n ≡ true → Settled s n
 settled_if s sound n h =

@@ -45,7 +45,8 @@ source_of c node from k may is =
 moved_if : (c : Configuration) (k i : ℕ) (m : Slot) → slot c i ≡ Some m → m.from ≡ Some k → was_moved c k ≡ true
 moved_if c k i m at from = any_at (λ (m : Slot). option_map_or (λ f. f == k) m.from false) c.slots i m at (ap (λ o. option_map_or (λ f. f == k) o false) from ∙ eq-eqb k k refl)
 
-abbrev new_slot : Configuration → Node → Option ℕ → Slot
+-- the slot of a node that is made next
+abbrev pub new_slot : Configuration → Node → Option ℕ → Slot
 new_slot c node from = record { node = node; first_port = length c.gates; from = from; live = true }
 
 made : (c d : Configuration) (n : ℕ) (node : Node) (from : Option ℕ) → Reconfigures c (Make n node from) d → CanMake c n node from → SourcesAreGone c → SourcesAreGone d

@@ -11,6 +11,7 @@ pub mod Words
 pub mod Knowledge
 pub mod WellFormed
 pub mod Searched
+pub mod Links
 pub mod Tables
 pub mod CoreState
 pub mod Doers

@@ -1,6 +1,7 @@
 -- The state that the tables of the program stand for, and what holds of the tables of a machine.
 use Rattle.std.specs.Prelude.{ℕ, ◌+◌, ◌*◌, ◌≤◌, length, vec_capacity}
 use Rattle.quiesce_core.specs.declared.tables.Tables.{Tables}
+use Rattle.quiesce_core.specs.Links.{config_in}
 use Rattle.quiesce_core.specs.State.{State}
 use Rattle.quiesce_core.specs.WellFormed.{IsWellFormed}
 use Rattle.quiesce_core.specs.Traffic.{IsConsistent}
@@ -9,15 +10,15 @@ use Rattle.quiesce_core.specs.Named.{AreNamed}
 abbrev pub state_of : Tables → State
 state_of t =
     record {
-      config = record { slots = t.slots.items; gates = t.gates.items };
+      config = config_in t.links;
       traffic = record { services = t.services.items; exchanges = t.exchanges.items };
     }
 
 -- there is room in the tables for so many nodes, of two ports at most each
 pub record HasRoomToMake (t : Tables) (spare : ℕ) : Type 0 where
-  pub slots : length t.slots.items + spare ≤ vec_capacity t.slots
+  pub slots : length t.links.slots.items + spare ≤ vec_capacity t.links.slots
   pub services : length t.services.items + spare ≤ vec_capacity t.services
-  pub gates : length t.gates.items + 2 * spare ≤ vec_capacity t.gates
+  pub gates : length t.links.gates.items + 2 * spare ≤ vec_capacity t.links.gates
   pub exchanges : length t.exchanges.items + 2 * spare ≤ vec_capacity t.exchanges
 
 -- what there was room for there is room for still

@@ -83,7 +83,7 @@ impl Tables {
         match event {
             Event::Close { port } | Event::Reopen { port } => first_failing(&[(
                 1,
-                self.is_live_port(*port),
+                self.links.is_live_port(*port),
             )]),
             Event::Make { slot, node, from } => self.denies_make(*slot, node, *from),
             Event::Link {
@@ -101,9 +101,9 @@ impl Tables {
         ensures { result ≡ rules.denial (state_of self.now) (Event.Begin port serial value) }
     {
         first_failing(&[
-            (1, self.is_live_port(port)),
-            (2, self.is_open(port)),
-            (3, self.is_linked(port)),
+            (1, self.links.is_live_port(port)),
+            (2, self.links.is_open(port)),
+            (3, self.links.is_linked(port)),
             (4, self.exchange(port).phase.is_idle()),
             (5, self.is_next_serial(port, serial)),
             (6, is_value(value)),
@@ -113,13 +113,13 @@ impl Tables {
     fn denies_call(&self, port: u32, serial: u32, value: u32) -> Option<u32>
         ensures { result ≡ rules.denial (state_of self.now) (Event.Call port serial value) }
     {
-        let owner = self.gate(port).owner;
+        let owner = self.links.gate(port).owner;
         first_failing(&[
-            (1, self.is_live_port(port)),
+            (1, self.links.is_live_port(port)),
             (7, self.serves_through(owner, port)),
             (8, self.has_calls_left(owner)),
             (29, was_heard(self.service(owner))),
-            (3, self.is_linked(port)),
+            (3, self.links.is_linked(port)),
             (4, self.exchange(port).phase.is_idle()),
             (5, self.is_next_serial(port, serial)),
             (6, is_value(value)),
@@ -129,9 +129,9 @@ impl Tables {
     fn denies_miss(&self, port: u32) -> Option<u32>
         ensures { result ≡ rules.denial (state_of self.now) (Event.Miss port) }
     {
-        let owner = self.gate(port).owner;
+        let owner = self.links.gate(port).owner;
         first_failing(&[
-            (1, self.is_live_port(port)),
+            (1, self.links.is_live_port(port)),
             (7, self.serves_through(owner, port)),
             (8, self.has_calls_left(owner)),
             (29, was_heard(self.service(owner))),
@@ -144,7 +144,7 @@ impl Tables {
         ensures { result ≡ rules.denial (state_of self.now) (Event.Take port serial value) }
     {
         first_failing(&[
-            (1, self.is_live_port(port)),
+            (1, self.links.is_live_port(port)),
             (10, self.exchange(port).phase.is_asked()),
             (11, !self.is_taken(port)),
             (12, self.target_service(port).is_none()),
@@ -157,7 +157,7 @@ impl Tables {
         ensures { result ≡ rules.denial (state_of self.now) (Event.Give port serial value) }
     {
         first_failing(&[
-            (1, self.is_live_port(port)),
+            (1, self.links.is_live_port(port)),
             (14, self.is_taken(port)),
             (29, was_heard(self.target_service(port))),
             (15, self.is_port_serial(port, serial)),
@@ -171,7 +171,7 @@ impl Tables {
         ensures { result ≡ rules.denial (state_of self.now) (Event.More port serial value) }
     {
         first_failing(&[
-            (1, self.is_live_port(port)),
+            (1, self.links.is_live_port(port)),
             (14, self.is_taken(port)),
             (29, was_heard(self.target_service(port))),
             (15, self.is_port_serial(port, serial)),
@@ -185,7 +185,7 @@ impl Tables {
         ensures { result ≡ rules.denial (state_of self.now) (Event.Ask port serial value) }
     {
         first_failing(&[
-            (1, self.is_live_port(port)),
+            (1, self.links.is_live_port(port)),
             (27, self.exchange(port).phase.is_in_more()),
             (15, self.is_port_serial(port, serial)),
             (6, is_value(value)),
@@ -196,7 +196,7 @@ impl Tables {
         ensures { result ≡ rules.denial (state_of self.now) (Event.Hear port serial value) }
     {
         first_failing(&[
-            (1, self.is_live_port(port)),
+            (1, self.links.is_live_port(port)),
             (10, self.exchange(port).phase.is_asked()),
             (14, self.is_taken(port)),
             (30, !was_heard(self.target_service(port))),
@@ -208,7 +208,7 @@ impl Tables {
         ensures { result ≡ rules.denial (state_of self.now) (Event.End port serial value) }
     {
         first_failing(&[
-            (1, self.is_live_port(port)),
+            (1, self.links.is_live_port(port)),
             (17, self.exchange(port).phase.is_answered()),
             (13, self.is_last_message(port, serial, value)),
         ])
@@ -218,14 +218,14 @@ impl Tables {
         ensures { result ≡ rules.denial (state_of self.now) (Event.Make slot node.now from) }
     {
         let moves = match from {
-            Some(old) => self.can_move(old, node.kind),
+            Some(old) => self.links.can_move(old, node.kind),
             None => true,
         };
         first_failing(&[
-            (18, self.has_room(slot, node)),
+            (18, self.links.has_room(slot, node)),
             (
                 19,
-                !self.is_path_taken(node.path.as_bytes()) && has_its_argument(node),
+                !self.links.is_path_taken(node.path.as_bytes()) && has_its_argument(node),
             ),
             (26, moves),
         ])
@@ -237,17 +237,21 @@ impl Tables {
         ensures { result ≡ rules.denial (state_of self.now) (Event.Link port node provide) }
     {
         let at_once = first_failing(&[
-            (1, self.is_live_port(port)),
-            (20, !self.is_linked(port)),
-            (21, self.has_provision(node, provide)),
+            (1, self.links.is_live_port(port)),
+            (20, !self.links.is_linked(port)),
+            (21, self.links.has_provision(node, provide)),
         ]);
         if at_once.is_some() {
             return at_once;
         }
-        let owner = self.gate(port).owner;
+        let owner = self.links.gate(port).owner;
         first_failing(&[
             (22, self.is_settled(owner)),
-            (23, self.stays_without_cycle(port, Target { node, provide })),
+            (
+                23,
+                self.links
+                    .stays_without_cycle(port, Target { node, provide }),
+            ),
         ])
     }
 
@@ -255,10 +259,10 @@ impl Tables {
         requires { IsSound (state_of self.now).config }
         ensures { result ≡ rules.denial (state_of self.now) (Event.Unlink port) }
     {
-        let owner = self.gate(port).owner;
+        let owner = self.links.gate(port).owner;
         first_failing(&[
-            (1, self.is_live_port(port)),
-            (3, self.is_linked(port)),
+            (1, self.links.is_live_port(port)),
+            (3, self.links.is_linked(port)),
             (22, self.is_settled(owner)),
         ])
     }
@@ -268,9 +272,9 @@ impl Tables {
         ensures { result ≡ rules.denial (state_of self.now) (Event.Remove node) }
     {
         first_failing(&[
-            (24, self.is_live(node)),
+            (24, self.links.is_live(node)),
             (22, self.is_settled(node)),
-            (25, self.is_apart(node)),
+            (25, self.links.is_apart(node)),
         ])
     }
 }

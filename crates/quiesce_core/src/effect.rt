@@ -13,7 +13,7 @@ ghost use Rattle.quiesce_core.specs.declared.event.Event.TheVariants as event;
 ghost use Rattle.quiesce_core.specs.declared.state.Service.{Service};
 
 use crate::event::Event;
-use crate::state::{Exchange, Gate, Phase, Service};
+use crate::state::{Exchange, Phase, Service};
 use crate::tables::Tables;
 use config_graph::Target;
 
@@ -41,7 +41,7 @@ impl Tables {
         ensures state { state_of self.new ≡ effect.with_target_service (state_of self.old) port service }
         ensures room { KeepsRoom self.old self.new }
     {
-        if let Some(target) = self.gate(port).target {
+        if let Some(target) = self.links.gate(port).target {
             self.put_service(target.node, service);
         }
     }
@@ -56,7 +56,7 @@ impl Tables {
             (state.owner (state_of self.old).config port) }
         ensures room { KeepsRoom self.old self.new }
     {
-        let owner = self.gate(port).owner;
+        let owner = self.links.gate(port).owner;
         if let Some(service) = self.service(owner) {
             let counted = Service {
                 calls: service.calls + 1,
@@ -89,7 +89,7 @@ impl Tables {
         ensures state { state_of self.new ≡ effect.effect (state_of self.old) (event.Call port serial value) }
         ensures room { KeepsRoom self.old self.new }
     {
-        let within = match self.service(self.gate(port).owner) {
+        let within = match self.service(self.links.gate(port).owner) {
             Some(service) => Some(service.port),
             None => None,
         };
@@ -234,11 +234,7 @@ impl Tables {
             { config = effect.with_closed (state_of self.old).config port closed } }
         ensures room { KeepsRoom self.old self.new }
     {
-        let gate = Gate {
-            closed,
-            ..self.gate(port)
-        };
-        self.gates[port as usize] = gate;
+        self.links.set_closed(port, closed);
     }
 
     #[tactic(auto, using(crate::proofs::TableLaws::places))]
@@ -248,11 +244,7 @@ impl Tables {
             { config = effect.with_target (state_of self.old).config port target } }
         ensures room { KeepsRoom self.old self.new }
     {
-        let gate = Gate {
-            target,
-            ..self.gate(port)
-        };
-        self.gates[port as usize] = gate;
+        self.links.set_target(port, target);
     }
 
     pub fn remove(&mut self, node: u32)
@@ -260,7 +252,7 @@ impl Tables {
         ensures state { state_of self.new ≡ effect.effect (state_of self.old) (event.Remove node) }
         ensures room { KeepsRoom self.old self.new }
     {
-        self.slots[node as usize].live = false;
+        self.links.remove(node);
     }
 
     /// Lets the event happen. Nodes are added elsewhere, since that takes memory.

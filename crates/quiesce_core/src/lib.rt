@@ -11,6 +11,7 @@ mod event;
 mod knowledge_laws;
 mod known;
 mod laws;
+mod links;
 mod live;
 mod machine;
 mod making;
@@ -41,6 +42,7 @@ pub use laws::{
     reach_is_that_of_the_graph, runs_are_consistent, runs_are_steps, runs_are_well_formed,
     started_systems_are_consistent, steps_keep_consistency,
 };
+pub use links::Links;
 pub use machine::Core;
 pub use run_laws::{
     changes_are_of_no_node, changes_make_the_configuration, logs_grow, runs_grow,

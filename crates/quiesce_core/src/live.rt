@@ -12,16 +12,16 @@ ghost use Rattle.quiesce_core.specs.WellFormed.{IsSound};
 ghost use Rattle.quiesce_core.specs.Named.{AreNamed};
 ghost use Rattle.quiesce_core.specs.Live.{IsGraphOf};
 ghost use Rattle.quiesce_core.specs.Listed.{path_at, InPathOrder, ArePlaces, AreNodesOf, link_in};
-ghost use Rattle.quiesce_core.specs.Tables.{state_of};
+ghost use Rattle.quiesce_core.specs.Links.{config_in};
 
-use crate::tables::Tables;
+use crate::links::Links;
 use config_graph::{Graph, Link, NoMemory, Node};
 use std::cmp::Ordering;
 
-impl Tables {
+impl Links {
     /// The path of the node made in a slot.
     fn path(&self, slot: u32) -> &[u8]
-        ensures { result.now ≡ path_at (state_of self.now).config slot }
+        ensures { result.now ≡ path_at (config_in self.now) slot }
     {
         match self.slots.get(slot as usize) {
             Some(slot) => slot.node.path.as_bytes(),
@@ -31,16 +31,16 @@ impl Tables {
 
     /// How the nodes of two slots stand in the order of their paths.
     fn by_path(&self, slot: u32, other: u32) -> Ordering
-        ensures { result ≡ slice_cmp nat_cmp (path_at (state_of self.now).config slot)
-            (path_at (state_of self.now).config other) }
+        ensures { result ≡ slice_cmp nat_cmp (path_at (config_in self.now) slot)
+            (path_at (config_in self.now) other) }
     {
         self.path(slot).cmp(self.path(other))
     }
 
     fn live_slots(&self) -> Result<Vec<u32>, NoMemory>
-        requires { length (state_of self.now).config.slots ≤ MAX_NODES }
-        ensures { IfOk result (λ v. v.items ≡ filter (state.is_live (state_of self.now).config)
-            (range_with_len 0 (length (state_of self.now).config.slots))) }
+        requires { length (config_in self.now).slots ≤ MAX_NODES }
+        ensures { IfOk result (λ v. v.items ≡ filter (state.is_live (config_in self.now))
+            (range_with_len 0 (length (config_in self.now).slots))) }
     {
         let alloc = *self.slots.allocator();
         let slots = self.slots.len() as u32;
@@ -49,9 +49,9 @@ impl Tables {
 
     /// The slots of the live nodes, in the order of their paths.
     fn in_path_order(&self) -> Result<Vec<u32>, NoMemory>
-        requires few { length (state_of self.now).config.slots ≤ MAX_NODES }
-        requires named { AreNamed (state_of self.now).config }
-        ensures { IfOk result (λ order. InPathOrder (state_of self.now).config order.items) }
+        requires few { length (config_in self.now).slots ≤ MAX_NODES }
+        requires named { AreNamed (config_in self.now) }
+        ensures { IfOk result (λ order. InPathOrder (config_in self.now) order.items) }
     {
         let mut order = self.live_slots()?;
         order.sort_by(|slot, other| self.by_path(*slot, *other))?;
@@ -60,8 +60,8 @@ impl Tables {
 
     /// Of each slot its place in the order, where it has one.
     fn places_in(&self, order: &[u32]) -> Result<Vec<Option<u32>>, NoMemory>
-        requires few { length (state_of self.now).config.slots ≤ MAX_NODES }
-        requires order { InPathOrder (state_of self.now).config order.now }
+        requires few { length (config_in self.now).slots ≤ MAX_NODES }
+        requires order { InPathOrder (config_in self.now) order.now }
         ensures { IfOk result (λ places. ArePlaces order.now (length order.now) places.items) }
     {
         let alloc = *self.slots.allocator();
@@ -74,9 +74,9 @@ impl Tables {
 
     /// Copies of the nodes in these slots.
     fn nodes_in(&self, order: &[u32]) -> Result<Vec<Node>, NoMemory>
-        requires order { InPathOrder (state_of self.now).config order.now }
+        requires order { InPathOrder (config_in self.now) order.now }
         ensures { IfOk result
-            (λ nodes. AreNodesOf (state_of self.now).config order.now (length order.now) nodes.items) }
+            (λ nodes. AreNodesOf (config_in self.now) order.now (length order.now) nodes.items) }
     {
         let alloc = *self.slots.allocator();
         let mut nodes = Vec::with_capacity(alloc, order.len())?;
@@ -88,7 +88,7 @@ impl Tables {
 
     /// The link of a port, between the places of its owner and its target.
     fn link(&self, port: u32, places: &[Option<u32>]) -> Option<Link>
-        ensures { result ≡ link_in (state_of self.now).config places.now port }
+        ensures { result ≡ link_in (config_in self.now) places.now port }
     {
         let gate = self.gate(port);
         let target = gate.target?;
@@ -103,9 +103,9 @@ impl Tables {
     }
 
     fn links_in(&self, places: &[Option<u32>]) -> Result<Vec<Link>, NoMemory>
-        requires { length (state_of self.now).config.gates ≤ MAX_PORTS }
-        ensures { IfOk result (λ links. links.items ≡ filter_map (link_in (state_of self.now).config places.now)
-            (range_with_len 0 (length (state_of self.now).config.gates))) }
+        requires { length (config_in self.now).gates ≤ MAX_PORTS }
+        ensures { IfOk result (λ links. links.items ≡ filter_map (link_in (config_in self.now) places.now)
+            (range_with_len 0 (length (config_in self.now).gates))) }
     {
         let alloc = *self.gates.allocator();
         let ports = self.gates.len() as u32;
@@ -117,9 +117,9 @@ impl Tables {
     /// The graph of the live nodes and their links. Time grows with the number of nodes and ports, and for the order
     /// of the paths with that of the nodes times its logarithm.
     pub fn graph(&self) -> Result<Graph, NoMemory>
-        requires sound { IsSound (state_of self.now).config }
-        requires named { AreNamed (state_of self.now).config }
-        ensures graph { IfOk result (IsGraphOf (state_of self.now).config) }
+        requires sound { IsSound (config_in self.now) }
+        requires named { AreNamed (config_in self.now) }
+        ensures graph { IfOk result (IsGraphOf (config_in self.now)) }
         ensures sound { IfOk result Sound }
         ensures few_nodes { IfOk result (λ g. length g.nodes ≤ MAX_NODES) }
         ensures few_ports { IfOk result (λ g. length (ports g.nodes) ≤ MAX_PORTS) }

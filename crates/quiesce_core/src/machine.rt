@@ -151,8 +151,8 @@ impl Core {
         ensures named { AreNamed self.now.state.config }
     {
         Made {
-            nodes: self.tables.slots.len() as u32,
-            ports: self.tables.gates.len() as u32,
+            nodes: self.tables.links.slots.len() as u32,
+            ports: self.tables.links.gates.len() as u32,
         }
     }
 
@@ -161,21 +161,21 @@ impl Core {
         requires { slot < length self.now.state.config.slots }
         ensures { option_map (λ m. m.node) (state.slot self.now.state.config slot) ≡ Some result.now }
     {
-        &self.tables.slots[slot as usize].node
+        &self.tables.links.slots[slot as usize].node
     }
 
     /// What was made in a slot: the node, its first port, where its state came from, and whether it is live.
     pub fn slot(&self, slot: u32) -> Option<&Slot>
         ensures { option_map (λ m. m.now) result ≡ state.slot self.now.state.config slot }
     {
-        self.tables.slot(slot)
+        self.tables.links.slot(slot)
     }
 
     /// What the change has decided of a port. One that was never made is closed and unlinked.
     pub fn gate(&self, port: u32) -> Gate
         ensures { result ≡ state.gate self.now.state.config port }
     {
-        self.tables.gate(port)
+        self.tables.links.gate(port)
     }
 
     /// How far a port's transactions have come. One that was never made is idle, and had none.
@@ -196,7 +196,7 @@ impl Core {
     pub fn is_live(&self, node: u32) -> bool
         ensures { result ≡ state.is_live self.now.state.config node }
     {
-        self.tables.is_live(node)
+        self.tables.links.is_live(node)
     }
 
     /// Whether the node is settled: its ports and those that reach it are closed and idle, and it services nothing.
@@ -244,7 +244,7 @@ impl Core {
         ensures few_nodes { IfOk result (λ g. length g.nodes ≤ MAX_NODES) }
         ensures few_ports { IfOk result (λ g. length (ports g.nodes) ≤ MAX_PORTS) }
     {
-        self.tables.graph()
+        self.tables.links.graph()
     }
 
     /// How many events can still happen, at most, of the open transactions and their consequents, until each has ended.

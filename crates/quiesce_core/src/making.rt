@@ -10,28 +10,12 @@ ghost use Rattle.quiesce_core.specs.WellFormed.{IsWellFormed};
 ghost use Rattle.quiesce_core.specs.Tables.{state_of};
 ghost use Rattle.quiesce_core.specs.declared.event.Event.TheVariants as event;
 
-use crate::state::{Exchange, Gate, Slot};
-use crate::tables::{FRESH_EXCHANGE, FRESH_GATE, Tables};
+use crate::state::Exchange;
+use crate::tables::{FRESH_EXCHANGE, Tables};
 use config_graph::{NoMemory, Node};
 
 /// No kind requires more services than this.
 const MOST_REQUIRES: usize = 2;
-
-/// Adds the gates of a new node. They have their room.
-fn push_gates(gates: &mut Vec<Gate>, owner: u32, requires_: u32)
-    requires { length gates.old.items + requires_ ≤ vec_capacity gates.old }
-    ensures items { gates.new.items ≡ gates.old.items ++ effect.new_gates owner requires_ }
-    ensures room { vec_capacity gates.old ≤ vec_capacity gates.new }
-{
-    for require in 0..requires_ {
-        let gate = Gate {
-            owner,
-            require,
-            ..FRESH_GATE
-        };
-        let _ = gates.push(gate);
-    }
-}
 
 /// Adds the exchanges of a new node. They have their room.
 fn push_exchanges(exchanges: &mut Vec<Exchange>, requires_: u32)
@@ -52,9 +36,9 @@ impl Tables {
         ensures ok { OnOk result (HasRoomToMake self.new nodes) }
         ensures kept { KeepsRoom self.old self.new }
     {
-        self.slots.reserve(nodes)?;
+        self.links.slots.reserve(nodes)?;
         self.services.reserve(nodes)?;
-        self.gates.reserve(MOST_REQUIRES * nodes)?;
+        self.links.gates.reserve(MOST_REQUIRES * nodes)?;
         self.exchanges.reserve(MOST_REQUIRES * nodes)?;
         Ok(())
     }
@@ -63,23 +47,15 @@ impl Tables {
     pub fn add(&mut self, node: Node, from: Option<u32>)
         requires well_formed { IsWellFormed (state_of self.old) }
         requires room { (spare : ℕ) × (0 < spare) × HasRoomToMake self.old spare }
-        requires few { length self.old.slots.items < MAX_NODES }
-        requires ports { length self.old.gates.items + length (row node.kind).requires_ ≤ MAX_PORTS }
+        requires few { length self.old.links.slots.items < MAX_NODES }
+        requires ports { length self.old.links.gates.items + length (row node.kind).requires_ ≤ MAX_PORTS }
         ensures state { state_of self.new ≡ effect.effect (state_of self.old)
-            (event.Make (length self.old.slots.items) node from) }
+            (event.Make (length self.old.links.slots.items) node from) }
         ensures room { (spare : ℕ) → HasRoomToMake self.old (spare + 1) → HasRoomToMake self.new spare }
     {
-        let owner = self.slots.len() as u32;
         let requires_ = node.kind.requires_();
-        let slot = Slot {
-            node,
-            first_port: self.gates.len() as u32,
-            from,
-            live: true,
-        };
-        let _ = self.slots.push(slot);
+        self.links.add(node, from);
         let _ = self.services.push(None);
-        push_gates(&mut self.gates, owner, requires_);
         push_exchanges(&mut self.exchanges, requires_);
     }
 }

@@ -44,8 +44,8 @@ impl Tables {
         requires { length (state_of self.now).config.gates ≤ MAX_PORTS }
         ensures { IfOk result (λ v. v.items ≡ open_.open_txns (state_of self.now)) }
     {
-        let alloc = *self.gates.allocator();
-        let ports = self.gates.len() as u32;
+        let alloc = *self.links.gates.allocator();
+        let ports = self.links.gates.len() as u32;
         (0..ports)
             .filter_map(|port| self.open_txn(port))
             .collect(alloc)

@@ -31,8 +31,8 @@ impl Tables {
         if let Some(events) = known[target.node as usize] {
             return events;
         }
-        let calls = self.calls_allowed(target.node, target.provide) as u128;
-        let replies = 3 + 3 * self.mores_allowed(target.node, target.provide) as u128;
+        let calls = self.links.calls_allowed(target.node, target.provide) as u128;
+        let replies = 3 + 3 * self.links.mores_allowed(target.node, target.provide) as u128;
         let events = self
             .call_events(target, depth, known)
             .saturating_mul(calls)
@@ -51,7 +51,7 @@ impl Tables {
         ensures value { result ≡ capped (rest.call_events (state_of self.now).config target.node target.provide) }
         ensures known { AreCounted (state_of self.now).config known.new }
     {
-        let ports = self.ports_of(target.node);
+        let ports = self.links.ports_of(target.node);
         let mut most = 0;
         for port in ports.start..ports.end {
             most = self.events_within(target, port, depth, known).max(most);
@@ -76,10 +76,10 @@ impl Tables {
         ensures value { result ≡ capped (events_within (state_of self.now).config target port) }
         ensures known { AreCounted (state_of self.now).config known.new }
     {
-        if !self.depends(target.node, target.provide, port) {
+        if !self.links.depends(target.node, target.provide, port) {
             return 0;
         }
-        match self.gate(port).target {
+        match self.links.gate(port).target {
             Some(next) => self.full(next, depth - 1, known).saturating_add(1),
             None => 1,
         }
@@ -101,11 +101,13 @@ impl Tables {
             (rest.service_rest (state_of self.now).config target.node target.provide service.now phase) }
         ensures known { AreCounted (state_of self.now).config known.new }
     {
-        let depth = self.walk_bound();
+        let depth = self.links.walk_bound();
         let calls = self
+            .links
             .calls_allowed(target.node, target.provide)
             .saturating_sub(service.calls);
         let mores = self
+            .links
             .mores_allowed(target.node, target.provide)
             .saturating_sub(service.mores);
         self.call_events(target, depth, known)
@@ -123,7 +125,7 @@ impl Tables {
         ensures known { AreCounted (state_of self.now).config known.new }
     {
         if !self.is_taken(port) {
-            let depth = self.walk_bound();
+            let depth = self.links.walk_bound();
             return self.full(target, depth, known);
         }
         match self.service(target.node) {
@@ -144,7 +146,7 @@ impl Tables {
         match self.exchange(port).phase {
             Phase::Idle => 0,
             Phase::Answered => 1,
-            Phase::Asked | Phase::More => match self.gate(port).target {
+            Phase::Asked | Phase::More => match self.links.gate(port).target {
                 Some(target) => self.asked_rest(port, target, known),
                 None => 0,
             },
@@ -166,7 +168,7 @@ impl Tables {
         requires known { AreCounted (state_of self.now).config known.old }
         ensures { result ≡ capped (rest.rest (state_of self.now)) }
     {
-        let ports = self.gates.len() as u32;
+        let ports = self.links.gates.len() as u32;
         let mut total = 0u128;
         for port in 0..ports {
             total = total.saturating_add(self.port_rest(port, known));

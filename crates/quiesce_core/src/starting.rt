@@ -7,6 +7,7 @@ ghost use Rattle.config_graph.specs.declared.TheConstants.{MAX_PORTS};
 ghost use Rattle.quiesce_core.specs.Start as start;
 ghost use Rattle.quiesce_core.specs.Tables.{state_of};
 
+use crate::links::Links;
 use crate::state::{Gate, Slot};
 use crate::tables::{FRESH_EXCHANGE, Tables};
 use config_graph::{Graph, NoMemory, Node};
@@ -60,9 +61,8 @@ impl Tables {
         let gates = list_gates(alloc, graph)?;
         let exchanges = vec![in alloc; FRESH_EXCHANGE; graph.port_count() as usize]?;
         Ok(Tables {
-            slots,
+            links: Links { slots, gates },
             services,
-            gates,
             exchanges,
         })
     }

@@ -1,24 +1,17 @@
 //! The state in tables: of each slot its node and service, of each port its gate and exchange.
 
-ghost use Rattle.std.specs.Prelude.{◌≡◌, option_map};
+ghost use Rattle.std.specs.Prelude.{◌≡◌};
 ghost use Rattle.quiesce_core.specs.State as state;
 ghost use Rattle.quiesce_core.specs.Tables.{state_of};
 ghost use Rattle.quiesce_core.specs.WellFormed.{IsWellFormed};
 ghost use Rattle.gate_word.specs.Words.{FitsWord};
 ghost use Rattle.quiesce_core.specs.Fields.{fields_of};
 
-use crate::state::{Exchange, Gate, Phase, Service, Slot};
-use config_graph::{Kind, Target};
+use crate::links::Links;
+use crate::state::{Exchange, Phase, Service};
+use config_graph::Target;
 use gate_word::Word;
 use std::alloc::Global;
-
-/// What a port that was never made looks like.
-pub const FRESH_GATE: Gate = Gate {
-    owner: 0,
-    require: 0,
-    closed: true,
-    target: None,
-};
 
 /// What is done at a port at which nothing was ever done.
 pub const FRESH_EXCHANGE: Exchange = Exchange {
@@ -28,12 +21,11 @@ pub const FRESH_EXCHANGE: Exchange = Exchange {
     within: None,
 };
 
-/// Of each slot the node made there and its service, of each port made its gate and its exchange.
+/// The nodes and gates made, of each slot the service of its node, of each port made its exchange.
 #[derive(Debug, Drop)]
 pub struct Tables {
-    pub slots: Vec<Slot>,
+    pub links: Links,
     pub services: Vec<Option<Service>>,
-    pub gates: Vec<Gate>,
     pub exchanges: Vec<Exchange>,
 }
 
@@ -42,38 +34,10 @@ impl Tables {
         ensures state { state_of result ≡ state.empty }
     {
         Tables {
-            slots: Vec::new(alloc),
+            links: Links::new(alloc),
             services: Vec::new(alloc),
-            gates: Vec::new(alloc),
             exchanges: Vec::new(alloc),
         }
-    }
-
-    pub fn slot(&self, node: u32) -> Option<&Slot>
-        ensures { option_map (λ m. m.now) result ≡ state.slot (state_of self.now).config node }
-    {
-        self.slots.get(node as usize)
-    }
-
-    pub fn is_live(&self, node: u32) -> bool
-        ensures { result ≡ state.is_live (state_of self.now).config node }
-    {
-        match self.slots.get(node as usize) {
-            Some(slot) => slot.live,
-            None => false,
-        }
-    }
-
-    pub fn kind(&self, node: u32) -> Option<Kind>
-        ensures { result ≡ option_map (λ m. m.node.kind) (state.slot (state_of self.now).config node) }
-    {
-        self.slots.get(node as usize).map(|slot| slot.node.kind)
-    }
-
-    pub fn gate(&self, port: u32) -> Gate
-        ensures { result ≡ state.gate (state_of self.now).config port }
-    {
-        self.gates.get(port as usize).copied().unwrap_or(FRESH_GATE)
     }
 
     pub fn exchange(&self, port: u32) -> Exchange
@@ -94,7 +58,7 @@ impl Tables {
     pub fn target_service(&self, port: u32) -> Option<Service>
         ensures { result ≡ state.target_service (state_of self.now) port }
     {
-        let Target { node, .. } = self.gate(port).target?;
+        let Target { node, .. } = self.links.gate(port).target?;
         self.service(node)
     }
 
@@ -103,7 +67,7 @@ impl Tables {
         ensures fields { result ≡ fields_of (state_of self.now) port }
         ensures fits { FitsWord result }
     {
-        let gate = self.gate(port);
+        let gate = self.links.gate(port);
         let exchange = self.exchange(port);
         Word {
             closed: gate.closed,

@@ -15,9 +15,9 @@ invariant_of-result c =
       consistent = subst (λ s. IsConsistent s) (sym none_) consistent_empty;
       named = subst (λ s. AreNamed s.config) (sym none_) named_empty;
       room = record {
-        slots = omega (arith, c.new.result.slots.ok.0, c.new.result.slots.ok.1);
+        slots = omega (arith, c.new.result.links.slots.ok.0, c.new.result.links.slots.ok.1);
         services = omega (arith, c.new.result.services.ok.0, c.new.result.services.ok.1);
-        gates = omega (arith, c.new.result.gates.ok.0, c.new.result.gates.ok.1);
+        gates = omega (arith, c.new.result.links.gates.ok.0, c.new.result.links.gates.ok.1);
         exchanges = omega (arith, c.new.result.exchanges.ok.0, c.new.result.exchanges.ok.1);
       };
     }

@@ -13,9 +13,9 @@ invariant_of-result c =
       consistent = subst (λ s. IsConsistent s) (sym c.in_ok-tables.ensures) (consistent_started c.args.graph.now c.requires.sound c.requires.few_nodes c.requires.few_ports);
       named = subst (λ s. AreNamed s.config) (sym c.in_ok-tables.ensures) (named_started c.args.graph.now c.requires.sound c.requires.few_nodes c.requires.few_ports);
       room = record {
-        slots = omega (arith, tables.slots.ok.0, tables.slots.ok.1);
+        slots = omega (arith, tables.links.slots.ok.0, tables.links.slots.ok.1);
         services = omega (arith, tables.services.ok.0, tables.services.ok.1);
-        gates = omega (arith, tables.gates.ok.0, tables.gates.ok.1);
+        gates = omega (arith, tables.links.gates.ok.0, tables.links.gates.ok.1);
         exchanges = omega (arith, tables.exchanges.ok.0, tables.exchanges.ok.1);
       };
     }
