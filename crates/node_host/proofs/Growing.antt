@@ -39,7 +39,7 @@ line_next k before (m ∷ ms) first a log e = by (line_node_state k before m) (�
     by None rest = refl
     by (Some s) rest = rest s
 
-module _ (slot first : ℕ) (t : NodeState) (log : List Event) (line : List LineNode) (known : Known) (waiting : List (Option ℕ)) (seat : SeatSeen) (h : IsHosted slot first t log line known waiting seat) where
+module _ {slot first : ℕ} {t : NodeState} {log : List Event} {line : List LineNode} {known : Known} {waiting : List (Option ℕ)} {seat : SeatSeen} (h : IsHosted slot first t log line known waiting seat) where
   pub two_known : length known.ports ≡ 2
   two_known = ap (λ (w : Known). length w.ports) h.knows ∙ ports_of_log first log
 
@@ -92,7 +92,7 @@ module _ (slot first : ℕ) (t : NodeState) (log : List Event) (line : List Line
       tells_next None before es is = absurd (cc)
       tells_next (Some old) before es is = sym (same_Some (old ++ e ∷ []) es is) ∙ ap (λ x. x ++ e ∷ []) (before old refl) ∙ sym logged
 
-  module _ (e : Event) (t' : NodeState) (log' : List Event) (known' : Known) (seat' : SeatSeen) (n : NodeAt) (s s' : Option State) (same : n ≡ node_of slot first t) (of_slot : n.slot ≡ seat'.slot)
+  module _ {e : Event} {t' : NodeState} {log' : List Event} {known' : Known} (seat' : SeatSeen) {n : NodeAt} {s s' : Option State} (same : n ≡ node_of slot first t) (of_slot : n.slot ≡ seat'.slot)
       (did : Does (node_of slot first t) (e ∷ []) seat.known seat'.known seat.told seat'.told s s') (in_turn : IsInTurn (λ p. own_port_after p log) e) (after : after_event first t e ≡ Some t')
       (logged : log' ≡ log ++ e ∷ []) (knows : known' ≡ known_next first known e) where
     pub hosted_after : IsHosted slot first t' log' line known' waiting seat'

@@ -19,6 +19,6 @@ pub not_false : (b : Bool) → not b ≡ false → b ≡ true
 not_false true h = refl
 not_false false h = absurd (both_ways true h refl)
 
-module _ (slot first : ℕ) (t : NodeState) (log : List Event) (line : List LineNode) (known : Known) (waiting : List (Option ℕ)) (seat : SeatSeen) (h : IsHosted slot first t log line known waiting seat) where
+module _ {slot first : ℕ} {t : NodeState} {log : List Event} {line : List LineNode} {known : Known} {waiting : List (Option ℕ)} {seat : SeatSeen} (h : IsHosted slot first t log line known waiting seat) where
   pub idle_at : (r : ℕ) (x : PortKnown) → r < 2 → x ≡ slice_index_or known.ports r port_at_start → x.idle ≡ true → (own_port_after (first + r) log).idle ≡ true
-  idle_at r x two is idle = ap (λ (o : OwnPort). o.idle) (sym (port_there slot first t log line known waiting seat h r two)) ∙ ap (λ (k : PortKnown). k.idle) (sym is) ∙ idle
+  idle_at r x two is idle = ap (λ (o : OwnPort). o.idle) (sym (port_there h r two)) ∙ ap (λ (k : PortKnown). k.idle) (sym is) ∙ idle

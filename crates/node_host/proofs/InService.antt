@@ -121,7 +121,7 @@ not_called : (idle consequent : Bool) → (not idle && consequent) ≡ false →
 not_called true c h alone = alone refl
 not_called false c h alone = h
 
-module _ (slot first : ℕ) (t : NodeState) (log : List Event) (line : List LineNode) (known : Known) (waiting : List (Option ℕ)) (seat : SeatSeen) (h : IsHosted slot first t log line known waiting seat) where
+module _ {slot first : ℕ} {t : NodeState} {log : List Event} {line : List LineNode} {known : Known} {waiting : List (Option ℕ)} {seat : SeatSeen} (h : IsHosted slot first t log line known waiting seat) where
   abbrev known_port : (r : ℕ) → PortKnown
   known_port r = slice_index_or known.ports r port_at_start
 
@@ -131,18 +131,18 @@ module _ (slot first : ℕ) (t : NodeState) (log : List Event) (line : List Line
       by : (b : Bool) → (known_port r).idle ≡ b → called (known_port r) ≡ false
       by true idle = ap (λ b. not b && (known_port r).consequent) idle
       by false busy =
-          let own = expected_is_own (known_port r).consequent first (first + r) t (expected_at slot first t log line known waiting seat h r (known_port r) two refl busy) in
+          let own = expected_is_own (known_port r).consequent first (first + r) t (expected_at h r (known_port r) two refl busy) in
           absurd (omega (arith, past, own.1, own.2))
 
   -- where it awaits no call, each call has ended
   ended_at : awaits known ≡ false → (r : ℕ) → r < 2 → (known_port r).consequent ≡ false
   ended_at still r two =
-      let shape = sym (two_shape known.ports (two_known slot first t log line known waiting seat h)) ∙ still in
+      let shape = sym (two_shape known.ports (two_known h)) ∙ still in
       let left = left_false (called (known_port 0)) (called (known_port 1) || false) shape in
       let right = left_false (called (known_port 1)) false (right_false (called (known_port 0)) (called (known_port 1) || false) shape) in
       not_called (known_port r).idle (known_port r).consequent (by r two left right)
-      (λ i. ap (λ (o : OwnPort). o.consequent) (port_there slot first t log line known waiting seat h r two)
-      ∙ alone_after (first + r) log (ap (λ (o : OwnPort). o.idle) (sym (port_there slot first t log line known waiting seat h r two)) ∙ i))
+      (λ i. ap (λ (o : OwnPort). o.consequent) (port_there h r two)
+      ∙ alone_after (first + r) log (ap (λ (o : OwnPort). o.idle) (sym (port_there h r two)) ∙ i))
     where
       by : (r : ℕ) → r < 2 → called (known_port 0) ≡ false → called (known_port 1) ≡ false → called (known_port r) ≡ false
       by zero two left right = left
@@ -153,7 +153,7 @@ module _ (slot first : ℕ) (t : NodeState) (log : List Event) (line : List Line
   calls_ended still r x at =
       let here : slice_get known.ports r ≡ Some x = subst (λ (w : Known). slice_get w.ports r ≡ Some x) (sym h.kept) at in
       let within = slice_get_within known.ports r x here in
-      let two : r < 2 = omega (arith, within, two_known slot first t log line known waiting seat h) in
+      let two : r < 2 = omega (arith, within, two_known h) in
       ap (λ (k : PortKnown). k.consequent) (sym (same_Some (known_port r) x (sym (slice_get-get_or known.ports r port_at_start within) ∙ here))) ∙ ended_at still r two
 
   -- and the port of its next one is idle: what else is open there it wants, and who wants asks nothing
@@ -165,7 +165,7 @@ module _ (slot first : ℕ) (t : NodeState) (log : List Event) (line : List Line
       by false busy =
           let p : ℕ = first + a.require in
           let wanted : wants_at first t p ≡ true =
-          subst (λ b. expects b first t p ≡ true) (ended_at still a.require two) (expected_at slot first t log line known waiting seat h a.require (known_port a.require) two refl busy) in
+          subst (λ b. expects b first t p ≡ true) (ended_at still a.require two) (expected_at h a.require (known_port a.require) two refl busy) in
           absurd (both_ways (calls_at first t p) (who_wants_asks_nothing first p p t wanted) (ap (λ o. is_request_at first p (asked_by o)) asks ∙ eq-eqb p p refl))
 
   -- and in the log as a function of ports
@@ -177,7 +177,7 @@ module _ (slot first : ℕ) (t : NodeState) (log : List Event) (line : List Line
       by true is =
           let own = expected_is_own (own_port_after p log).consequent first p t (h.agrees.ports p busy) in
           let two : own.0 < 2 = omega (arith, own.1, two_requires t.kind) in
-          ap (λ i. (own_port_after i log).consequent) (sym own.2) ∙ ap (λ (o : OwnPort). o.consequent) (sym (port_there slot first t log line known waiting seat h own.0 two)) ∙ ended_at still own.0 two
+          ap (λ i. (own_port_after i log).consequent) (sym own.2) ∙ ap (λ (o : OwnPort). o.consequent) (sym (port_there h own.0 two)) ∙ ended_at still own.0 two
 
   -- ---- the service, as the component has it and as the node knows it
 

@@ -1,3 +1,4 @@
+mod ActLaws
 mod Asked
 mod Asking
 mod Composing

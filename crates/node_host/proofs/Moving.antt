@@ -118,7 +118,7 @@ module _ (o : Option State) (n : NodeAt) (known : Known) (s : State) (told : IsT
       let k = own_known o n known s told r within in
       ap (λ b. not b && (slice_index_or known.ports r port_at_start).consequent) k.idle ∙ ap (λ b. not (is_idle (exchange s (n.first + r)).phase) && b) k.consequent
 
-module _ (slot first : ℕ) (t : NodeState) (log : List Event) (line : List LineNode) (known : Known) (waiting : List (Option ℕ)) (seat : SeatSeen) (h : IsHosted slot first t log line known waiting seat)
+module _ {slot first : ℕ} {t : NodeState} {log : List Event} {line : List LineNode} {known : Known} {waiting : List (Option ℕ)} {seat : SeatSeen} (h : IsHosted slot first t log line known waiting seat)
     (o : Option State) (s : State) (tells : IsTold o (node_of slot first t) seat.known s) where
   told_here : IsTold o (node_of slot first t) known s
   told_here = subst (λ w. IsTold o (node_of slot first t) w s) (sym h.kept) tells
@@ -132,7 +132,7 @@ module _ (slot first : ℕ) (t : NodeState) (log : List Event) (line : List Line
   -- whether it awaits a call is so
   pub awaits_there : awaits known ≡ awaits_call s slot
   awaits_there =
-      two_shape known.ports (two_known slot first t log line known waiting seat h) ∙ by (length (row t.kind).requires_) refl
+      two_shape known.ports (two_known h) ∙ by (length (row t.kind).requires_) refl
       ∙ sym (ap (list_any (is_call s)) (ports_are o (node_of slot first t) known s told_here))
     where
       zero_is : first + 0 ≡ first
@@ -142,7 +142,7 @@ module _ (slot first : ℕ) (t : NodeState) (log : List Event) (line : List Line
       own r within = is_call_at o (node_of slot first t) known s told_here r within
 
       past : (r : ℕ) → r < 2 → length (row t.kind).requires_ ≤ r → at r ≡ false
-      past r two none_ = unowned slot first t log line known waiting seat h r two none_
+      past r two none_ = unowned h r two none_
 
       by : (k : ℕ) → length (row t.kind).requires_ ≡ k → (at 0 || (at 1 || false)) ≡ list_any (is_call s) (range_with_len first (length (row t.kind).requires_))
       by zero is = nothing_after (at 0) (at 1) (past 0 (omega arith) (omega (arith, is))) (past 1 (omega arith) (omega (arith, is))) ∙ ap (λ j. list_any (is_call s) (range_with_len first j)) (sym is)

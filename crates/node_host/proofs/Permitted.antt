@@ -71,10 +71,10 @@ take_folds first p k v x t t' provided free same =
 
 -- ---- what a gate was asked, in the node's own terms
 
-pub did_by : (n n' : NodeAt) (w w' : Known) (told told' : Option (List Event)) (s s' : Option State) (es es' : List Event) → n' ≡ n → es' ≡ es → Does n' es' w w' told told' s s' → Does n es w w' told told' s s'
-did_by n n' w w' told told' s s' es es' node events d = subst (λ x. Does n x w w' told told' s s') events (subst (λ m. Does m es' w w' told told' s s') node d)
+pub did_by : {n n' : NodeAt} {w w' : Known} {told told' : Option (List Event)} {s s' : Option State} {es es' : List Event} → n' ≡ n → es' ≡ es → Does n' es' w w' told told' s s' → Does n es w w' told told' s s'
+did_by {n = n} {w = w} {w' = w'} {told = told} {told' = told'} {s = s} {s' = s'} {es' = es'} node events d = subst (λ x. Does n x w w' told told' s s') events (subst (λ m. Does m es' w w' told told' s s') node d)
 
-module _ (slot first : ℕ) (t : NodeState) (log : List Event) (line : List LineNode) (known : Known) (waiting : List (Option ℕ)) (seat : SeatSeen) (h : IsHosted slot first t log line known waiting seat) where
+module _ {slot first : ℕ} {t : NodeState} {log : List Event} {line : List LineNode} {known : Known} {waiting : List (Option ℕ)} {seat : SeatSeen} (h : IsHosted slot first t log line known waiting seat) where
   own : (r : ℕ) → r < length (row t.kind).requires_ → IsOwn (node_of slot first t) (first + r)
   own r within = record { from = omega arith; below = omega (arith, within) }
 
@@ -104,16 +104,16 @@ module _ (slot first : ℕ) (t : NodeState) (log : List Event) (line : List Line
 
     module _ (heard : u.heard ≡ true) (still : awaits known ≡ false) where
       pub may_give : (v : ℕ) → v < value_limit → MayGive seat.known u.port v
-      may_give v small = record { serving = at_port; heard = heard_is ∙ heard; ended = calls_ended slot first t log line known waiting seat h still; small = small }
+      may_give v small = record { serving = at_port; heard = heard_is ∙ heard; ended = calls_ended h still; small = small }
 
       -- as many answers and further messages came as it called and sent
-      came : u.calls + u.mores ≤ length (in_service slot first t log line known waiting seat h u serving).held.answers
-      came = (in_service slot first t log line known waiting seat h u serving).agree.all heard (no_call slot first t log line known waiting seat h still)
+      came : u.calls + u.mores ≤ length (in_service h u serving).held.answers
+      came = (in_service h u serving).agree.all heard (no_call h still)
 
       table_is : (x : Next) → moves.next t ≡ Some x
-          → (w : Serving) × (w ≡ (in_service slot first t log line known waiting seat h u serving).held) × (next_of t.kind t.arg w.value w.reply w.answers ≡ x)
+          → (w : Serving) × (w ≡ (in_service h u serving).held) × (next_of t.kind t.arg w.value w.reply w.answers ≡ x)
       table_is x is =
-          let i = in_service slot first t log line known waiting seat h u serving in
+          let i = in_service h u serving in
           (i.held, refl, by i.held i.held.waits refl (sym (ap (option_and_then (next_in t)) i.is) ∙ is))
         where
           by : (w : Serving) (b : Bool) → w.waits ≡ b → cond w.waits None (Some (next_of t.kind t.arg w.value w.reply w.answers)) ≡ Some x → next_of t.kind t.arg w.value w.reply w.answers ≡ x

@@ -63,7 +63,7 @@ seen_at n r answer w short =
     get_or-set_same w.ports (n.first + r - n.first) (seen_by answer (port_known n w (n.first + r))) port_at_start (omega (arith, short))
     ∙ ap (λ i. seen_by answer (slice_index_or w.ports i port_at_start)) (index_is n.first r)
 
-module _ (n n' : NodeAt) (r : ℕ) (answer : SeeAnswer) (w ws w' : Known) (told0 told told' : Option (List Event)) (s0 s s' : Option State)
+module _ {n n' : NodeAt} (r : ℕ) (answer : SeeAnswer) {w ws w' : Known} {told0 told told' : Option (List Event)} {s0 s s' : Option State}
     (node : n' ≡ n) (seen : ws ≡ with_seen n (n.first + r) answer w) (telling : told0 ≡ told) (states : s0 ≡ s) (short : r < length w.ports) where
   did : (events : NodeAt → Known → List Event) (e : Event) → events n (with_seen n (n.first + r) answer w) ≡ e ∷ []
       → ((x : PortKnown) → port_known_next (n.first + r) (seen_by answer x) e ≡ port_known_next (n.first + r) x e)

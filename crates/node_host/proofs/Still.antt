@@ -21,7 +21,7 @@ use Rattle.node_host.specs.Moved.{Moved}
 use Rattle.node_host.proofs.Composing.{told_nothing}
 use Rattle.node_host.proofs.InService.{agreeing}
 
-module _ (slot first : ℕ) (t : NodeState) (log : List Event) (line : List LineNode) (known : Known) (waiting : List (Option ℕ)) (seat : SeatSeen) (h : IsHosted slot first t log line known waiting seat) where
+module _ {slot first : ℕ} {t : NodeState} {log : List Event} {line : List LineNode} {known : Known} {waiting : List (Option ℕ)} {seat : SeatSeen} (h : IsHosted slot first t log line known waiting seat) where
   module _ (seat' : SeatSeen) (n n' : NodeAt) (s s' : Option State) (same : n ≡ node_of slot first t) (same' : n' ≡ n) (of_slot : n'.slot ≡ seat'.slot)
       (did : Does n [] seat.known seat'.known seat.told seat'.told s s') where
     pub hosted_still : IsHosted slot first t log line known waiting seat'
@@ -61,7 +61,7 @@ module _ (slot first : ℕ) (t : NodeState) (log : List Event) (line : List Line
       one false k e = subst (λ i. i < MAX_NODES) (same_Some m k e) made
 
   pub free_known : t.service ≡ None → known.service ≡ None
-  free_known free = by known.service refl (subst (λ o. ServicesAgree (λ p. own_port_after p log) o known.service) free (agreeing slot first t log line known waiting seat h))
+  free_known free = by known.service refl (subst (λ o. ServicesAgree (λ p. own_port_after p log) o known.service) free (agreeing h))
     where
       by : (o : Option Served) → known.service ≡ o → ServicesAgree (λ p. own_port_after p log) None known.service → known.service ≡ None
       by None is g = is

@@ -1,3 +1,4 @@
+pub mod Acts
 pub mod Lines
 pub mod Hosted
 pub mod HostedProps

@@ -1,12 +1,9 @@
-use Rattle.std.proofs.Common.{inr, ◌∙◌, ◌+◌, ◌<◌, List, [], ◌∷◌, refl, sym, subst, arith}
-use Rattle.std.specs.Prelude.{map, slice_index_or}
+use Rattle.std.proofs.Common.{rules, inr, ◌∙◌, ◌+◌, ◌<◌, refl, sym, subst, arith}
+use Rattle.std.specs.Prelude.{slice_index_or}
 use Rattle.quiesce_core.specs.Knowledge.{port_at_start}
-use Rattle.quiesce_core.specs.declared.event.Event.{Event}
-use Rattle.quiesce_core.specs.declared.event.Event.TheVariants as event
 use Rattle.node_host.specs.Hosted.{SeatSeen, node_of}
 use Rattle.node_host.specs.Posting.{Hinted, IsPosted}
 use Rattle.node_host.proofs.Replying.{index_is}
-use Rattle.node_host.specs.Lines.{LineNode}
 use Rattle.config_graph.proofs.KindLaws.{two_requires}
 use Rattle.port_gate.specs.Seats.{MayBegin}
 use Rattle.node_host.proofs.Exactly.{begins_begun, begins_refused}
@@ -20,16 +17,15 @@ use Rattle.component_trait.specs.declared.next.Ask.{Ask}
 use Rattle.std.proofs.lemmas.Option.{same_Some}
 use Rattle.node_host.proofs.Permitted.{begin_folds, did_by, may_begin}
 use Rattle.node_host.proofs.Still.{hosted_waiting}
+use Rattle.node_host.specs.Acts.{hinted, seat_seen}
 use Rattle.node_host.proofs.node.HostNode.begin_idle.Goals as goal
 
 pub begin-requires-clause-may : goal.begin-requires-clause-may
 begin-requires-clause-may g c =
     let h = c.args.self.now in
-    let t = g.C.Component.state h.inner in
-    let line : List LineNode = map (λ p. record { first = p.first_port; arg = p.arg; log = p.log.items }) h.past.items in
-    let seat : SeatSeen = record { slot = g.S.GateSeat.slot_of h.seat; known = g.S.GateSeat.known h.seat; told = g.S.GateSeat.tells h.seat } in
-    subst (λ m. MayBegin m seat.known (h.first_port + c.args.ask.require) c.args.ask.value) (sym c.requires.node)
-    (may_begin h.slot h.first_port t h.log.items line h.known h.waiting seat h.hosted c.args.ask (slice_index_or h.known.ports c.args.ask.require port_at_start) c.requires.fits_ask refl c.requires.idle)
+    let seat : SeatSeen = seat_seen h in
+    subst (λ m. MayBegin m seat.known (h.first_port + c.args.ask.require) c.args.ask.value) (sym c.requires.can.node)
+    (may_begin h.hosted c.args.ask (slice_index_or h.known.ports c.args.ask.require port_at_start) c.requires.fits_ask refl c.requires.idle)
 
 pub post-requires-clause-port : goal.post-requires-clause-port
 post-requires-clause-port g c =
@@ -44,45 +40,36 @@ pub invariant_of-self-2-clause-hosted : goal.invariant_of-self-2-clause-hosted
 invariant_of-self-2-clause-hosted g c =
     let h = c.args.self.now in
     let t = g.C.Component.state h.inner in
-    let line : List LineNode = map (λ p. record { first = p.first_port; arg = p.arg; log = p.log.items }) h.past.items in
-    let seat : SeatSeen = record { slot = g.S.GateSeat.slot_of h.seat; known = g.S.GateSeat.known h.seat; told = g.S.GateSeat.tells h.seat } in
     let seat' : SeatSeen = record { slot = g.S.GateSeat.slot_of c.begin.new.seat; known = g.S.GateSeat.known c.begin.new.seat; told = g.S.GateSeat.tells c.begin.new.seat } in
     let two : c.args.ask.require < 2 = omega (arith, c.requires.fits_ask.require, two_requires t.kind) in
-    let e : Event = event.Begin (h.first_port + c.args.ask.require) c.in-Begun.serial c.args.ask.value in
-    hosted_waiting h.slot h.first_port t c.keep.new.log.items line c.keep.new.known h.waiting seat' (hosted_after h.slot h.first_port t h.log.items line h.known h.waiting seat h.hosted e (t) c.keep.new.log.items c.keep.new.known seat'
-    (g.G.PortGate.node c.begin.new.self c.begin.new.seat) (g.G.PortGate.state c.args.gate.now) (g.G.PortGate.state c.begin.new.self)
-    (c.begin.ensures.node ∙ c.requires.node) (g.met.G.PortGate.within c.begin.new.self c.begin.new.seat c.begin.ensures.fits).1
-    (did_by (node_of h.slot h.first_port t) (g.G.PortGate.node c.args.gate.now h.seat) seat.known seat'.known seat.told seat'.told (g.G.PortGate.state c.args.gate.now) (g.G.PortGate.state c.begin.new.self) (e ∷ []) (event.Begin (h.first_port + c.args.ask.require) c.in-Begun.serial c.args.ask.value ∷ []) c.requires.node (refl) c.in-Begun.ensures.does)
-    (idle_at h.slot h.first_port t h.log.items line h.known h.waiting seat h.hosted c.args.ask.require (slice_index_or h.known.ports c.args.ask.require port_at_start) two refl c.requires.idle) (begin_folds h.first_port c.in-Begun.serial c.args.ask t c.requires.wanted) c.keep.ensures.logged c.keep.ensures.known)
+    hosted_waiting (hosted_after h.hosted seat' (c.begin.ensures.node ∙ c.requires.can.node) (g.met.G.PortGate.within c.begin.new.self c.begin.new.seat c.begin.ensures.fits).1
+    (did_by c.requires.can.node (refl) c.in-Begun.ensures.does)
+    (idle_at h.hosted c.args.ask.require (slice_index_or h.known.ports c.args.ask.require port_at_start) two refl c.requires.idle) (begin_folds h.first_port c.in-Begun.serial c.args.ask t c.requires.wanted) c.keep.ensures.logged c.keep.ensures.known)
     c.post.new.waiting c.args.ask.require c.in-Begun.target c.post.result c.post.ensures.waiting c.requires.fits_ask.require c.in-Begun.ensures.says.1
 
-pub returns-clause-moved : goal.returns-clause-moved
-returns-clause-moved g c =
+pub returns-clause-acts : goal.returns-clause-acts
+returns-clause-acts g c =
     let h = c.args.self.now in
     let t = g.C.Component.state h.inner in
-    let line : List LineNode = map (λ p. record { first = p.first_port; arg = p.arg; log = p.log.items }) h.past.items in
-    let seat : SeatSeen = record { slot = g.S.GateSeat.slot_of h.seat; known = g.S.GateSeat.known h.seat; told = g.S.GateSeat.tells h.seat } in
     let seat' : SeatSeen = record { slot = g.S.GateSeat.slot_of c.begin.new.seat; known = g.S.GateSeat.known c.begin.new.seat; told = g.S.GateSeat.tells c.begin.new.seat } in
     let two : c.args.ask.require < 2 = omega (arith, c.requires.fits_ask.require, two_requires t.kind) in
-    let e : Event = event.Begin (h.first_port + c.args.ask.require) c.in-Begun.serial c.args.ask.value in
-    moved_after h.slot h.first_port t h.log.items line h.known h.waiting seat h.hosted e (t) c.keep.new.log.items c.keep.new.known seat'
-    (g.G.PortGate.node c.begin.new.self c.begin.new.seat) (g.G.PortGate.state c.args.gate.now) (g.G.PortGate.state c.begin.new.self)
-    (c.begin.ensures.node ∙ c.requires.node) (g.met.G.PortGate.within c.begin.new.self c.begin.new.seat c.begin.ensures.fits).1
-    (did_by (node_of h.slot h.first_port t) (g.G.PortGate.node c.args.gate.now h.seat) seat.known seat'.known seat.told seat'.told (g.G.PortGate.state c.args.gate.now) (g.G.PortGate.state c.begin.new.self) (e ∷ []) (event.Begin (h.first_port + c.args.ask.require) c.in-Begun.serial c.args.ask.value ∷ []) c.requires.node (refl) c.in-Begun.ensures.does)
-    (idle_at h.slot h.first_port t h.log.items line h.known h.waiting seat h.hosted c.args.ask.require (slice_index_or h.known.ports c.args.ask.require port_at_start) two refl c.requires.idle) (begin_folds h.first_port c.in-Begun.serial c.args.ask t c.requires.wanted) c.keep.ensures.logged c.keep.ensures.known
+    let moved_ = moved_after h.hosted seat' (c.begin.ensures.node ∙ c.requires.can.node) (g.met.G.PortGate.within c.begin.new.self c.begin.new.seat c.begin.ensures.fits).1
+    (did_by c.requires.can.node (refl) c.in-Begun.ensures.does)
+    (idle_at h.hosted c.args.ask.require (slice_index_or h.known.ports c.args.ask.require port_at_start) two refl c.requires.idle) (begin_folds h.first_port c.in-Begun.serial c.args.ask t c.requires.wanted) c.keep.ensures.logged c.keep.ensures.known in
+    search (rules, moved_)
 
 pub returns-clause-exact : goal.returns-clause-exact
 returns-clause-exact g c =
     let h = c.args.self.now in
     let t = g.C.Component.state h.inner in
-    let seat : SeatSeen = record { slot = g.S.GateSeat.slot_of h.seat; known = g.S.GateSeat.known h.seat; told = g.S.GateSeat.tells h.seat } in
+    let seat : SeatSeen = seat_seen h in
     λ s told. begins_begun (g.G.PortGate.state c.args.gate.now) (node_of h.slot h.first_port t) seat.known s told c.args.ask t c.in-Begun.serial (g.G.PortGate.state c.begin.new.self) c.requires.wanted
-    (did_by (node_of h.slot h.first_port t) (g.G.PortGate.node c.args.gate.now h.seat) seat.known (g.S.GateSeat.known c.begin.new.seat) seat.told (g.S.GateSeat.tells c.begin.new.seat) (g.G.PortGate.state c.args.gate.now) (g.G.PortGate.state c.begin.new.self) (event.Begin (h.first_port + c.args.ask.require) c.in-Begun.serial c.args.ask.value ∷ []) (event.Begin (h.first_port + c.args.ask.require) c.in-Begun.serial c.args.ask.value ∷ []) c.requires.node (refl) c.in-Begun.ensures.does).steps
+    (did_by c.requires.can.node (refl) c.in-Begun.ensures.does).steps
 
 pub returns-clause-hint : goal.returns-clause-hint
 returns-clause-hint g c =
     let h = c.args.self.now in
-    let old : Hinted = record { waiting = h.waiting; counts = g.H.Hints.counts c.args.hints.now; told = g.H.Hints.tells c.args.hints.now } in
+    let old : Hinted = hinted g.H.Hints c.args.hints.now h in
     let new : Hinted = record { waiting = c.post.new.waiting; counts = g.H.Hints.counts c.post.new.hints; told = g.H.Hints.tells c.post.new.hints } in
     let posted : IsPosted h.first_port c.args.ask.require c.in-Begun.target old new = record {
       posted = c.post.result;

@@ -1,9 +1,6 @@
-use Rattle.std.proofs.Common.{List, ap}
-use Rattle.std.specs.Prelude.{map}
-use Rattle.node_host.specs.Hosted.{SeatSeen}
+use Rattle.std.proofs.Common.{ap}
 use Rattle.node_host.specs.Posting.{is_asking}
 use Rattle.node_host.proofs.Hinting.{without_hint}
-use Rattle.node_host.specs.Lines.{LineNode}
 use Rattle.node_host.proofs.InService.{goes_on_there}
 use Rattle.node_host.proofs.Going.{some_next}
 use Rattle.node_host.proofs.node.HostNode.go_on.Goals as goal
@@ -12,9 +9,7 @@ pub next-requires : goal.next-requires
 next-requires g c =
     let h = c.args.self.now in
     let t = g.C.Component.state h.inner in
-    let line : List LineNode = map (λ p. record { first = p.first_port; arg = p.arg; log = p.log.items }) h.past.items in
-    let seat : SeatSeen = record { slot = g.S.GateSeat.slot_of h.seat; known = g.S.GateSeat.known h.seat; told = g.S.GateSeat.tells h.seat } in
-    record { goes_on = some_next t (goes_on_there h.slot h.first_port t h.log.items line h.known h.waiting seat h.hosted c.args.served c.requires.served c.requires.heard) }
+    record { goes_on = some_next t (goes_on_there h.hosted c.args.served c.requires.served c.requires.heard) }
 
 pub returns-in-Give-clause-hint : goal.returns-in-Give-clause-hint
 returns-in-Give-clause-hint g c =
