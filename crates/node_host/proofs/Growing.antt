@@ -1,9 +1,11 @@
--- A node goes on holding with one more event of its own.
-use Rattle.std.proofs.Common.{◌≡◌, ◌∙◌, ℕ, ◌+◌, ◌<◌, true, false, List, [], ◌∷◌, ◌++◌, length, Option, Some, None, refl, sym, ap, subst, arith}
-use Rattle.std.specs.Prelude.{slice_get, slice_index_or, option_map, option_and_then}
+-- A node goes on holding with one more event of its own, or a hint that waits.
+use Rattle.std.proofs.Common.{inl, inr, Bool, cond, ◌≡◌, ◌∙◌, ℕ, ◌+◌, ◌<◌, true, false, List, [], ◌∷◌, ◌++◌, length, Option, Some, None, refl, sym, ap, subst, arith}
+use Rattle.std.specs.Prelude.{slice_get, slice_set, slice_index_or, option_map, option_and_then}
 use Rattle.std.proofs.lemmas.List.Sums.{fold_push}
-use Rattle.std.proofs.lemmas.Option.{same_Some, slice_get-get_or}
+use Rattle.std.proofs.lemmas.Option.{none-some, same_Some, slice_get-get_or}
+use Rattle.base.proofs.PlaceLaws.{slice_get-set_cases}
 use Rattle.config_graph.specs.Kinds.{row}
+use Rattle.config_graph.specs.declared.TheConstants.{MAX_NODES}
 use Rattle.config_graph.specs.declared.kind.Kind.{Kind}
 use Rattle.component_trait.specs.Fold.{after_event, fold_next}
 use Rattle.component_trait.specs.States.{Kept, NodeState, at_rest}
@@ -13,13 +15,10 @@ use Rattle.quiesce_core.specs.declared.event.Event.{Event}
 use Rattle.quiesce_core.specs.declared.known.Known.{Known}
 use Rattle.quiesce_core.specs.declared.known.PortKnown.{PortKnown}
 use Rattle.quiesce_core.proofs.KnownLaws.{as_own_port, known_after_more, port_of_log, ports_of_log}
-use Rattle.quiesce_core.specs.State.{State}
-use Rattle.port_gate.specs.Moves.{Does}
-use Rattle.port_gate.specs.Seats.{IsWithinLimits, NodeAt}
+use Rattle.port_gate.specs.Seats.{IsWithinLimits}
 use Rattle.turn_laws.specs.Agreement.{Agrees, IsInTurn, expects}
 use Rattle.turn_laws.proofs.AgreementLaws.{agrees_next}
-use Rattle.node_host.specs.Hosted.{IsHosted, SeatSeen, node_of}
-use Rattle.node_host.specs.Moved.{Moved}
+use Rattle.node_host.specs.Hosted.{IsHosted, SeatSeen}
 use Rattle.node_host.specs.Lines.{LineNode, line_node_state, line_state, opens_with}
 
 -- the line goes on with it
@@ -62,8 +61,33 @@ module _ {slot first : ℕ} {t : NodeState} {log : List Event} {line : List Line
   pub busy_at : (r : ℕ) (x : PortKnown) → r < 2 → x ≡ slice_index_or known.ports r port_at_start → x.idle ≡ false → (own_port_after (first + r) log).idle ≡ false
   busy_at r x two is busy = ap (λ (o : OwnPort). o.idle) (sym (port_there r two)) ∙ ap (λ (k : PortKnown). k.idle) (sym is) ∙ busy
 
+  pub idle_at : (r : ℕ) (x : PortKnown) → r < 2 → x ≡ slice_index_or known.ports r port_at_start → x.idle ≡ true → (own_port_after (first + r) log).idle ≡ true
+  idle_at r x two is idle = ap (λ (o : OwnPort). o.idle) (sym (port_there r two)) ∙ ap (λ (k : PortKnown). k.idle) (sym is) ∙ idle
+
+  -- a hint of it was posted, or waits
+  pub hosted_waiting : {waiting' : List (Option ℕ)} {r m : ℕ} (posted : Bool) → waiting' ≡ slice_set waiting r (cond posted None (Some m)) → r < length (row t.kind).requires_ → m < MAX_NODES
+      → IsHosted slot first t log line known waiting' seat
+  hosted_waiting {r = r} {m = m} posted is within made = record {
+    of_slot = h.of_slot;
+    limits = h.limits;
+    kept = h.kept;
+    knows = h.knows;
+    tells = h.tells;
+    folds = h.folds;
+    agrees = h.agrees;
+    waits = λ q k at.
+        elim (slice_get-set_cases waiting r (cond posted None (Some m)) q (Some k) (subst (λ xs. slice_get xs q ≡ Some (Some k)) is at)) [
+          | inl here ↦ (subst (λ i. i < length (row t.kind).requires_) (sym here.0) within, one posted k here.1)
+          | inr old ↦ h.waits q k old
+        ];
+  }
+    where
+      one : (b : Bool) (k : ℕ) → cond b None (Some m) ≡ Some k → k < MAX_NODES
+      one true k e = absurd (none-some k e)
+      one false k e = subst (λ i. i < MAX_NODES) (same_Some m k e) made
+
   -- one more event
-  hosted_next : (e : Event) (t' : NodeState) (log' : List Event) (known' : Known) (seat' : SeatSeen) → IsInTurn (λ p. own_port_after p log) e → after_event first t e ≡ Some t'
+  pub hosted_next : (e : Event) (t' : NodeState) (log' : List Event) (known' : Known) (seat' : SeatSeen) → IsInTurn (λ p. own_port_after p log) e → after_event first t e ≡ Some t'
       → log' ≡ log ++ e ∷ [] → known' ≡ known_next first known e → seat'.slot ≡ slot → seat'.known ≡ known_next first seat.known e
       → seat'.told ≡ option_map (λ es. es ++ e ∷ []) seat.told → IsHosted slot first t' log' line known' waiting seat'
   hosted_next e t' log' known' seat' in_turn after logged knows of_slot seat_knows told =
@@ -91,15 +115,3 @@ module _ {slot first : ℕ} {t : NodeState} {log : List Event} {line : List Line
       tells_next : (o : Option (List Event)) → ((es : List Event) → o ≡ Some es → es ≡ log) → (es : List Event) → option_map (λ es. es ++ e ∷ []) o ≡ Some es → es ≡ log'
       tells_next None before es is = absurd (cc)
       tells_next (Some old) before es is = sym (same_Some (old ++ e ∷ []) es is) ∙ ap (λ x. x ++ e ∷ []) (before old refl) ∙ sym logged
-
-  module _ {e : Event} {t' : NodeState} {log' : List Event} {known' : Known} (seat' : SeatSeen) {n : NodeAt} {s s' : Option State} (same : n ≡ node_of slot first t) (of_slot : n.slot ≡ seat'.slot)
-      (did : Does (node_of slot first t) (e ∷ []) seat.known seat'.known seat.told seat'.told s s') (in_turn : IsInTurn (λ p. own_port_after p log) e) (after : after_event first t e ≡ Some t')
-      (logged : log' ≡ log ++ e ∷ []) (knows : known' ≡ known_next first known e) where
-    pub hosted_after : IsHosted slot first t' log' line known' waiting seat'
-    hosted_after = hosted_next e t' log' known' seat' in_turn after logged knows (sym of_slot ∙ ap (λ (m : NodeAt). m.slot) same) did.knows did.events
-
-    pub moved_after : Moved (node_of slot first t) (Some e) t t' log log' seat seat' s s'
-    moved_after = record { logged = logged; folds = after; does = did }
-
-    pub node_after : n ≡ node_of slot first t'
-    node_after = same ∙ ap (λ k. record { slot = slot; kind = k; first = first }) (sym (fold_keeps_kind first t t' (e ∷ []) after))

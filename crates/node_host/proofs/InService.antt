@@ -1,15 +1,16 @@
 -- How far a service has come, by what its node knows and by the state that a gate tells.
 use Rattle.std.proofs.Common.{◌≡◌, ◌∙◌, ℕ, zero, suc, ◌+◌, ◌<◌, ◌≤◌, Bool, true, false, cond, List, [], ◌∷◌, length, Option, Some, None, refl, sym, ap, subst, arith, rules}
-use Rattle.std.specs.Prelude.{not, ◌==◌, ◌&&◌, ◌||◌, fold, option_and_then, slice_get, slice_index_or}
+use Rattle.std.specs.Prelude.{IsSome, not, ◌==◌, ◌&&◌, ◌||◌, fold, option_and_then, slice_get, slice_index_or}
 use Rattle.std.specs.List.{list_any}
 use Rattle.std.specs.Option.{option_map_or}
-use Rattle.std.proofs.lemmas.Bool.{both_ways, eq-eqb, eqb-true}
+use Rattle.std.proofs.lemmas.Bool.{both_ways, eq-eqb, eqb-true, or_parts}
 use Rattle.std.proofs.lemmas.Option.{same_Some, slice_get-get_or, slice_get_within}
 use Rattle.config_graph.specs.Kinds.{depends_on, row}
 use Rattle.config_graph.specs.declared.kind.Kind.{Kind}
 use Rattle.config_graph.specs.declared.kind.Kind.TheVariants.{Place, Map, Buffer, Branch}
 use Rattle.config_graph.proofs.KindLaws.{two_requires}
 use Rattle.component_trait.proofs.BoundLaws.{asks_depend}
+use Rattle.component_trait.specs.Bounds.{FitsRequest}
 use Rattle.component_trait.specs.Fold.{asked_by, calls_at, is_request_at, wants_at}
 use Rattle.component_trait.specs.Moves as moves
 use Rattle.component_trait.specs.Moves.{next_in}
@@ -109,14 +110,6 @@ two_shape [] h = absurd (omega (arith, h))
 two_shape (x ∷ []) h = absurd (omega (arith, h))
 two_shape (x ∷ y ∷ z ∷ xs) h = absurd (omega (arith, h))
 
-left_false : (a b : Bool) → (a || b) ≡ false → a ≡ false
-left_false true b h = absurd (both_ways true h refl)
-left_false false b h = refl
-
-right_false : (a b : Bool) → (a || b) ≡ false → b ≡ false
-right_false true b h = absurd (both_ways true h refl)
-right_false false b h = h
-
 not_called : (idle consequent : Bool) → (not idle && consequent) ≡ false → (idle ≡ true → consequent ≡ false) → consequent ≡ false
 not_called true c h alone = alone refl
 not_called false c h alone = h
@@ -138,9 +131,8 @@ module _ {slot first : ℕ} {t : NodeState} {log : List Event} {line : List Line
   ended_at : awaits known ≡ false → (r : ℕ) → r < 2 → (known_port r).consequent ≡ false
   ended_at still r two =
       let shape = sym (two_shape known.ports (two_known h)) ∙ still in
-      let left = left_false (called (known_port 0)) (called (known_port 1) || false) shape in
-      let right = left_false (called (known_port 1)) false (right_false (called (known_port 0)) (called (known_port 1) || false) shape) in
-      not_called (known_port r).idle (known_port r).consequent (by r two left right)
+      let parts = or_parts (called (known_port 0)) (called (known_port 1) || false) shape in
+      not_called (known_port r).idle (known_port r).consequent (by r two parts.0 (or_parts (called (known_port 1)) false parts.1).0)
       (λ i. ap (λ (o : OwnPort). o.consequent) (port_there h r two)
       ∙ alone_after (first + r) log (ap (λ (o : OwnPort). o.idle) (sym (port_there h r two)) ∙ i))
     where
@@ -157,9 +149,12 @@ module _ {slot first : ℕ} {t : NodeState} {log : List Event} {line : List Line
       ap (λ (k : PortKnown). k.consequent) (sym (same_Some (known_port r) x (sym (slice_get-get_or known.ports r port_at_start within) ∙ here))) ∙ ended_at still r two
 
   -- and the port of its next one is idle: what else is open there it wants, and who wants asks nothing
-  pub idle_to_call : (a : Request) → a.require < 2 → awaits known ≡ false → moves.next t ≡ Some (next.Ask a) → (known_port a.require).idle ≡ true
-  idle_to_call a two still asks = by (known_port a.require).idle refl
+  pub idle_to_call : (a : Request) → FitsRequest t.kind a → awaits known ≡ false → moves.next t ≡ Some (next.Ask a) → (known_port a.require).idle ≡ true
+  idle_to_call a fits still asks = by (known_port a.require).idle refl
     where
+      two : a.require < 2
+      two = omega (arith, fits.require, two_requires t.kind)
+
       by : (b : Bool) → (known_port a.require).idle ≡ b → (known_port a.require).idle ≡ true
       by true is = is
       by false busy =
@@ -203,12 +198,19 @@ module _ {slot first : ℕ} {t : NodeState} {log : List Event} {line : List Line
       by None at g = at
       by (Some w) at g = absurd (subst (λ o. ServicesAgree (λ p. own_port_after p log) o None) at g)
 
+  pub free_known : t.service ≡ None → known.service ≡ None
+  free_known free = by known.service refl (subst (λ o. ServicesAgree (λ p. own_port_after p log) o known.service) free agreeing)
+    where
+      by : (o : Option Served) → known.service ≡ o → ServicesAgree (λ p. own_port_after p log) None known.service → known.service ≡ None
+      by None is g = is
+      by (Some u) is g = absurd (subst (λ o. ServicesAgree (λ p. own_port_after p log) None o) is g)
+
   pub waits_there : (u : Served) → known.service ≡ Some u → u.heard ≡ false → moves.waits t ≡ true
   waits_there u is unheard = let i = in_service u is in ap (λ o. option_map_or (λ (w : Serving). w.waits) o false) i.is ∙ i.agree.waits ∙ ap not unheard
 
-  pub goes_on_there : (u : Served) → known.service ≡ Some u → u.heard ≡ true → (x : Next) × (moves.next t ≡ Some x)
+  -- a service that goes on does something next
+  pub goes_on_there : (u : Served) → known.service ≡ Some u → u.heard ≡ true → IsSome (moves.next t)
   goes_on_there u is heard =
-      let i = in_service u is in (
-        next_of t.kind t.arg i.held.value i.held.reply i.held.answers,
-        ap (option_and_then (next_in t)) i.is ∙ ap (λ b. cond b None (Some (next_of t.kind t.arg i.held.value i.held.reply i.held.answers))) (i.agree.waits ∙ ap not heard),
-      )
+      let i = in_service u is in
+      subst (λ (o : Option Next). IsSome o)
+      (sym (ap (option_and_then (next_in t)) i.is ∙ ap (λ b. cond b None (Some (next_of t.kind t.arg i.held.value i.held.reply i.held.answers))) (i.agree.waits ∙ ap not heard))) refl

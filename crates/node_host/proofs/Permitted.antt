@@ -18,15 +18,13 @@ use Rattle.component_trait.specs.declared.next.Next.{Next}
 use Rattle.component_trait.specs.declared.next.Next.TheVariants as next
 use Rattle.quiesce_core.specs.Knowledge.{port_at_start}
 use Rattle.quiesce_core.specs.Rules.{value_limit}
-use Rattle.quiesce_core.specs.State.{State}
 use Rattle.quiesce_core.specs.declared.event.Event.{Event}
 use Rattle.quiesce_core.specs.declared.event.Event.TheVariants.{Begin, Call, Give, Hear, Miss, More, Take}
 use Rattle.quiesce_core.specs.declared.known.Known.{Known}
 use Rattle.quiesce_core.specs.declared.known.PortKnown.{PortKnown}
 use Rattle.quiesce_core.specs.declared.known.Served.{Served}
-use Rattle.port_gate.specs.Moves.{Does}
 use Rattle.port_gate.specs.Noting.{CanCount}
-use Rattle.port_gate.specs.Seats.{IsOwn, MayBegin, MayCall, MayGive, MayHear, MaySendMore, NodeAt, has_heard, port_known, serial_served, serves}
+use Rattle.port_gate.specs.Seats.{IsOwn, MayBegin, MayCall, MayGive, MayHear, MaySendMore, has_heard, port_known, serial_served, serves}
 use Rattle.node_host.specs.Hosted.{IsHosted, SeatSeen, node_of}
 use Rattle.node_host.specs.Lines.{LineNode}
 use Rattle.node_host.specs.Awaiting.{awaits}
@@ -68,11 +66,6 @@ pub take_folds : (first p k v x : ℕ) (t t' : NodeState) → x < length (row t.
 take_folds first p k v x t t' provided free same =
     where_it_is (may_take t) (moves.after_take t v) t'
     (and_from (nat_lt 0 (length (row t.kind).provides)) (is_none t.service) (lt-ltb 0 (length (row t.kind).provides) (omega (arith, provided))) (ap is_none free)) (sym same)
-
--- ---- what a gate was asked, in the node's own terms
-
-pub did_by : {n n' : NodeAt} {w w' : Known} {told told' : Option (List Event)} {s s' : Option State} {es es' : List Event} → n' ≡ n → es' ≡ es → Does n' es' w w' told told' s s' → Does n es w w' told told' s s'
-did_by {n = n} {w = w} {w' = w'} {told = told} {told' = told'} {s = s} {s' = s'} {es' = es'} node events d = subst (λ x. Does n x w w' told told' s s') events (subst (λ m. Does m es' w w' told told' s s') node d)
 
 module _ {slot first : ℕ} {t : NodeState} {log : List Event} {line : List LineNode} {known : Known} {waiting : List (Option ℕ)} {seat : SeatSeen} (h : IsHosted slot first t log line known waiting seat) where
   own : (r : ℕ) → r < length (row t.kind).requires_ → IsOwn (node_of slot first t) (first + r)

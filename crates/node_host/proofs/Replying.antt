@@ -109,8 +109,8 @@ asked_without_reply phase.Asked h = refl
 asked_without_reply phase.Answered h = absurd (both_ways false refl h)
 asked_without_reply phase.More h = absurd (both_ways false refl h)
 
-pub not_yet : (o : Option State) (n : NodeAt) (known : Known) (t : NodeState) (p word : ℕ) (s : State) → IsTold o n known s → SeeSays o p (NotYet word) → None ≡ reply_at s t p
-not_yet o n known t p word s told says =
+pub not_yet : {o : Option State} {n : NodeAt} {known : Known} {s : State} → IsTold o n known s → (t : NodeState) (p word : ℕ) → SeeSays o p (NotYet word) → None ≡ reply_at s t p
+not_yet {s = s} told t p word says =
     let there = subst (λ x. SeeSays x p (NotYet word)) told.told says in
     let asked : is_asked (exchange s p).phase ≡ true =
     ap (λ (w : Word). is_asked w.phase) (sym (port_words_decode s told.formed p)) ∙ ap (λ i. is_asked (unpack i).phase) (sym there.there) ∙ there.cause in

@@ -11,6 +11,7 @@ ghost use Rattle.turns.specs.Turn.{begins};
 ghost use Rattle.node_host.specs.Tried.{CannotBegin, Keeps, is_begin, is_move};
 
 use crate::ending::port_known;
+use crate::events::{Message, NodeEvent};
 use crate::keeping::{keep, seats_have_places};
 use crate::node::HostNode;
 use crate::posting::post;
@@ -49,16 +50,12 @@ impl<C: Component + Drop, S: GateSeat + Drop> HostNode<C, S> {
         let BeginAnswer::Begun { serial, target } = gate.begin(&mut self.seat, port, value) else {
             return None;
         };
-        keep(
-            &mut self.log,
-            &mut self.known,
-            self.first_port,
-            Event::Begin {
-                port,
-                serial,
-                value,
-            },
-        );
+        let done = NodeEvent::Begin(Message {
+            port,
+            serial,
+            value,
+        });
+        let event = keep(&mut self.log, &mut self.known, self.first_port, done);
         post(
             &mut self.waiting,
             hints,
@@ -66,11 +63,7 @@ impl<C: Component + Drop, S: GateSeat + Drop> HostNode<C, S> {
             ask.require,
             target,
         );
-        Some(Event::Begin {
-            port,
-            serial,
-            value,
-        })
+        Some(event)
     }
 
     /// Begins this, which the component wants, where that port is idle and the gate lets it, and posts the hint.

@@ -14,7 +14,8 @@ ghost use Rattle.turn_laws.specs.Agreement.{expects};
 ghost use Rattle.turns.specs.Turn.{ends};
 ghost use Rattle.node_host.specs.Tried.{HasNoReply, HaveNoReplies, LoadsPort, Steps, is_move, is_reply_at};
 
-use crate::keeping::{keep_ask, keep_end, seats_have_places};
+use crate::events::{Message, NodeEvent};
+use crate::keeping::{keep, seats_have_places};
 use crate::node::HostNode;
 use component_trait::Component;
 use port_gate::{GateSeat, PortGate, SeeAnswer};
@@ -73,22 +74,22 @@ impl<C: Component + Drop, S: GateSeat + Drop> HostNode<C, S> {
             SeeAnswer::Answer { value } => {
                 gate.end(&mut self.seat, port);
                 hand_in(&mut self.inner, first, require, known, value);
-                keep_end(&mut self.log, &mut self.known, first, port, serial, value);
-                Some(Event::End {
+                let done = NodeEvent::End(Message {
                     port,
                     serial,
                     value,
-                })
+                });
+                Some(keep(&mut self.log, &mut self.known, first, done))
             }
             SeeAnswer::More { .. } => {
                 let value = self.inner.replies(require);
                 gate.ask(&mut self.seat, port, value);
-                keep_ask(&mut self.log, &mut self.known, first, port, serial, value);
-                Some(Event::Ask {
+                let done = NodeEvent::Ask(Message {
                     port,
                     serial,
                     value,
-                })
+                });
+                Some(keep(&mut self.log, &mut self.known, first, done))
             }
         }
     }

@@ -15,6 +15,7 @@ ghost use Rattle.turns.specs.Turn.{calls, does_next, hears, serves};
 ghost use Rattle.node_host.specs.Tried.{IsHeld, Keeps, is_move, shows_in_more};
 ghost use Rattle.port_gate.specs.Loads.{IsLed};
 
+use crate::events::{Message, NodeEvent};
 use crate::keeping::{keep, seats_have_places};
 use crate::node::HostNode;
 use crate::posting::post;
@@ -57,21 +58,12 @@ impl<C: Component + Drop, S: GateSeat + Drop> HostNode<C, S> {
             HearAnswer::NotYet { .. } => None,
             HearAnswer::Heard { value } => {
                 self.inner.heard(value);
-                keep(
-                    &mut self.log,
-                    &mut self.known,
-                    self.first_port,
-                    Event::Hear {
-                        port,
-                        serial,
-                        value,
-                    },
-                );
-                Some(Event::Hear {
+                let done = NodeEvent::Hear(Message {
                     port,
                     serial,
                     value,
-                })
+                });
+                Some(keep(&mut self.log, &mut self.known, self.first_port, done))
             }
         }
     }
@@ -101,21 +93,12 @@ impl<C: Component + Drop, S: GateSeat + Drop> HostNode<C, S> {
         let serial = served.serial;
         gate.give(&mut self.seat, port, value);
         self.inner.given();
-        keep(
-            &mut self.log,
-            &mut self.known,
-            self.first_port,
-            Event::Give {
-                port,
-                serial,
-                value,
-            },
-        );
-        Some(Event::Give {
+        let done = NodeEvent::Give(Message {
             port,
             serial,
             value,
-        })
+        });
+        Some(keep(&mut self.log, &mut self.known, self.first_port, done))
     }
 
     /// Sends the intermediate reply of the service.
@@ -143,21 +126,12 @@ impl<C: Component + Drop, S: GateSeat + Drop> HostNode<C, S> {
         let serial = served.serial;
         gate.more(&mut self.seat, port, value);
         self.inner.more_given();
-        keep(
-            &mut self.log,
-            &mut self.known,
-            self.first_port,
-            Event::More {
-                port,
-                serial,
-                value,
-            },
-        );
-        Some(Event::More {
+        let done = NodeEvent::More(Message {
             port,
             serial,
             value,
-        })
+        });
+        Some(keep(&mut self.log, &mut self.known, self.first_port, done))
     }
 
     /// Makes the call that the service asks for, and posts the hint; or misses it.
@@ -190,25 +164,16 @@ impl<C: Component + Drop, S: GateSeat + Drop> HostNode<C, S> {
         match gate.call(&mut self.seat, port, value) {
             CallAnswer::Missed { .. } => {
                 self.inner.answered(ask.require, 0);
-                keep(
-                    &mut self.log,
-                    &mut self.known,
-                    self.first_port,
-                    Event::Miss { port },
-                );
-                Some(Event::Miss { port })
+                let done = NodeEvent::Miss { port };
+                Some(keep(&mut self.log, &mut self.known, self.first_port, done))
             }
             CallAnswer::Called { serial, target } => {
-                keep(
-                    &mut self.log,
-                    &mut self.known,
-                    self.first_port,
-                    Event::Call {
-                        port,
-                        serial,
-                        value,
-                    },
-                );
+                let done = NodeEvent::Call(Message {
+                    port,
+                    serial,
+                    value,
+                });
+                let event = keep(&mut self.log, &mut self.known, self.first_port, done);
                 post(
                     &mut self.waiting,
                     hints,
@@ -216,11 +181,7 @@ impl<C: Component + Drop, S: GateSeat + Drop> HostNode<C, S> {
                     ask.require,
                     target,
                 );
-                Some(Event::Call {
-                    port,
-                    serial,
-                    value,
-                })
+                Some(event)
             }
         }
     }

@@ -11,6 +11,7 @@ ghost use Rattle.turns.specs.Turn.{takes};
 ghost use Rattle.node_host.specs.Tried.{HasNoRequest, Keeps, is_move, is_stale_for};
 ghost use Rattle.port_gate.specs.Loads.{IsLed};
 
+use crate::events::{Message, NodeEvent};
 use crate::keeping::{keep, seats_have_places};
 use crate::node::HostNode;
 use component_trait::Component;
@@ -46,28 +47,19 @@ impl<C: Component + Drop, S: GateSeat + Drop> HostNode<C, S> {
                 value,
             } => {
                 self.inner.serve(provide, value);
-                keep(
-                    &mut self.log,
-                    &mut self.known,
-                    self.first_port,
-                    Event::Take {
-                        port,
-                        serial,
-                        value,
-                    },
-                );
-                Some(Event::Take {
+                let done = NodeEvent::Take(Message {
                     port,
                     serial,
                     value,
-                })
+                });
+                Some(keep(&mut self.log, &mut self.known, self.first_port, done))
             }
         }
     }
 
     /// Takes the next hint, and the request up that waits at its port for this node. Only a node that is in no
     /// service does so.
-    #[tactic(auto, using(crate::proofs::Looking::looked))]
+    #[tactic(auto, using(crate::proofs::Asked::looked))]
     pub(crate) fn take_next<G: PortGate<Seat = S>, H: Hints>(
         &mut self,
         gate: &mut G,

@@ -1,12 +1,9 @@
 use Rattle.std.proofs.Common.{◌∙◌, sym, ap}
-use Rattle.std.specs.Prelude.{is_none, is_some, not}
+use Rattle.std.specs.Prelude.{is_some, not}
 use Rattle.std.proofs.lemmas.Bool.{both_ways}
 use Rattle.base.proofs.OptionLaws.{None-from_is_some, is_none-is_some}
-use Rattle.node_host.specs.Posting.{GateSeen, Hinted}
-use Rattle.node_host.proofs.InService.{at_rest}
-use Rattle.node_host.proofs.Still.{free_known}
+use Rattle.node_host.proofs.InService.{at_rest, free_known}
 use Rattle.node_host.proofs.Tries.{sent_unasked}
-use Rattle.node_host.specs.Acts.{gate_seen, hinted}
 use Rattle.node_host.proofs.node.HostNode.look.Goals as goal
 
 pub take_or_begin-requires-clause-free : goal.take_or_begin-requires-clause-free
@@ -20,10 +17,4 @@ returns-then-is_some-clause-looked g c =
     λ none_ free. absurd (both_ways (is_some h.known.service) (ap is_some (free_known h.hosted free)) (sym c.is_some.ensures ∙ c.if-is_some.true))
 
 pub returns-then-is_some-clause-sent : goal.returns-then-is_some-clause-sent
-returns-then-is_some-clause-sent g c =
-    let h = c.args.self.now in
-    let k = c.begin_if.new.self in
-    let seen : GateSeen = gate_seen g.G.PortGate c.args.gate.now h k in
-    let old : Hinted = hinted g.H.Hints c.args.hints.now h in
-    let new : Hinted = hinted g.H.Hints c.begin_if.new.hints k in
-    sent_unasked seen h.slot h.first_port (is_none h.known.service) c.begin_if.result old new (is_none-is_some h.known.service ∙ ap not (sym c.is_some.ensures ∙ c.if-is_some.true)) c.begin_if.ensures.hint
+returns-then-is_some-clause-sent g c = sent_unasked (is_none-is_some c.args.self.now.known.service ∙ ap not (sym c.is_some.ensures ∙ c.if-is_some.true)) c.begin_if.ensures.hint
