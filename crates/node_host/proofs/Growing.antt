@@ -1,7 +1,8 @@
--- A node goes on holding with one more event of its own, or a hint that waits.
-use Rattle.std.proofs.Common.{inl, inr, Bool, cond, ◌≡◌, ◌∙◌, ℕ, ◌+◌, ◌<◌, true, false, List, [], ◌∷◌, ◌++◌, length, Option, Some, None, refl, sym, ap, subst, arith}
+-- A node holds at first, and goes on holding with one more event of its own, or a hint that waits.
+use Rattle.std.proofs.Common.{inl, inr, Bool, cond, ◌≡◌, ◌∙◌, ℕ, ◌+◌, ◌<◌, true, false, List, [], ◌∷◌, ◌++◌, length, Option, Some, None, refl, sym, ap, subst, arith, zero, suc}
 use Rattle.std.specs.Prelude.{slice_get, slice_set, slice_index_or, option_map, option_and_then}
 use Rattle.std.proofs.lemmas.List.Sums.{fold_push}
+use Rattle.std.proofs.lemmas.Bool.{both_ways}
 use Rattle.std.proofs.lemmas.Option.{none-some, same_Some, slice_get-get_or}
 use Rattle.base.proofs.PlaceLaws.{slice_get-set_cases}
 use Rattle.config_graph.specs.Kinds.{row}
@@ -10,15 +11,15 @@ use Rattle.config_graph.specs.declared.kind.Kind.{Kind}
 use Rattle.component_trait.specs.Fold.{after_event, fold_next}
 use Rattle.component_trait.specs.States.{Kept, NodeState, at_rest}
 use Rattle.component_trait.proofs.FoldLaws.{fold_keeps_argument, fold_keeps_kind}
-use Rattle.quiesce_core.specs.Knowledge.{OwnPort, known_after, known_next, own_port_after, own_port_next, port_at_start, served_after, served_next}
+use Rattle.quiesce_core.specs.Knowledge.{OwnPort, known_after, known_next, own_port_after, own_port_next, port_at_start, served_after, served_next, nothing_known}
 use Rattle.quiesce_core.specs.declared.event.Event.{Event}
 use Rattle.quiesce_core.specs.declared.known.Known.{Known}
 use Rattle.quiesce_core.specs.declared.known.PortKnown.{PortKnown}
 use Rattle.quiesce_core.proofs.KnownLaws.{as_own_port, known_after_more, port_of_log, ports_of_log}
-use Rattle.port_gate.specs.Seats.{IsWithinLimits}
-use Rattle.turn_laws.specs.Agreement.{Agrees, IsInTurn, expects}
+use Rattle.port_gate.specs.Seats.{IsWithinLimits, NodeAt}
+use Rattle.turn_laws.specs.Agreement.{Agrees, IsInTurn, expects, ServicesAgree}
 use Rattle.turn_laws.proofs.AgreementLaws.{agrees_next}
-use Rattle.node_host.specs.Hosted.{IsHosted, SeatSeen}
+use Rattle.node_host.specs.Hosted.{IsHosted, SeatSeen, node_of}
 use Rattle.node_host.specs.Lines.{LineNode, line_node_state, line_state, opens_with}
 
 -- the line goes on with it
@@ -115,3 +116,34 @@ module _ {slot first : ℕ} {t : NodeState} {log : List Event} {line : List Line
       tells_next : (o : Option (List Event)) → ((es : List Event) → o ≡ Some es → es ≡ log) → (es : List Event) → option_map (λ es. es ++ e ∷ []) o ≡ Some es → es ≡ log'
       tells_next None before es is = absurd (cc)
       tells_next (Some old) before es is = sym (same_Some (old ++ e ∷ []) es is) ∙ ap (λ x. x ++ e ∷ []) (before old refl) ∙ sym logged
+
+-- ---- at first
+
+nothing_waits : (r m : ℕ) (t : NodeState) → slice_get (None ∷ None ∷ []) r ≡ Some (Some m) → (r < length (row t.kind).requires_) × (m < MAX_NODES)
+nothing_waits zero m t is = absurd (none-some m (same_Some None (Some m) is))
+nothing_waits (suc zero) m t is = absurd (none-some m (same_Some None (Some m) is))
+nothing_waits (suc (suc r)) m t is = absurd (none-some (Some m) is)
+
+pub hosted_at_first : (slot first : ℕ) (t : NodeState) (line : List LineNode) (known : Known) (seat : SeatSeen) → seat.slot ≡ slot → IsWithinLimits (node_of slot first t) → known ≡ nothing_known → seat.known ≡ nothing_known
+    → ((es : List Event) → seat.told ≡ Some es → es ≡ []) → t.service ≡ None → line_state t.kind None line (record { first = first; arg = t.arg; log = [] }) ≡ Some t
+    → IsHosted slot first t [] line known (None ∷ None ∷ []) seat
+hosted_at_first slot first t line known seat of_slot limits nothing seat_nothing tells rests opens = record {
+  of_slot = of_slot;
+  limits = limits;
+  kept = nothing ∙ sym seat_nothing;
+  knows = nothing;
+  tells = tells;
+  folds = opens;
+  agrees = record {
+    services = subst (λ o. ServicesAgree (λ p. own_port_after p []) o None) (sym rests) tt;
+    ports = λ p busy. absurd (both_ways true busy refl);
+  };
+  waits = λ r m is. nothing_waits r m t is;
+}
+
+-- a seat that fits is one of a slot and of ports as one run has them
+pub limits_of : (n : NodeAt) (k : ℕ) → IsWithinLimits n × (n.slot ≡ k) → IsWithinLimits n
+limits_of n k h = h.0
+
+pub slot_of : (n : NodeAt) (k : ℕ) → IsWithinLimits n × (n.slot ≡ k) → n.slot ≡ k
+slot_of n k h = h.1

@@ -8,9 +8,7 @@ mod Hinting
 mod InService
 mod Loading
 mod Moving
-mod Opening
 mod Permitted
-mod Placing
 mod Refused
 mod Replying
 mod Tries

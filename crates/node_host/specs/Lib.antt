@@ -1,4 +1,5 @@
 pub mod Acts
+pub mod Moves
 pub mod Lines
 pub mod Hosted
 pub mod HostedProps

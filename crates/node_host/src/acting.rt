@@ -2,7 +2,8 @@
 
 ghost use Rattle.std.specs.Prelude.{◌≡◌, ◌&&◌, true, false, ℕ, ◌<◌, ◌+◌, List, is_none, None, Some, if◌then◌else◌};
 ghost use Rattle.node_host.specs.Acts.{Acts, CanAct, LoadsSo, TellsState, gate_seen, hinted, node_at};
-ghost use Rattle.node_host.specs.Posting.{IsSentAfter, IsSentBy};
+ghost use Rattle.node_host.specs.Moves.{Looks};
+ghost use Rattle.node_host.specs.Posting.{IsSentBy};
 ghost use Rattle.node_host.specs.Trying.{LookedAt};
 ghost use Rattle.quiesce_core.specs.State.{State, service};
 ghost use Rattle.turns.specs.Turn.{begins, looks, move_of, or_else, serves, takes};
@@ -26,18 +27,10 @@ impl<C: Component + Drop, S: GateSeat + Drop> HostNode<C, S> {
         requires has_room { C.has_room self.old.inner }
         requires free { (C.state self.old.inner).service ≡ None }
         ensures acts { Acts G.PortGate gate.old gate.new self.old self.new result }
-        ensures looked { result ≡ None → (C.state self.old.inner).service ≡ None
-            → LookedAt (H.counts hints.old self.old.slot) (H.counts hints.new self.old.slot) }
-        ensures sent { IsSentAfter (gate_seen G.PortGate gate.old self.old self.new) self.old.slot
-            self.old.first_port true result (hinted H.Hints hints.old self.old) (hinted H.Hints hints.new self.new) }
+        ensures looks { Looks G.PortGate H.Hints true allowed gate.old self.old self.new hints.old hints.new result }
         ensures exact { (s : State) (held : List ℕ) → TellsState G.PortGate gate.old self.old s
             → H.tells hints.old self.old.slot ≡ Some held → result ≡ or_else (takes s self.old.slot held)
             (if allowed then begins s self.old.slot (C.state self.old.inner) else None) }
-        ensures passed { is_passed 2 result ≡ true }
-        ensures loads { LoadsSo (Keeps 3 self.old.first_port self.old.known) self.old self.new }
-        ensures tried { result ≡ None → allowed ≡ true → CannotBegin self.old.first_port (C.state self.old.inner)
-            self.old.known (S.loads self.old.seat) (S.loads self.new.seat) }
-        ensures no_begin { allowed ≡ false → is_begin result ≡ false }
     {
         match self.take_next(gate, hints) {
             Some(event) => Some(event),
@@ -55,20 +48,12 @@ impl<C: Component + Drop, S: GateSeat + Drop> HostNode<C, S> {
         requires can { CanAct G.PortGate gate.old self.old }
         requires has_room { C.has_room self.old.inner }
         ensures acts { Acts G.PortGate gate.old gate.new self.old self.new result }
-        ensures looked { result ≡ None → (C.state self.old.inner).service ≡ None
-            → LookedAt (H.counts hints.old self.old.slot) (H.counts hints.new self.old.slot) }
-        ensures sent { IsSentAfter (gate_seen G.PortGate gate.old self.old self.new) self.old.slot
-            self.old.first_port (is_none self.old.known.service) result
-            (hinted H.Hints hints.old self.old) (hinted H.Hints hints.new self.new) }
+        ensures looks { Looks G.PortGate H.Hints (is_none self.old.known.service) allowed gate.old self.old self.new
+            hints.old hints.new result }
         ensures exact { (s : State) (held : List ℕ) → TellsState G.PortGate gate.old self.old s
             → H.tells hints.old self.old.slot ≡ Some held
             → result ≡ or_else (if is_none (service s self.old.slot) then takes s self.old.slot held else None)
             (if allowed then begins s self.old.slot (C.state self.old.inner) else None) }
-        ensures passed { is_passed 2 result ≡ true }
-        ensures loads { LoadsSo (Keeps 3 self.old.first_port self.old.known) self.old self.new }
-        ensures tried { result ≡ None → allowed ≡ true → CannotBegin self.old.first_port (C.state self.old.inner)
-            self.old.known (S.loads self.old.seat) (S.loads self.new.seat) }
-        ensures no_begin { allowed ≡ false → is_begin result ≡ false }
     {
         if self.known.service.is_some() {
             self.begin_if(gate, hints, allowed)

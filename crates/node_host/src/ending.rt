@@ -4,15 +4,15 @@ ghost use Rattle.std.specs.Prelude.{◌≡◌, ℕ, ◌+◌, ◌<◌, true, fals
 ghost use Rattle.config_graph.specs.Kinds.{row};
 ghost use Rattle.component_trait.specs.Fold.{after_event};
 ghost use Rattle.config_graph.specs.declared.TheConstants.{VALUE_LIMIT};
-ghost use Rattle.node_host.specs.Acts.{Acts, CanAct, LoadsSo, TellsState, node_at};
+ghost use Rattle.node_host.specs.Acts.{Acts, CanAct, LoadsSo, TellsState};
+ghost use Rattle.node_host.specs.Moves.{Replies};
 ghost use Rattle.node_host.specs.Posting.{is_asking};
 ghost use Rattle.node_host.specs.Told.{reply_at};
 ghost use Rattle.quiesce_core.specs.Knowledge.{port_at_start};
 ghost use Rattle.quiesce_core.specs.State.{State};
 ghost use Rattle.quiesce_core.specs.declared.event.Event.TheVariants as event;
 ghost use Rattle.turn_laws.specs.Agreement.{expects};
-ghost use Rattle.turns.specs.Turn.{ends};
-ghost use Rattle.node_host.specs.Tried.{HasNoReply, HaveNoReplies, LoadsPort, Steps, is_move, is_reply_at};
+ghost use Rattle.node_host.specs.Tried.{HasNoReply, LoadsPort, is_reply_at};
 
 use crate::events::{Message, NodeEvent};
 use crate::keeping::{keep, seats_have_places};
@@ -127,13 +127,7 @@ impl<C: Component + Drop, S: GateSeat + Drop> HostNode<C, S> {
         ensures waiting { self.new.waiting ≡ self.old.waiting }
         ensures room { result ≡ None → (self.new.log ≡ self.old.log) × (self.new.inner ≡ self.old.inner) }
         ensures asks_nothing { is_asking result ≡ false }
-        ensures exact { (s : State) → TellsState G.PortGate gate.old self.old s
-            → result ≡ ends s self.old.slot (C.state self.old.inner) }
-        ensures known { result ≡ None → self.new.known ≡ self.old.known }
-        ensures number { is_move 1 result ≡ true }
-        ensures steps { LoadsSo Steps self.old self.new }
-        ensures tried { HaveNoReplies (node_at self.old) self.old.known result (S.loads self.old.seat)
-            (S.loads self.new.seat) }
+        ensures replies { Replies G.PortGate gate.old self.old self.new result }
     {
         match self.reply_at(gate, 0) {
             Some(event) => Some(event),
@@ -148,13 +142,7 @@ impl<C: Component + Drop, S: GateSeat + Drop> HostNode<C, S> {
         ensures waiting { self.new.waiting ≡ self.old.waiting }
         ensures room { result ≡ None → (self.new.log ≡ self.old.log) × (self.new.inner ≡ self.old.inner) }
         ensures asks_nothing { is_asking result ≡ false }
-        ensures exact { (s : State) → TellsState G.PortGate gate.old self.old s
-            → result ≡ ends s self.old.slot (C.state self.old.inner) }
-        ensures known { result ≡ None → self.new.known ≡ self.old.known }
-        ensures number { is_move 1 result ≡ true }
-        ensures steps { LoadsSo Steps self.old self.new }
-        ensures tried { HaveNoReplies (node_at self.old) self.old.known result (S.loads self.old.seat)
-            (S.loads self.new.seat) }
+        ensures replies { Replies G.PortGate gate.old self.old self.new result }
     {
         match self.inner.kind().requires_() {
             0 => None,

@@ -32,7 +32,7 @@ pub(crate) fn keep(
 }
 
 /// A seat that fits is one of a slot and of ports as one run has them.
-#[tactic(auto, using(crate::proofs::Placing::limits_of, crate::proofs::Placing::slot_of))]
+#[tactic(auto, using(crate::proofs::Growing::limits_of, crate::proofs::Growing::slot_of))]
 pub fn seats_have_places<G: PortGate>(gate: &G, seat: &G::Seat)
     requires fits { G.fits gate.now seat.now }
     ensures limits { IsWithinLimits (G.node gate.now seat.now) }

@@ -1,4 +1,4 @@
-use Rattle.std.proofs.Common.{◌∙◌, sym, ap}
+use Rattle.std.proofs.Common.{rules, ◌∙◌, sym, ap}
 use Rattle.std.specs.Prelude.{is_some, not}
 use Rattle.std.proofs.lemmas.Bool.{both_ways}
 use Rattle.base.proofs.OptionLaws.{None-from_is_some, is_none-is_some}
@@ -11,10 +11,15 @@ take_or_begin-requires-clause-free g c =
     let h = c.args.self.now in
     at_rest h.hosted (None-from_is_some h.known.service (sym c.is_some.ensures ∙ c.if-is_some.false))
 
-pub returns-then-is_some-clause-looked : goal.returns-then-is_some-clause-looked
-returns-then-is_some-clause-looked g c =
+pub returns-then-is_some-clause-looks : goal.returns-then-is_some-clause-looks
+returns-then-is_some-clause-looks g c =
     let h = c.args.self.now in
-    λ none_ free. absurd (both_ways (is_some h.known.service) (ap is_some (free_known h.hosted free)) (sym c.is_some.ensures ∙ c.if-is_some.true))
-
-pub returns-then-is_some-clause-sent : goal.returns-then-is_some-clause-sent
-returns-then-is_some-clause-sent g c = sent_unasked (is_none-is_some c.args.self.now.known.service ∙ ap not (sym c.is_some.ensures ∙ c.if-is_some.true)) c.begin_if.ensures.hint
+    let serves = sym c.is_some.ensures ∙ c.if-is_some.true in
+    record {
+      looked = λ none_ free. absurd (both_ways (is_some h.known.service) (ap is_some (free_known h.hosted free)) serves);
+      sent = sent_unasked (is_none-is_some h.known.service ∙ ap not serves) c.begin_if.ensures.hint;
+      passed = search rules;
+      loads = search rules;
+      tried = c.begin_if.ensures.tried;
+      no_begin = c.begin_if.ensures.no_begin;
+    }

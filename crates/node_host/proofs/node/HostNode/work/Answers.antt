@@ -15,17 +15,17 @@ returns-in-None-clause-sent g c =
     let h = c.args.self.now in
     let m = c.serve.new.self in
     let quiet = c.in-None.ensures.quiet refl in
-    sent_after_service (state_of h) h.hosted.kept c.look.ensures.passed (λ s told. c.in-None.ensures.exact s told)
+    sent_after_service (state_of h) h.hosted.kept c.look.ensures.looks.passed (λ s told. c.in-None.ensures.exact s told)
     (sent_then c.in-None.ensures.acts (keeps_steps 2 h.first_port h.known (g.S.GateSeat.loads h.seat) (g.S.GateSeat.loads m.seat) c.in-None.ensures.loads) c.look.new.self
-    (ap (λ x. hinted g.H.Hints x m) quiet.0 ∙ ap (λ x. record { waiting = x; counts = g.H.Hints.counts c.args.hints.now; told = g.H.Hints.tells c.args.hints.now }) quiet.1) c.look.ensures.sent)
+    (ap (λ x. hinted g.H.Hints x m) quiet.0 ∙ ap (λ x. record { waiting = x; counts = g.H.Hints.counts c.args.hints.now; told = g.H.Hints.tells c.args.hints.now }) quiet.1) c.look.ensures.looks.sent)
 
 pub returns-in-None-clause-tried : goal.returns-in-None-clause-tried
 returns-in-None-clause-tried g c =
     let h = c.args.self.now in
-    λ none_ may. cannot_then c.in-None.ensures.acts (keeps_steps 2 h.first_port h.known (g.S.GateSeat.loads h.seat) (g.S.GateSeat.loads c.serve.new.self.seat) c.in-None.ensures.loads) c.look.new.self (c.look.ensures.tried none_ may)
+    λ none_ may. cannot_then c.in-None.ensures.acts (keeps_steps 2 h.first_port h.known (g.S.GateSeat.loads h.seat) (g.S.GateSeat.loads c.serve.new.self.seat) c.in-None.ensures.loads) c.look.new.self (c.look.ensures.looks.tried none_ may)
 
 pub returns-in-None-clause-held : goal.returns-in-None-clause-held
 returns-in-None-clause-held g c =
     let h = c.args.self.now in
     let m = c.serve.new.self in
-    λ passed. held_kept m.first_port m.known h.known h.known.service (g.S.GateSeat.loads h.seat) (g.S.GateSeat.loads m.seat) (g.S.GateSeat.loads c.look.new.self.seat) c.look.ensures.loads (c.in-None.ensures.held refl)
+    λ passed. held_kept m.first_port m.known h.known h.known.service (g.S.GateSeat.loads h.seat) (g.S.GateSeat.loads m.seat) (g.S.GateSeat.loads c.look.new.self.seat) c.look.ensures.looks.loads (c.in-None.ensures.held refl)
