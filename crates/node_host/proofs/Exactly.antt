@@ -2,8 +2,8 @@
 use Rattle.std.proofs.Common.{◌≡◌, ◌∙◌, ℕ, ◌+◌, ◌<◌, Bool, true, false, cond, List, [], ◌∷◌, length, Option, Some, None, refl, sym, ap, subst, arith}
 use Rattle.std.specs.Prelude.{not, ◌==◌, ◌&&◌, ◌||◌, is_none, is_some, nat_le, option_map, slice_index_or, option_and_then}
 use Rattle.std.specs.Option.{option_map_or}
-use Rattle.std.proofs.lemmas.Bool.{and_from, and_parts, both_ways, eq-eqb, eqb-true, leb-true, ne_eqb, not-true}
-use Rattle.std.proofs.lemmas.Option.{same_Some, none-some, slice_get-get_or}
+use Rattle.std.proofs.lemmas.Bool.{and_from, and_left, and_right, and_parts, both_ways, eq-eqb, eqb-true, leb-true, ne_eqb, not-true}
+use Rattle.std.proofs.lemmas.Option.{none-some, slice_get-get_or}
 use Rattle.config_graph.specs.Kinds.{row}
 use Rattle.config_graph.specs.declared.node.Target.{Target}
 use Rattle.config_graph.proofs.KindLaws.{two_requires}
@@ -57,7 +57,7 @@ last_is s p k v h =
     let both = and_parts (k == (exchange s p).serial) (v == (exchange s p).value) h in
     (eqb-true k (exchange s p).serial both.0, eqb-true v (exchange s p).value both.1)
 
-module _ (o : Option State) (n : NodeAt) (known : Known) (s : State) (told : IsTold o n known s) where
+module _ {o : Option State} {n : NodeAt} {known : Known} {s : State} (told : IsTold o n known s) where
   first_in : (k : ℕ) (x : Option Slot) → (node_in k x).first ≡ option_map_or (λ (m : Slot). m.first_port) x 0
   first_in k None = refl
   first_in k (Some m) = refl
@@ -89,22 +89,19 @@ module _ (o : Option State) (n : NodeAt) (known : Known) (s : State) (told : IsT
   takes_nothing [] h = refl
   takes_nothing (p ∷ held) h = absurd (none-some p (sym h))
 
-  pub takes_stale : (held : List ℕ) (p word : ℕ) → front held ≡ Some p → TakeSays o n p (take.Stale word) → None ≡ takes s n.slot held
-  takes_stale [] p word h says = absurd (none-some p h)
-  takes_stale (q ∷ held) p word h says =
+  pub takes_stale : (p word : ℕ) (later : List ℕ) → TakeSays o n p (take.Stale word) → None ≡ takes s n.slot (p ∷ later)
+  takes_stale p word later says =
       let stale : is_for s n.slot p ≡ false =
       not-true (is_for s n.slot p) (word_there s told.formed p word (λ x. not (is_asked x.phase && option_map_or (λ (t : Target). t.node == n.slot) x.target false)) (subst (λ x. TakeSays x n p (take.Stale word)) told.told says)) in
-      ap (λ b. cond b (Some (Take q (exchange s q).serial (exchange s q).value)) None) (sym (ap (is_for s n.slot) (same_Some q p h) ∙ stale))
+      ap (λ b. cond b (Some (Take p (exchange s p).serial (exchange s p).value)) None) (sym stale)
 
-  pub takes_taken : (held : List ℕ) (p k v : ℕ) (t : Option State) → front held ≡ Some p → Leads n.slot o (Take p k v ∷ []) t → Some (Take p k v) ≡ takes s n.slot held
-  takes_taken [] p k v t h led = absurd (none-some p h)
-  takes_taken (q ∷ held) p k v t h led =
+  pub takes_taken : (p k v : ℕ) (later : List ℕ) (t : Option State) → Leads n.slot o (Take p k v ∷ []) t → Some (Take p k v) ≡ takes s n.slot (p ∷ later)
+  takes_taken p k v later t led =
       let l = stepped n.slot s o t (Take p k v) told.told led in
       let m = last_is s p k v l.0.message in
       let there : is_for s n.slot p ≡ true = and_from (is_asked (exchange s p).phase) (option_map_or (λ (x : Target). x.node == n.slot) (target s.config p) false) l.0.asked (doer_there (target s.config p) l.1) in
       ap (λ j. Some (Take p j v)) m.0 ∙ ap (λ u. Some (Take p (exchange s p).serial u)) m.1
       ∙ ap (λ b. cond b (Some (Take p (exchange s p).serial (exchange s p).value)) None) (sym there)
-      ∙ ap (λ i. cond (is_for s n.slot i) (Some (Take i (exchange s i).serial (exchange s i).value)) None) (sym (same_Some q p h))
     where
       doer_there : (x : Option Target) → option_map_or (λ m. m == n.slot) (option_map (λ (t : Target). t.node) x) false ≡ true → option_map_or (λ (t : Target). t.node == n.slot) x false ≡ true
       doer_there None h = h
@@ -121,24 +118,17 @@ module _ (o : Option State) (n : NodeAt) (known : Known) (s : State) (told : IsT
   pub begins_nothing : (t : NodeState) → None ≡ moves.wants t → None ≡ begins s n.slot t
   begins_nothing t h = ap (λ x. option_and_then (λ (b : Request). begins_at s (first_port s n.slot + b.require) b.value) x) h
 
-  false_left : (a b : Bool) → a ≡ false → (a && b) ≡ false
-  false_left a b h = ap (λ x. x && b) h
-
-  false_right : (a b : Bool) → b ≡ false → (a && b) ≡ false
-  false_right true b h = h
-  false_right false b h = refl
-
   pub begins_busy : (a : Request) (t : NodeState) → moves.wants t ≡ Some a → a.require < length (row n.kind).requires_ → (slice_index_or known.ports a.require port_at_start).idle ≡ false → None ≡ begins s n.slot t
   begins_busy a t wanted within busy =
       let p : ℕ = n.first + a.require in
-      begins_not p a.value (false_left (is_idle (exchange s p).phase && is_open s.config p) (not (is_missing s p)) (false_left (is_idle (exchange s p).phase) (is_open s.config p) (sym (own_known a.require within).idle ∙ busy)))
+      begins_not p a.value (and_left (is_idle (exchange s p).phase && is_open s.config p) (not (is_missing s p)) (and_left (is_idle (exchange s p).phase) (is_open s.config p) (sym (own_known a.require within).idle ∙ busy)))
       ∙ sym (begins_if a t wanted)
 
   begins_closed : (a : Request) (t : NodeState) (word : ℕ) → moves.wants t ≡ Some a → BeginSays o (n.first + a.require) (begin.Closed word) → None ≡ begins s n.slot t
   begins_closed a t word wanted says =
       let p : ℕ = n.first + a.require in
       let closed = word_there s told.formed p word (λ x. x.closed) (subst (λ x. BeginSays x p (begin.Closed word)) told.told says) in
-      begins_not p a.value (false_left (is_idle (exchange s p).phase && is_open s.config p) (not (is_missing s p)) (false_right (is_idle (exchange s p).phase) (is_open s.config p) (ap not closed)))
+      begins_not p a.value (and_left (is_idle (exchange s p).phase && is_open s.config p) (not (is_missing s p)) (and_right (is_idle (exchange s p).phase) (is_open s.config p) (ap not closed)))
       ∙ sym (begins_if a t wanted)
 
   unlinked_is_missing : (x : Option Target) (spent : Bool) → is_none x ≡ true → (not (is_some x) || spent) ≡ true
@@ -150,7 +140,7 @@ module _ (o : Option State) (n : NodeAt) (known : Known) (s : State) (told : IsT
       let p : ℕ = n.first + a.require in
       let shown = word_there s told.formed p word (λ x. not x.closed && is_none x.target) (subst (λ x. BeginSays x p (begin.Unlinked word)) told.told says) in
       let unlinked = (and_parts (not (gate s.config p).closed) (is_none (target s.config p)) shown).1 in
-      begins_not p a.value (false_right (is_idle (exchange s p).phase && is_open s.config p) (not (is_missing s p)) (ap not (unlinked_is_missing (target s.config p) ((exchange s p).serial == last_serial) unlinked)))
+      begins_not p a.value (and_right (is_idle (exchange s p).phase && is_open s.config p) (not (is_missing s p)) (ap not (unlinked_is_missing (target s.config p) ((exchange s p).serial == last_serial) unlinked)))
       ∙ sym (begins_if a t wanted)
 
   spent_is_missing : (linked spent : Bool) → spent ≡ true → (not linked || spent) ≡ true
@@ -162,7 +152,7 @@ module _ (o : Option State) (n : NodeAt) (known : Known) (s : State) (told : IsT
       let p : ℕ = n.first + a.require in
       let shown : IsSpentAt (Some s) p = (subst (λ x. BeginSays x p (begin.Spent k)) told.told says).1 in
       begins_not p a.value
-      (false_right (is_idle (exchange s p).phase && is_open s.config p) (not (is_missing s p)) (ap not (spent_is_missing (is_linked s.config p) ((exchange s p).serial == last_serial) (eq-eqb (exchange s p).serial last_serial shown.2))))
+      (and_right (is_idle (exchange s p).phase && is_open s.config p) (not (is_missing s p)) (ap not (spent_is_missing (is_linked s.config p) ((exchange s p).serial == last_serial) (eq-eqb (exchange s p).serial last_serial shown.2))))
       ∙ sym (begins_if a t wanted)
 
   begins_again : (a : Request) (t : NodeState) (i j : ℕ) → BeginSays o (n.first + a.require) (begin.Again i j) → None ≡ begins s n.slot t

@@ -1,25 +1,25 @@
--- A node goes on holding with one more event of its own.
-use Rattle.std.proofs.Common.{◌≡◌, ◌∙◌, ℕ, ◌+◌, ◌<◌, true, false, List, [], ◌∷◌, ◌++◌, length, Option, Some, None, refl, sym, ap, subst, arith}
-use Rattle.std.specs.Prelude.{slice_get, slice_index_or, option_map, option_and_then}
+-- A node holds at first, and goes on holding with one more event of its own, or a hint that waits.
+use Rattle.std.proofs.Common.{inl, inr, Bool, cond, ◌≡◌, ◌∙◌, ℕ, ◌+◌, ◌<◌, true, false, List, [], ◌∷◌, ◌++◌, length, Option, Some, None, refl, sym, ap, subst, arith, zero, suc}
+use Rattle.std.specs.Prelude.{slice_get, slice_set, slice_index_or, option_map, option_and_then}
 use Rattle.std.proofs.lemmas.List.Sums.{fold_push}
-use Rattle.std.proofs.lemmas.Option.{same_Some, slice_get-get_or}
+use Rattle.std.proofs.lemmas.Bool.{both_ways}
+use Rattle.std.proofs.lemmas.Option.{none-some, same_Some, slice_get-get_or}
+use Rattle.base.proofs.PlaceLaws.{slice_get-set_cases}
 use Rattle.config_graph.specs.Kinds.{row}
+use Rattle.config_graph.specs.declared.TheConstants.{MAX_NODES}
 use Rattle.config_graph.specs.declared.kind.Kind.{Kind}
 use Rattle.component_trait.specs.Fold.{after_event, fold_next}
 use Rattle.component_trait.specs.States.{Kept, NodeState, at_rest}
 use Rattle.component_trait.proofs.FoldLaws.{fold_keeps_argument, fold_keeps_kind}
-use Rattle.quiesce_core.specs.Knowledge.{OwnPort, known_after, known_next, own_port_after, own_port_next, port_at_start, served_after, served_next}
+use Rattle.quiesce_core.specs.Knowledge.{OwnPort, known_after, known_next, own_port_after, own_port_next, port_at_start, served_after, served_next, nothing_known}
 use Rattle.quiesce_core.specs.declared.event.Event.{Event}
 use Rattle.quiesce_core.specs.declared.known.Known.{Known}
 use Rattle.quiesce_core.specs.declared.known.PortKnown.{PortKnown}
 use Rattle.quiesce_core.proofs.KnownLaws.{as_own_port, known_after_more, port_of_log, ports_of_log}
-use Rattle.quiesce_core.specs.State.{State}
-use Rattle.port_gate.specs.Moves.{Does}
 use Rattle.port_gate.specs.Seats.{IsWithinLimits, NodeAt}
-use Rattle.turn_laws.specs.Agreement.{Agrees, IsInTurn, expects}
+use Rattle.turn_laws.specs.Agreement.{Agrees, IsInTurn, expects, ServicesAgree}
 use Rattle.turn_laws.proofs.AgreementLaws.{agrees_next}
 use Rattle.node_host.specs.Hosted.{IsHosted, SeatSeen, node_of}
-use Rattle.node_host.specs.Moved.{Moved}
 use Rattle.node_host.specs.Lines.{LineNode, line_node_state, line_state, opens_with}
 
 -- the line goes on with it
@@ -39,7 +39,7 @@ line_next k before (m ∷ ms) first a log e = by (line_node_state k before m) (�
     by None rest = refl
     by (Some s) rest = rest s
 
-module _ (slot first : ℕ) (t : NodeState) (log : List Event) (line : List LineNode) (known : Known) (waiting : List (Option ℕ)) (seat : SeatSeen) (h : IsHosted slot first t log line known waiting seat) where
+module _ {slot first : ℕ} {t : NodeState} {log : List Event} {line : List LineNode} {known : Known} {waiting : List (Option ℕ)} {seat : SeatSeen} (h : IsHosted slot first t log line known waiting seat) where
   pub two_known : length known.ports ≡ 2
   two_known = ap (λ (w : Known). length w.ports) h.knows ∙ ports_of_log first log
 
@@ -62,8 +62,33 @@ module _ (slot first : ℕ) (t : NodeState) (log : List Event) (line : List Line
   pub busy_at : (r : ℕ) (x : PortKnown) → r < 2 → x ≡ slice_index_or known.ports r port_at_start → x.idle ≡ false → (own_port_after (first + r) log).idle ≡ false
   busy_at r x two is busy = ap (λ (o : OwnPort). o.idle) (sym (port_there r two)) ∙ ap (λ (k : PortKnown). k.idle) (sym is) ∙ busy
 
+  pub idle_at : (r : ℕ) (x : PortKnown) → r < 2 → x ≡ slice_index_or known.ports r port_at_start → x.idle ≡ true → (own_port_after (first + r) log).idle ≡ true
+  idle_at r x two is idle = ap (λ (o : OwnPort). o.idle) (sym (port_there r two)) ∙ ap (λ (k : PortKnown). k.idle) (sym is) ∙ idle
+
+  -- a hint of it was posted, or waits
+  pub hosted_waiting : {waiting' : List (Option ℕ)} {r m : ℕ} (posted : Bool) → waiting' ≡ slice_set waiting r (cond posted None (Some m)) → r < length (row t.kind).requires_ → m < MAX_NODES
+      → IsHosted slot first t log line known waiting' seat
+  hosted_waiting {r = r} {m = m} posted is within made = record {
+    of_slot = h.of_slot;
+    limits = h.limits;
+    kept = h.kept;
+    knows = h.knows;
+    tells = h.tells;
+    folds = h.folds;
+    agrees = h.agrees;
+    waits = λ q k at.
+        elim (slice_get-set_cases waiting r (cond posted None (Some m)) q (Some k) (subst (λ xs. slice_get xs q ≡ Some (Some k)) is at)) [
+          | inl here ↦ (subst (λ i. i < length (row t.kind).requires_) (sym here.0) within, one posted k here.1)
+          | inr old ↦ h.waits q k old
+        ];
+  }
+    where
+      one : (b : Bool) (k : ℕ) → cond b None (Some m) ≡ Some k → k < MAX_NODES
+      one true k e = absurd (none-some k e)
+      one false k e = subst (λ i. i < MAX_NODES) (same_Some m k e) made
+
   -- one more event
-  hosted_next : (e : Event) (t' : NodeState) (log' : List Event) (known' : Known) (seat' : SeatSeen) → IsInTurn (λ p. own_port_after p log) e → after_event first t e ≡ Some t'
+  pub hosted_next : (e : Event) (t' : NodeState) (log' : List Event) (known' : Known) (seat' : SeatSeen) → IsInTurn (λ p. own_port_after p log) e → after_event first t e ≡ Some t'
       → log' ≡ log ++ e ∷ [] → known' ≡ known_next first known e → seat'.slot ≡ slot → seat'.known ≡ known_next first seat.known e
       → seat'.told ≡ option_map (λ es. es ++ e ∷ []) seat.told → IsHosted slot first t' log' line known' waiting seat'
   hosted_next e t' log' known' seat' in_turn after logged knows of_slot seat_knows told =
@@ -92,14 +117,33 @@ module _ (slot first : ℕ) (t : NodeState) (log : List Event) (line : List Line
       tells_next None before es is = absurd (cc)
       tells_next (Some old) before es is = sym (same_Some (old ++ e ∷ []) es is) ∙ ap (λ x. x ++ e ∷ []) (before old refl) ∙ sym logged
 
-  module _ (e : Event) (t' : NodeState) (log' : List Event) (known' : Known) (seat' : SeatSeen) (n : NodeAt) (s s' : Option State) (same : n ≡ node_of slot first t) (of_slot : n.slot ≡ seat'.slot)
-      (did : Does (node_of slot first t) (e ∷ []) seat.known seat'.known seat.told seat'.told s s') (in_turn : IsInTurn (λ p. own_port_after p log) e) (after : after_event first t e ≡ Some t')
-      (logged : log' ≡ log ++ e ∷ []) (knows : known' ≡ known_next first known e) where
-    pub hosted_after : IsHosted slot first t' log' line known' waiting seat'
-    hosted_after = hosted_next e t' log' known' seat' in_turn after logged knows (sym of_slot ∙ ap (λ (m : NodeAt). m.slot) same) did.knows did.events
+-- ---- at first
 
-    pub moved_after : Moved (node_of slot first t) (Some e) t t' log log' seat seat' s s'
-    moved_after = record { logged = logged; folds = after; does = did }
+nothing_waits : (r m : ℕ) (t : NodeState) → slice_get (None ∷ None ∷ []) r ≡ Some (Some m) → (r < length (row t.kind).requires_) × (m < MAX_NODES)
+nothing_waits zero m t is = absurd (none-some m (same_Some None (Some m) is))
+nothing_waits (suc zero) m t is = absurd (none-some m (same_Some None (Some m) is))
+nothing_waits (suc (suc r)) m t is = absurd (none-some (Some m) is)
 
-    pub node_after : n ≡ node_of slot first t'
-    node_after = same ∙ ap (λ k. record { slot = slot; kind = k; first = first }) (sym (fold_keeps_kind first t t' (e ∷ []) after))
+pub hosted_at_first : (slot first : ℕ) (t : NodeState) (line : List LineNode) (known : Known) (seat : SeatSeen) → seat.slot ≡ slot → IsWithinLimits (node_of slot first t) → known ≡ nothing_known → seat.known ≡ nothing_known
+    → ((es : List Event) → seat.told ≡ Some es → es ≡ []) → t.service ≡ None → line_state t.kind None line (record { first = first; arg = t.arg; log = [] }) ≡ Some t
+    → IsHosted slot first t [] line known (None ∷ None ∷ []) seat
+hosted_at_first slot first t line known seat of_slot limits nothing seat_nothing tells rests opens = record {
+  of_slot = of_slot;
+  limits = limits;
+  kept = nothing ∙ sym seat_nothing;
+  knows = nothing;
+  tells = tells;
+  folds = opens;
+  agrees = record {
+    services = subst (λ o. ServicesAgree (λ p. own_port_after p []) o None) (sym rests) tt;
+    ports = λ p busy. absurd (both_ways true busy refl);
+  };
+  waits = λ r m is. nothing_waits r m t is;
+}
+
+-- a seat that fits is one of a slot and of ports as one run has them
+pub limits_of : (n : NodeAt) (k : ℕ) → IsWithinLimits n × (n.slot ≡ k) → IsWithinLimits n
+limits_of n k h = h.0
+
+pub slot_of : (n : NodeAt) (k : ℕ) → IsWithinLimits n × (n.slot ≡ k) → n.slot ≡ k
+slot_of n k h = h.1

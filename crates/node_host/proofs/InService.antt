@@ -1,15 +1,16 @@
 -- How far a service has come, by what its node knows and by the state that a gate tells.
 use Rattle.std.proofs.Common.{◌≡◌, ◌∙◌, ℕ, zero, suc, ◌+◌, ◌<◌, ◌≤◌, Bool, true, false, cond, List, [], ◌∷◌, length, Option, Some, None, refl, sym, ap, subst, arith, rules}
-use Rattle.std.specs.Prelude.{not, ◌==◌, ◌&&◌, ◌||◌, fold, option_and_then, slice_get, slice_index_or}
+use Rattle.std.specs.Prelude.{IsSome, not, ◌==◌, ◌&&◌, ◌||◌, fold, option_and_then, slice_get, slice_index_or}
 use Rattle.std.specs.List.{list_any}
 use Rattle.std.specs.Option.{option_map_or}
-use Rattle.std.proofs.lemmas.Bool.{both_ways, eq-eqb, eqb-true}
+use Rattle.std.proofs.lemmas.Bool.{both_ways, eq-eqb, eqb-true, or_parts}
 use Rattle.std.proofs.lemmas.Option.{same_Some, slice_get-get_or, slice_get_within}
 use Rattle.config_graph.specs.Kinds.{depends_on, row}
 use Rattle.config_graph.specs.declared.kind.Kind.{Kind}
 use Rattle.config_graph.specs.declared.kind.Kind.TheVariants.{Place, Map, Buffer, Branch}
 use Rattle.config_graph.proofs.KindLaws.{two_requires}
 use Rattle.component_trait.proofs.BoundLaws.{asks_depend}
+use Rattle.component_trait.specs.Bounds.{FitsRequest}
 use Rattle.component_trait.specs.Fold.{asked_by, calls_at, is_request_at, wants_at}
 use Rattle.component_trait.specs.Moves as moves
 use Rattle.component_trait.specs.Moves.{next_in}
@@ -109,19 +110,11 @@ two_shape [] h = absurd (omega (arith, h))
 two_shape (x ∷ []) h = absurd (omega (arith, h))
 two_shape (x ∷ y ∷ z ∷ xs) h = absurd (omega (arith, h))
 
-left_false : (a b : Bool) → (a || b) ≡ false → a ≡ false
-left_false true b h = absurd (both_ways true h refl)
-left_false false b h = refl
-
-right_false : (a b : Bool) → (a || b) ≡ false → b ≡ false
-right_false true b h = absurd (both_ways true h refl)
-right_false false b h = h
-
 not_called : (idle consequent : Bool) → (not idle && consequent) ≡ false → (idle ≡ true → consequent ≡ false) → consequent ≡ false
 not_called true c h alone = alone refl
 not_called false c h alone = h
 
-module _ (slot first : ℕ) (t : NodeState) (log : List Event) (line : List LineNode) (known : Known) (waiting : List (Option ℕ)) (seat : SeatSeen) (h : IsHosted slot first t log line known waiting seat) where
+module _ {slot first : ℕ} {t : NodeState} {log : List Event} {line : List LineNode} {known : Known} {waiting : List (Option ℕ)} {seat : SeatSeen} (h : IsHosted slot first t log line known waiting seat) where
   abbrev known_port : (r : ℕ) → PortKnown
   known_port r = slice_index_or known.ports r port_at_start
 
@@ -131,18 +124,17 @@ module _ (slot first : ℕ) (t : NodeState) (log : List Event) (line : List Line
       by : (b : Bool) → (known_port r).idle ≡ b → called (known_port r) ≡ false
       by true idle = ap (λ b. not b && (known_port r).consequent) idle
       by false busy =
-          let own = expected_is_own (known_port r).consequent first (first + r) t (expected_at slot first t log line known waiting seat h r (known_port r) two refl busy) in
+          let own = expected_is_own (known_port r).consequent first (first + r) t (expected_at h r (known_port r) two refl busy) in
           absurd (omega (arith, past, own.1, own.2))
 
   -- where it awaits no call, each call has ended
   ended_at : awaits known ≡ false → (r : ℕ) → r < 2 → (known_port r).consequent ≡ false
   ended_at still r two =
-      let shape = sym (two_shape known.ports (two_known slot first t log line known waiting seat h)) ∙ still in
-      let left = left_false (called (known_port 0)) (called (known_port 1) || false) shape in
-      let right = left_false (called (known_port 1)) false (right_false (called (known_port 0)) (called (known_port 1) || false) shape) in
-      not_called (known_port r).idle (known_port r).consequent (by r two left right)
-      (λ i. ap (λ (o : OwnPort). o.consequent) (port_there slot first t log line known waiting seat h r two)
-      ∙ alone_after (first + r) log (ap (λ (o : OwnPort). o.idle) (sym (port_there slot first t log line known waiting seat h r two)) ∙ i))
+      let shape = sym (two_shape known.ports (two_known h)) ∙ still in
+      let parts = or_parts (called (known_port 0)) (called (known_port 1) || false) shape in
+      not_called (known_port r).idle (known_port r).consequent (by r two parts.0 (or_parts (called (known_port 1)) false parts.1).0)
+      (λ i. ap (λ (o : OwnPort). o.consequent) (port_there h r two)
+      ∙ alone_after (first + r) log (ap (λ (o : OwnPort). o.idle) (sym (port_there h r two)) ∙ i))
     where
       by : (r : ℕ) → r < 2 → called (known_port 0) ≡ false → called (known_port 1) ≡ false → called (known_port r) ≡ false
       by zero two left right = left
@@ -153,19 +145,22 @@ module _ (slot first : ℕ) (t : NodeState) (log : List Event) (line : List Line
   calls_ended still r x at =
       let here : slice_get known.ports r ≡ Some x = subst (λ (w : Known). slice_get w.ports r ≡ Some x) (sym h.kept) at in
       let within = slice_get_within known.ports r x here in
-      let two : r < 2 = omega (arith, within, two_known slot first t log line known waiting seat h) in
+      let two : r < 2 = omega (arith, within, two_known h) in
       ap (λ (k : PortKnown). k.consequent) (sym (same_Some (known_port r) x (sym (slice_get-get_or known.ports r port_at_start within) ∙ here))) ∙ ended_at still r two
 
   -- and the port of its next one is idle: what else is open there it wants, and who wants asks nothing
-  pub idle_to_call : (a : Request) → a.require < 2 → awaits known ≡ false → moves.next t ≡ Some (next.Ask a) → (known_port a.require).idle ≡ true
-  idle_to_call a two still asks = by (known_port a.require).idle refl
+  pub idle_to_call : (a : Request) → FitsRequest t.kind a → awaits known ≡ false → moves.next t ≡ Some (next.Ask a) → (known_port a.require).idle ≡ true
+  idle_to_call a fits still asks = by (known_port a.require).idle refl
     where
+      two : a.require < 2
+      two = omega (arith, fits.require, two_requires t.kind)
+
       by : (b : Bool) → (known_port a.require).idle ≡ b → (known_port a.require).idle ≡ true
       by true is = is
       by false busy =
           let p : ℕ = first + a.require in
           let wanted : wants_at first t p ≡ true =
-          subst (λ b. expects b first t p ≡ true) (ended_at still a.require two) (expected_at slot first t log line known waiting seat h a.require (known_port a.require) two refl busy) in
+          subst (λ b. expects b first t p ≡ true) (ended_at still a.require two) (expected_at h a.require (known_port a.require) two refl busy) in
           absurd (both_ways (calls_at first t p) (who_wants_asks_nothing first p p t wanted) (ap (λ o. is_request_at first p (asked_by o)) asks ∙ eq-eqb p p refl))
 
   -- and in the log as a function of ports
@@ -177,7 +172,7 @@ module _ (slot first : ℕ) (t : NodeState) (log : List Event) (line : List Line
       by true is =
           let own = expected_is_own (own_port_after p log).consequent first p t (h.agrees.ports p busy) in
           let two : own.0 < 2 = omega (arith, own.1, two_requires t.kind) in
-          ap (λ i. (own_port_after i log).consequent) (sym own.2) ∙ ap (λ (o : OwnPort). o.consequent) (sym (port_there slot first t log line known waiting seat h own.0 two)) ∙ ended_at still own.0 two
+          ap (λ i. (own_port_after i log).consequent) (sym own.2) ∙ ap (λ (o : OwnPort). o.consequent) (sym (port_there h own.0 two)) ∙ ended_at still own.0 two
 
   -- ---- the service, as the component has it and as the node knows it
 
@@ -203,12 +198,19 @@ module _ (slot first : ℕ) (t : NodeState) (log : List Event) (line : List Line
       by None at g = at
       by (Some w) at g = absurd (subst (λ o. ServicesAgree (λ p. own_port_after p log) o None) at g)
 
+  pub free_known : t.service ≡ None → known.service ≡ None
+  free_known free = by known.service refl (subst (λ o. ServicesAgree (λ p. own_port_after p log) o known.service) free agreeing)
+    where
+      by : (o : Option Served) → known.service ≡ o → ServicesAgree (λ p. own_port_after p log) None known.service → known.service ≡ None
+      by None is g = is
+      by (Some u) is g = absurd (subst (λ o. ServicesAgree (λ p. own_port_after p log) None o) is g)
+
   pub waits_there : (u : Served) → known.service ≡ Some u → u.heard ≡ false → moves.waits t ≡ true
   waits_there u is unheard = let i = in_service u is in ap (λ o. option_map_or (λ (w : Serving). w.waits) o false) i.is ∙ i.agree.waits ∙ ap not unheard
 
-  pub goes_on_there : (u : Served) → known.service ≡ Some u → u.heard ≡ true → (x : Next) × (moves.next t ≡ Some x)
+  -- a service that goes on does something next
+  pub goes_on_there : (u : Served) → known.service ≡ Some u → u.heard ≡ true → IsSome (moves.next t)
   goes_on_there u is heard =
-      let i = in_service u is in (
-        next_of t.kind t.arg i.held.value i.held.reply i.held.answers,
-        ap (option_and_then (next_in t)) i.is ∙ ap (λ b. cond b None (Some (next_of t.kind t.arg i.held.value i.held.reply i.held.answers))) (i.agree.waits ∙ ap not heard),
-      )
+      let i = in_service u is in
+      subst (λ (o : Option Next). IsSome o)
+      (sym (ap (option_and_then (next_in t)) i.is ∙ ap (λ b. cond b None (Some (next_of t.kind t.arg i.held.value i.held.reply i.held.answers))) (i.agree.waits ∙ ap not heard))) refl

@@ -1,9 +1,9 @@
 -- The rule of moves, port by port and move by move, in a state that a gate tells.
 use Rattle.std.proofs.Common.{zero, suc, ◌≡◌, ◌∙◌, ℕ, ◌+◌, ◌<◌, ◌≤◌, Bool, true, false, cond, List, [], ◌∷◌, length, Option, Some, None, refl, sym, ap, subst, arith}
-use Rattle.std.specs.Prelude.{not, ◌&&◌, ◌||◌, find, is_none, option_map, option_and_then, slice_index_or}
+use Rattle.std.specs.Prelude.{not, ◌&&◌, ◌||◌, find, option_map, option_and_then, slice_index_or}
 use Rattle.std.specs.List.{list_any, range_with_len}
 use Rattle.std.specs.Option.{option_map_or}
-use Rattle.std.proofs.lemmas.Bool.{both_ways}
+use Rattle.std.proofs.lemmas.Bool.{both_ways, or_from}
 use Rattle.std.proofs.lemmas.Option.{none-some, same_Some}
 use Rattle.config_graph.specs.Kinds.{row}
 use Rattle.config_graph.proofs.KindLaws.{two_requires}
@@ -53,7 +53,7 @@ else_none : (x : Option Event) → or_else x None ≡ x
 else_none None = refl
 else_none (Some e) = refl
 
-module _ (o : Option State) (n : NodeAt) (known : Known) (s : State) (told : IsTold o n known s) where
+module _ {o : Option State} {n : NodeAt} {known : Known} {s : State} (told : IsTold o n known s) where
   ports_are : ports_of s.config n.slot ≡ range_with_len n.first (length (row n.kind).requires_)
   ports_are = by (slot s.config n.slot) told.fits.live told.node
     where
@@ -65,14 +65,11 @@ module _ (o : Option State) (n : NodeAt) (known : Known) (s : State) (told : IsT
   ends_in : (t : NodeState) (k : ℕ) → length (row n.kind).requires_ ≡ k → ends s n.slot t ≡ option_map (reply_to s t) (find (has_reply s) (range_with_len n.first k))
   ends_in t k is = ap (λ ps. option_map (reply_to s t) (find (has_reply s) ps)) (ports_are ∙ ap (range_with_len n.first) is)
 
-  pub ends_nowhere : (t : NodeState) → length (row n.kind).requires_ ≡ 0 → None ≡ ends s n.slot t
-  ends_nowhere t is = sym (ends_in t 0 is)
-
   at_first : (t : NodeState) → reply_at s t (n.first + 0) ≡ reply_at s t n.first
   at_first t = let at : n.first + 0 ≡ n.first = omega arith in ap (reply_at s t) at
 
-  pub ends_at_one : (t : NodeState) (r : Option Event) → length (row n.kind).requires_ ≡ 1 → r ≡ reply_at s t (n.first + 0) → r ≡ ends s n.slot t
-  ends_at_one t r is h = h ∙ at_first t ∙ sym (else_none (reply_at s t n.first)) ∙ sym (found s t n.first []) ∙ sym (ends_in t 1 is)
+  pub ends_at_one : (t : NodeState) {r : Option Event} → length (row n.kind).requires_ ≡ 1 → r ≡ reply_at s t (n.first + 0) → r ≡ ends s n.slot t
+  ends_at_one t {r = r} is h = h ∙ at_first t ∙ sym (else_none (reply_at s t n.first)) ∙ sym (found s t n.first []) ∙ sym (ends_in t 1 is)
 
   ends_at_two : (t : NodeState) → length (row n.kind).requires_ ≡ 2 → ends s n.slot t ≡ or_else (reply_at s t (n.first + 0)) (reply_at s t (n.first + 1))
   ends_at_two t is =
@@ -80,24 +77,17 @@ module _ (o : Option State) (n : NodeAt) (known : Known) (s : State) (told : IsT
       ∙ ap (or_else (reply_at s t n.first)) (found s t (n.first + 1) [] ∙ else_none (reply_at s t (n.first + 1)))
       ∙ ap (λ x. or_else x (reply_at s t (n.first + 1))) (sym (at_first t))
 
-  pub ends_at_left : (t : NodeState) (e : Event) → length (row n.kind).requires_ ≡ 2 → Some e ≡ reply_at s t (n.first + 0) → Some e ≡ ends s n.slot t
-  ends_at_left t e is h = first_one (reply_at s t (n.first + 0)) (reply_at s t (n.first + 1)) (ends s n.slot t) e h (ends_at_two t is)
+  pub ends_at_left : (t : NodeState) {e : Event} → length (row n.kind).requires_ ≡ 2 → Some e ≡ reply_at s t (n.first + 0) → Some e ≡ ends s n.slot t
+  ends_at_left t {e = e} is h = first_one (reply_at s t (n.first + 0)) (reply_at s t (n.first + 1)) (ends s n.slot t) e h (ends_at_two t is)
 
-  pub ends_at_right : (t : NodeState) (r : Option Event) → length (row n.kind).requires_ ≡ 2 → None ≡ reply_at s t (n.first + 0) → r ≡ reply_at s t (n.first + 1) → r ≡ ends s n.slot t
-  ends_at_right t r is none_ h = later_one (reply_at s t (n.first + 0)) (reply_at s t (n.first + 1)) (ends s n.slot t) r none_ h (ends_at_two t is)
+  pub ends_at_right : (t : NodeState) {r : Option Event} → length (row n.kind).requires_ ≡ 2 → None ≡ reply_at s t (n.first + 0) → r ≡ reply_at s t (n.first + 1) → r ≡ ends s n.slot t
+  ends_at_right t {r = r} is none_ h = later_one (reply_at s t (n.first + 0)) (reply_at s t (n.first + 1)) (ends s n.slot t) r none_ h (ends_at_two t is)
 
-  pub takes_front : (held : List ℕ) (p : ℕ) (r : Option Event) → Some p ≡ front held → ((later : List ℕ) → r ≡ takes s n.slot (p ∷ later)) → r ≡ takes s n.slot held
-  takes_front [] p r is h = absurd (none-some p (sym is))
-  takes_front (q ∷ later) p r is h = h later ∙ ap (λ i. takes s n.slot (i ∷ later)) (same_Some p q is)
+  pub takes_front : (held : List ℕ) {p : ℕ} {r : Option Event} → Some p ≡ front held → ((later : List ℕ) → r ≡ takes s n.slot (p ∷ later)) → r ≡ takes s n.slot held
+  takes_front [] {p = p} is h = absurd (none-some p (sym is))
+  takes_front (q ∷ later) {p = p} is h = h later ∙ ap (λ i. takes s n.slot (i ∷ later)) (same_Some p q is)
 
   -- ---- services
-  pub no_service : known.service ≡ None → service s n.slot ≡ None
-  no_service is = by (service s n.slot) (subst (λ u. KnowsService s (service s n.slot) u) is told.fits.known.service)
-    where
-      by : (v : Option Service) → KnowsService s v None → v ≡ None
-      by None h = refl
-      by (Some v) h = absurd h
-
   record ServesAs (u : Served) : Type 0 where
     held : Service
     is : service s n.slot ≡ Some held
@@ -110,21 +100,15 @@ module _ (o : Option State) (n : NodeAt) (known : Known) (s : State) (told : IsT
       by None at h = absurd (subst (λ x. KnowsService s x (Some u)) at h)
       by (Some v) at h = record { held = v; is = at; same = subst (λ x. KnowsService s x (Some u)) at h }
 
-  pub in_some_service : (u : Served) → known.service ≡ Some u → is_none (service s n.slot) ≡ false
-  in_some_service u is = ap is_none (serving_as u is).is
-
   is_call_at : (r : ℕ) → r < length (row n.kind).requires_ → called (slice_index_or known.ports r port_at_start) ≡ is_call s (n.first + r)
   is_call_at r within =
-      let k = own_known o n known s told r within in
+      let k = own_known told r within in
       ap (λ b. not b && (slice_index_or known.ports r port_at_start).consequent) k.idle ∙ ap (λ b. not (is_idle (exchange s (n.first + r)).phase) && b) k.consequent
 
-module _ (slot first : ℕ) (t : NodeState) (log : List Event) (line : List LineNode) (known : Known) (waiting : List (Option ℕ)) (seat : SeatSeen) (h : IsHosted slot first t log line known waiting seat)
-    (o : Option State) (s : State) (tells : IsTold o (node_of slot first t) seat.known s) where
+module _ {slot first : ℕ} {t : NodeState} {log : List Event} {line : List LineNode} {known : Known} {waiting : List (Option ℕ)} {seat : SeatSeen} (h : IsHosted slot first t log line known waiting seat)
+    {o : Option State} {s : State} (tells : IsTold o (node_of slot first t) seat.known s) where
   told_here : IsTold o (node_of slot first t) known s
   told_here = subst (λ w. IsTold o (node_of slot first t) w s) (sym h.kept) tells
-
-  nothing_after : (a b : Bool) → a ≡ false → b ≡ false → (a || (b || false)) ≡ false
-  nothing_after a b x y = ap (λ c. c || (b || false)) x ∙ ap (λ c. c || false) y
 
   abbrev at : ℕ → Bool
   at r = called (slice_index_or known.ports r port_at_start)
@@ -132,20 +116,20 @@ module _ (slot first : ℕ) (t : NodeState) (log : List Event) (line : List Line
   -- whether it awaits a call is so
   pub awaits_there : awaits known ≡ awaits_call s slot
   awaits_there =
-      two_shape known.ports (two_known slot first t log line known waiting seat h) ∙ by (length (row t.kind).requires_) refl
-      ∙ sym (ap (list_any (is_call s)) (ports_are o (node_of slot first t) known s told_here))
+      two_shape known.ports (two_known h) ∙ by (length (row t.kind).requires_) refl
+      ∙ sym (ap (list_any (is_call s)) (ports_are told_here))
     where
       zero_is : first + 0 ≡ first
       zero_is = omega arith
 
       own : (r : ℕ) → r < length (row t.kind).requires_ → at r ≡ is_call s (first + r)
-      own r within = is_call_at o (node_of slot first t) known s told_here r within
+      own r within = is_call_at told_here r within
 
       past : (r : ℕ) → r < 2 → length (row t.kind).requires_ ≤ r → at r ≡ false
-      past r two none_ = unowned slot first t log line known waiting seat h r two none_
+      past r two none_ = unowned h r two none_
 
       by : (k : ℕ) → length (row t.kind).requires_ ≡ k → (at 0 || (at 1 || false)) ≡ list_any (is_call s) (range_with_len first (length (row t.kind).requires_))
-      by zero is = nothing_after (at 0) (at 1) (past 0 (omega arith) (omega (arith, is))) (past 1 (omega arith) (omega (arith, is))) ∙ ap (λ j. list_any (is_call s) (range_with_len first j)) (sym is)
+      by zero is = or_from (at 0) (at 1 || false) (past 0 (omega arith) (omega (arith, is))) (or_from (at 1) false (past 1 (omega arith) (omega (arith, is))) refl) ∙ ap (λ j. list_any (is_call s) (range_with_len first j)) (sym is)
       by (suc zero) is =
           ap (λ b. b || (at 1 || false)) (own 0 (omega (arith, is)) ∙ ap (is_call s) zero_is) ∙ ap (λ b. is_call s first || (b || false)) (past 1 (omega arith) (omega (arith, is)))
           ∙ ap (λ j. list_any (is_call s) (range_with_len first j)) (sym is)
@@ -160,12 +144,9 @@ module _ (slot first : ℕ) (t : NodeState) (log : List Event) (line : List Line
   goes_by : awaits known ≡ false → serves s slot t ≡ option_and_then (goes_on s slot t) (service s slot)
   goes_by still = ap (λ b. cond b None (option_and_then (goes_on s slot t) (service s slot))) (sym awaits_there ∙ still)
 
-  pub serves_nothing : awaits known ≡ false → known.service ≡ None → None ≡ serves s slot t
-  serves_nothing still is = sym (goes_by still ∙ ap (option_and_then (goes_on s slot t)) (no_service o (node_of slot first t) known s told_here is))
-
   module _ (still : awaits known ≡ false) (u : Served) (is : known.service ≡ Some u) where
-    as_served : ServesAs o (node_of slot first t) known s told_here u
-    as_served = serving_as o (node_of slot first t) known s told_here u is
+    as_served : ServesAs told_here u
+    as_served = serving_as told_here u is
 
     goes : serves s slot t ≡ goes_on s slot t as_served.held
     goes = goes_by still ∙ ap (option_and_then (goes_on s slot t)) as_served.is
@@ -179,4 +160,4 @@ module _ (slot first : ℕ) (t : NodeState) (log : List Event) (line : List Line
     serves_next heard =
         goes ∙ ap (λ b. cond b (option_and_then (does_next s (first_port s slot) as_served.held.port) (moves.next t)) (hears s as_served.held.port)) (sym as_served.same.heard ∙ heard)
         ∙ ap (λ p. option_and_then (does_next s (first_port s slot) p) (moves.next t)) (sym as_served.same.port)
-        ∙ ap (λ f. option_and_then (does_next s f u.port) (moves.next t)) (first_is o (node_of slot first t) known s told_here)
+        ∙ ap (λ f. option_and_then (does_next s f u.port) (moves.next t)) (first_is told_here)

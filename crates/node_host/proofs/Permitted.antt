@@ -18,15 +18,13 @@ use Rattle.component_trait.specs.declared.next.Next.{Next}
 use Rattle.component_trait.specs.declared.next.Next.TheVariants as next
 use Rattle.quiesce_core.specs.Knowledge.{port_at_start}
 use Rattle.quiesce_core.specs.Rules.{value_limit}
-use Rattle.quiesce_core.specs.State.{State}
 use Rattle.quiesce_core.specs.declared.event.Event.{Event}
 use Rattle.quiesce_core.specs.declared.event.Event.TheVariants.{Begin, Call, Give, Hear, Miss, More, Take}
 use Rattle.quiesce_core.specs.declared.known.Known.{Known}
 use Rattle.quiesce_core.specs.declared.known.PortKnown.{PortKnown}
 use Rattle.quiesce_core.specs.declared.known.Served.{Served}
-use Rattle.port_gate.specs.Moves.{Does}
 use Rattle.port_gate.specs.Noting.{CanCount}
-use Rattle.port_gate.specs.Seats.{IsOwn, MayBegin, MayCall, MayGive, MayHear, MaySendMore, NodeAt, has_heard, port_known, serial_served, serves}
+use Rattle.port_gate.specs.Seats.{IsOwn, MayBegin, MayCall, MayGive, MayHear, MaySendMore, has_heard, port_known, serial_served, serves}
 use Rattle.node_host.specs.Hosted.{IsHosted, SeatSeen, node_of}
 use Rattle.node_host.specs.Lines.{LineNode}
 use Rattle.node_host.specs.Awaiting.{awaits}
@@ -69,12 +67,7 @@ take_folds first p k v x t t' provided free same =
     where_it_is (may_take t) (moves.after_take t v) t'
     (and_from (nat_lt 0 (length (row t.kind).provides)) (is_none t.service) (lt-ltb 0 (length (row t.kind).provides) (omega (arith, provided))) (ap is_none free)) (sym same)
 
--- ---- what a gate was asked, in the node's own terms
-
-pub did_by : (n n' : NodeAt) (w w' : Known) (told told' : Option (List Event)) (s s' : Option State) (es es' : List Event) → n' ≡ n → es' ≡ es → Does n' es' w w' told told' s s' → Does n es w w' told told' s s'
-did_by n n' w w' told told' s s' es es' node events d = subst (λ x. Does n x w w' told told' s s') events (subst (λ m. Does m es' w w' told told' s s') node d)
-
-module _ (slot first : ℕ) (t : NodeState) (log : List Event) (line : List LineNode) (known : Known) (waiting : List (Option ℕ)) (seat : SeatSeen) (h : IsHosted slot first t log line known waiting seat) where
+module _ {slot first : ℕ} {t : NodeState} {log : List Event} {line : List LineNode} {known : Known} {waiting : List (Option ℕ)} {seat : SeatSeen} (h : IsHosted slot first t log line known waiting seat) where
   own : (r : ℕ) → r < length (row t.kind).requires_ → IsOwn (node_of slot first t) (first + r)
   own r within = record { from = omega arith; below = omega (arith, within) }
 
@@ -104,16 +97,16 @@ module _ (slot first : ℕ) (t : NodeState) (log : List Event) (line : List Line
 
     module _ (heard : u.heard ≡ true) (still : awaits known ≡ false) where
       pub may_give : (v : ℕ) → v < value_limit → MayGive seat.known u.port v
-      may_give v small = record { serving = at_port; heard = heard_is ∙ heard; ended = calls_ended slot first t log line known waiting seat h still; small = small }
+      may_give v small = record { serving = at_port; heard = heard_is ∙ heard; ended = calls_ended h still; small = small }
 
       -- as many answers and further messages came as it called and sent
-      came : u.calls + u.mores ≤ length (in_service slot first t log line known waiting seat h u serving).held.answers
-      came = (in_service slot first t log line known waiting seat h u serving).agree.all heard (no_call slot first t log line known waiting seat h still)
+      came : u.calls + u.mores ≤ length (in_service h u serving).held.answers
+      came = (in_service h u serving).agree.all heard (no_call h still)
 
       table_is : (x : Next) → moves.next t ≡ Some x
-          → (w : Serving) × (w ≡ (in_service slot first t log line known waiting seat h u serving).held) × (next_of t.kind t.arg w.value w.reply w.answers ≡ x)
+          → (w : Serving) × (w ≡ (in_service h u serving).held) × (next_of t.kind t.arg w.value w.reply w.answers ≡ x)
       table_is x is =
-          let i = in_service slot first t log line known waiting seat h u serving in
+          let i = in_service h u serving in
           (i.held, refl, by i.held i.held.waits refl (sym (ap (option_and_then (next_in t)) i.is) ∙ is))
         where
           by : (w : Serving) (b : Bool) → w.waits ≡ b → cond w.waits None (Some (next_of t.kind t.arg w.value w.reply w.answers)) ≡ Some x → next_of t.kind t.arg w.value w.reply w.answers ≡ x

@@ -2,7 +2,7 @@
 use Rattle.std.proofs.Common.{◌≡◌, ◌∙◌, ℕ, Bool, true, false, Option, Some, None, refl, sym, ap, subst}
 use Rattle.std.specs.Prelude.{not, ◌==◌, ◌&&◌, ◌||◌, is_none, is_some}
 use Rattle.std.specs.Option.{option_map_or}
-use Rattle.std.proofs.lemmas.Bool.{and_parts, both_ways, eqb-true}
+use Rattle.std.proofs.lemmas.Bool.{and_parts, both_ways, eqb-true, or_right}
 use Rattle.gate_word.specs.Words.{is_missing, is_spent, unpack}
 use Rattle.quiesce_core.specs.State.{State}
 use Rattle.port_gate.specs.Answers.{BeginSays}
@@ -14,10 +14,6 @@ use Rattle.node_host.proofs.Loading.{loads_as}
 
 abbrev pub IsRefused : BeginAnswer → Type 0
 IsRefused r = (k t : ℕ) → r ≡ Begun k t → ⊥
-
-or_right : (a b : Bool) → b ≡ true → (a || b) ≡ true
-or_right true b h = refl
-or_right false b h = h
 
 found_some : (f : ℕ) (o : Option ℕ) → option_map_or (λ (x : ℕ). x == f) o false ≡ true → is_some o ≡ true
 found_some f None h = absurd (both_ways false refl h)

@@ -63,7 +63,7 @@ seen_at n r answer w short =
     get_or-set_same w.ports (n.first + r - n.first) (seen_by answer (port_known n w (n.first + r))) port_at_start (omega (arith, short))
     ∙ ap (λ i. seen_by answer (slice_index_or w.ports i port_at_start)) (index_is n.first r)
 
-module _ (n n' : NodeAt) (r : ℕ) (answer : SeeAnswer) (w ws w' : Known) (told0 told told' : Option (List Event)) (s0 s s' : Option State)
+module _ {n n' : NodeAt} (r : ℕ) (answer : SeeAnswer) {w ws w' : Known} {told0 told told' : Option (List Event)} {s0 s s' : Option State}
     (node : n' ≡ n) (seen : ws ≡ with_seen n (n.first + r) answer w) (telling : told0 ≡ told) (states : s0 ≡ s) (short : r < length w.ports) where
   did : (events : NodeAt → Known → List Event) (e : Event) → events n (with_seen n (n.first + r) answer w) ≡ e ∷ []
       → ((x : PortKnown) → port_known_next (n.first + r) (seen_by answer x) e ≡ port_known_next (n.first + r) x e)
@@ -109,8 +109,8 @@ asked_without_reply phase.Asked h = refl
 asked_without_reply phase.Answered h = absurd (both_ways false refl h)
 asked_without_reply phase.More h = absurd (both_ways false refl h)
 
-pub not_yet : (o : Option State) (n : NodeAt) (known : Known) (t : NodeState) (p word : ℕ) (s : State) → IsTold o n known s → SeeSays o p (NotYet word) → None ≡ reply_at s t p
-not_yet o n known t p word s told says =
+pub not_yet : {o : Option State} {n : NodeAt} {known : Known} {s : State} → IsTold o n known s → (t : NodeState) (p word : ℕ) → SeeSays o p (NotYet word) → None ≡ reply_at s t p
+not_yet {s = s} told t p word says =
     let there = subst (λ x. SeeSays x p (NotYet word)) told.told says in
     let asked : is_asked (exchange s p).phase ≡ true =
     ap (λ (w : Word). is_asked w.phase) (sym (port_words_decode s told.formed p)) ∙ ap (λ i. is_asked (unpack i).phase) (sym there.there) ∙ there.cause in

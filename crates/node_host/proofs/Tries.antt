@@ -4,6 +4,7 @@ use Rattle.std.specs.Prelude.{◌&&◌, is_none, nat_lt}
 use Rattle.std.proofs.lemmas.Bool.{both_ways, eqb-true}
 use Rattle.config_graph.specs.Kinds.{row}
 use Rattle.component_trait.specs.States.{NodeState}
+use Rattle.component_trait.specs.declared.component.Component.{Ghosts as ComponentWords}
 use Rattle.quiesce_core.specs.Knowledge.{KnowsService}
 use Rattle.quiesce_core.specs.State.{State, service}
 use Rattle.quiesce_core.specs.declared.event.Event.{Event}
@@ -12,13 +13,18 @@ use Rattle.quiesce_core.specs.declared.known.Known.{Known}
 use Rattle.quiesce_core.specs.declared.known.Served.{Served}
 use Rattle.quiesce_core.specs.declared.state.Service.{Service}
 use Rattle.turns.specs.Turn.{serves}
-use Rattle.port_gate.specs.Loads.{IsLed, IsLoaded, Load, Loads, TellsLoads, leads_to, shows_asked}
+use Rattle.port_gate.specs.Loads.{IsLed, IsLoaded, Loads, TellsLoads, leads_to, shows_asked}
 use Rattle.port_gate.specs.Seats.{NodeAt}
+use Rattle.port_gate.specs.declared.gate.GateSeat.{Ghosts as SeatWords}
+use Rattle.port_gate.specs.declared.gate.PortGate.{Ghosts as GateWords}
 use Rattle.port_queue.specs.Inboxes.{Counts}
+use Rattle.node_host.specs.Acts.{Acts, LoadsSo, TellsState, gate_seen, node_at, state_of}
 use Rattle.node_host.specs.Hosted.{node_of}
 use Rattle.node_host.specs.Posting.{GateSeen, HintOf, Hinted, IsLooked, IsSent, IsSentAfter, IsSentBy, Looked, is_asking}
 use Rattle.node_host.specs.Told.{IsTold}
 use Rattle.node_host.specs.Tried.{CannotBegin, HasNoReply, HasNoRequest, HaveNoReplies, IsHeld, IsTried, Keeps, LoadsPort, Steps, bars_begin, is_busy, is_move, is_passed, is_reply_at, is_stale_for, move_number, passed_ports, shows_in_more}
+use Rattle.node_host.specs.declared.node.HostNode.{HostNode}
+use Rattle.node_host.proofs.ActLaws.{as_before}
 use Rattle.node_host.proofs.Hinting.{hint_free}
 use Rattle.node_host.proofs.Loading.{led_kept, led_since, loaded_kept, loaded_since, then_so}
 
@@ -71,48 +77,33 @@ tried_right n w (Some e) a b c two left steps past is right (suc (suc r)) below 
 
 -- ---- the service
 
-led_over : (p : ℕ) (shows : Load → Bool) (first : ℕ) (w : Known) (a b c : Option Loads) → TellsLoads (Keeps 3 first w) b c
-    → TellsLoads (λ x y. IsLed p shows x.steps y.steps y.hear) a b → TellsLoads (λ x y. IsLed p shows x.steps y.steps y.hear) a c
-led_over p shows first w a b c kept led =
-    then_so (λ x y. IsLed p shows x.steps y.steps y.hear) (Keeps 3 first w) (λ x y. IsLed p shows x.steps y.steps y.hear)
-    (λ x y z l s. led_kept p shows x.steps y.steps z.steps y.hear z.hear s.steps (s.hear (omega arith)) l) a b c led kept
-
 pub held_kept : (first : ℕ) (v w : Known) (o : Option Served) (a b c : Option Loads) → TellsLoads (Keeps 3 first v) b c → IsHeld w o a b → IsHeld w o a c
 held_kept first v w None a b c kept h = h
 held_kept first v w (Some u) a b c kept (inl left) = inl left
-held_kept first v w (Some u) a b c kept (inr waits) = inr (waits.0, led_over u.port shows_in_more first v a b c kept waits.1)
+held_kept first v w (Some u) a b c kept (inr waits) =
+    let led = then_so (λ x y. IsLed u.port shows_in_more x.steps y.steps y.hear) (Keeps 3 first v) (λ x y. IsLed u.port shows_in_more x.steps y.steps y.hear)
+    (λ x y z l s. led_kept u.port shows_in_more x.steps y.steps z.steps y.hear z.hear s.steps (s.hear (omega arith)) l) a b c waits.1 kept in inr (waits.0, led)
 
 held_since : (w : Known) (o : Option Served) (a b c : Option Loads) → TellsLoads Steps a b → IsHeld w o b c → IsHeld w o a c
 held_since w None a b c steps h = h
 held_since w (Some u) a b c steps (inl left) = inl left
 held_since w (Some u) a b c steps (inr waits) =
-    inr (
-      waits.0,
-      then_so Steps (λ x y. IsLed u.port shows_in_more x.steps y.steps y.hear) (λ x y. IsLed u.port shows_in_more x.steps y.steps y.hear)
-          (λ x y z s l. led_since u.port shows_in_more x.steps y.steps z.steps z.hear s l) a b c steps waits.1,
-    )
+    let led = then_so Steps (λ x y. IsLed u.port shows_in_more x.steps y.steps y.hear) (λ x y. IsLed u.port shows_in_more x.steps y.steps y.hear)
+    (λ x y z s l. led_since u.port shows_in_more x.steps y.steps z.steps z.hear s l) a b c steps waits.1 in inr (waits.0, led)
 
 -- ---- the next request
 
 pub request_kept : (n first : ℕ) (w : Known) (c c' : Counts) (a b d : Option Loads) → TellsLoads (Keeps 4 first w) b d → HasNoRequest n c c' a b → HasNoRequest n c c' a d
 request_kept n first w c c' a b d kept (inl empty) = inl empty
 request_kept n first w c c' a b d kept (inr (p, gave, led)) =
-    inr (
-      p,
-      gave,
-      then_so (λ x y. IsLed p (is_stale_for n) x.steps y.steps y.take) (Keeps 4 first w) (λ x y. IsLed p (is_stale_for n) x.steps y.steps y.take)
-          (λ x y z l s. led_kept p (is_stale_for n) x.steps y.steps z.steps y.take z.take s.steps (s.take (omega arith)) l) a b d led kept,
-    )
+    let later = then_so (λ x y. IsLed p (is_stale_for n) x.steps y.steps y.take) (Keeps 4 first w) (λ x y. IsLed p (is_stale_for n) x.steps y.steps y.take)
+    (λ x y z l s. led_kept p (is_stale_for n) x.steps y.steps z.steps y.take z.take s.steps (s.take (omega arith)) l) a b d led kept in inr (p, gave, later)
 
 request_since : (n : ℕ) (c c' : Counts) (a b d : Option Loads) → TellsLoads Steps a b → HasNoRequest n c c' b d → HasNoRequest n c c' a d
 request_since n c c' a b d steps (inl empty) = inl empty
 request_since n c c' a b d steps (inr (p, gave, led)) =
-    inr (
-      p,
-      gave,
-      then_so Steps (λ x y. IsLed p (is_stale_for n) x.steps y.steps y.take) (λ x y. IsLed p (is_stale_for n) x.steps y.steps y.take)
-          (λ x y z s l. led_since p (is_stale_for n) x.steps y.steps z.steps z.take s l) a b d steps led,
-    )
+    let later = then_so Steps (λ x y. IsLed p (is_stale_for n) x.steps y.steps y.take) (λ x y. IsLed p (is_stale_for n) x.steps y.steps y.take)
+    (λ x y z s l. led_since p (is_stale_for n) x.steps y.steps z.steps z.take s l) a b d steps led in inr (p, gave, later)
 
 -- ---- a beginning
 
@@ -142,27 +133,6 @@ hint_since s a b c first (Some (Begin p k v)) old new steps h = sent_since s a b
 hint_since s a b c first (Some (Call p k v)) old new steps h = sent_since s a b c first p old new steps h
 hint_since s a b c first (Some e) old new steps h = h
 
--- ---- of a node that is as it was
-
-keeps_as : (k first first' : ℕ) (w w' : Known) (a b : Option Loads) → first' ≡ first → w' ≡ w → TellsLoads (Keeps k first' w') a b → TellsLoads (Keeps k first w) a b
-keeps_as k first first' w w' a b ef ew h = subst (λ x. TellsLoads (Keeps k first x) a b) ew (subst (λ x. TellsLoads (Keeps k x w') a b) ef h)
-
--- what follows a function that did nothing couldn't begin
-pub cannot_after : (first first' : ℕ) (t t' : NodeState) (w w' : Known) (allowed : Bool) (o : Option Event) (a b d : Option Loads) → first' ≡ first → t' ≡ t → w' ≡ w → TellsLoads Steps a b
-    → (o ≡ None → allowed ≡ true → CannotBegin first' t' w' b d) → o ≡ None → allowed ≡ true → CannotBegin first t w a d
-cannot_after first first' t t' w w' allowed o a b d ef et ew steps cannot none_ may =
-    cannot_since first t w a b d steps (subst (λ x. CannotBegin first t x b d) ew (subst (λ x. CannotBegin first x w' b d) et (subst (λ x. CannotBegin x t' w' b d) ef (cannot none_ may))))
-
--- all moves after the replies
-pub tried_after_replies : (slot first first' : ℕ) (t t' : NodeState) (w w' : Known) (allowed : Bool) (o : Option Event) (a b d : Option Loads) → first' ≡ first → t' ≡ t → w' ≡ w
-    → HaveNoReplies (node_of slot first t) w None a b → TellsLoads Steps a b → TellsLoads (Keeps 2 first' w') b d → is_passed 1 o ≡ true → (is_passed 2 o ≡ true → IsHeld w' w'.service b d)
-    → (o ≡ None → allowed ≡ true → CannotBegin first' t' w' b d) → IsTried (node_of slot first t) t w allowed o a d
-tried_after_replies slot first first' t t' w w' allowed o a b d ef et ew replies steps kept passed held cannot = record {
-  replies = λ r below. no_reply_kept 2 first r w a b d (keeps_as 2 first first' w w' b d ef ew kept) (replies r (subst (λ k. r < k) (all_passed (node_of slot first t) o passed) below));
-  service = λ after. held_since w w.service a b d steps (subst (λ (x : Known). IsHeld x x.service b d) ew (held after));
-  begin = cannot_after first first' t t' w w' allowed o a b d ef et ew steps cannot;
-}
-
 -- the turn of a node whose waiting hints were posted
 pub tried_posted : (slot slot' first first' : ℕ) (t t' : NodeState) (w w' : Known) (allowed : Bool) (o : Option Event) (a a' b : Option Loads) → slot' ≡ slot → first' ≡ first → t' ≡ t → w' ≡ w → a' ≡ a
     → IsTried (node_of slot' first' t') t' w' allowed o a' b → IsTried (node_of slot first t) t w allowed o a b
@@ -173,7 +143,7 @@ tried_posted slot slot' first first' t t' w w' allowed o a a' b es ef et ew ea h
     (subst (λ x. IsTried (node_of slot x t') t' w' allowed o a' b) ef
     (subst (λ x. IsTried (node_of x first' t') t' w' allowed o a' b) es h))))
 
--- ---- the hints of such a node
+-- ---- hints after such moves
 
 after_since : (s : Option State) (a b d : Option Loads) (slot first : ℕ) (asked : Bool) (e : Option Event) (old new : Hinted) → TellsLoads Steps a b → IsSentAfter (record { state = s; before = b; after = d }) slot first asked e old new
     → IsSentAfter (record { state = s; before = a; after = d }) slot first asked e old new
@@ -184,34 +154,49 @@ after_since s a b d slot first asked e old new steps h = record {
   sent = hint_since s a b d first e h.between new steps h.sent;
 }
 
-pub sent_as : (s s' : Option State) (a b d : Option Loads) (slot slot' first first' : ℕ) (w w' : Known) (e : Option Event) (old old' new : Hinted) → s' ≡ s → slot' ≡ slot → first' ≡ first → w' ≡ w → old' ≡ old → TellsLoads Steps a b
-    → IsSentAfter (record { state = s'; before = b; after = d }) slot' first' (is_none w'.service) e old' new → IsSentAfter (record { state = s; before = a; after = d }) slot first (is_none w.service) e old new
-sent_as s s' a b d slot slot' first first' w w' e old old' new st es ef ew eo steps h =
-    let one = subst (λ x. IsSentAfter (record { state = x; before = b; after = d }) slot' first' (is_none w'.service) e old' new) st h in
-    let two = subst (λ x. IsSentAfter (record { state = s; before = b; after = d }) x first' (is_none w'.service) e old' new) es one in
-    let three = subst (λ x. IsSentAfter (record { state = s; before = b; after = d }) slot x (is_none w'.service) e old' new) ef two in
-    let four = subst (λ (x : Known). IsSentAfter (record { state = s; before = b; after = d }) slot first (is_none x.service) e old' new) ew three in
-    let five = subst (λ x. IsSentAfter (record { state = s; before = b; after = d }) slot first (is_none w.service) e x new) eo four in
-    after_since s a b d slot first (is_none w.service) e old new steps five
+-- ---- after a move that did no event
 
-pub sent_by_as : (s s' : Option State) (a b d : Option Loads) (n n' : NodeAt) (w w' : Known) (rule rule' : State → Bool) (e : Option Event) (old old' new : Hinted) → s' ≡ s → n' ≡ n → w' ≡ w → old' ≡ old → TellsLoads Steps a b
-    → ((x : State) → IsTold s n w x → rule' x ≡ rule x)
-    → IsSentBy (record { state = s'; before = b; after = d }) n' w' rule' e old' new → IsSentBy (record { state = s; before = a; after = d }) n w rule e old new
-sent_by_as s s' a b d n n' w w' rule rule' e old old' new st en ew eo steps same h =
-    let one = subst (λ x. IsSentBy (record { state = x; before = b; after = d }) n' w' rule' e old' new) st h in
-    let two = subst (λ x. IsSentBy (record { state = s; before = b; after = d }) x w' rule' e old' new) en one in
-    let three = subst (λ x. IsSentBy (record { state = s; before = b; after = d }) n x rule' e old' new) ew two in
-    let four = subst (λ x. IsSentBy (record { state = s; before = b; after = d }) n w rule' e x new) eo three in
-    record {
-      asked = four.asked;
-      exact = four.exact;
-      ruled = λ x told. four.ruled x told ∙ same x told;
-      after = after_since s a b d n.slot n.first four.asked e old new steps four.after;
-    }
+module _ {C S : Type 0} {component : ComponentWords C} {seats : SeatWords S} {G : Type 0} {words : GateWords G S} {gate gate' : G} {h h' : HostNode C S component seats} (a : Acts words gate gate' h h' None) (steps : LoadsSo Steps h h') (k : HostNode C S component seats) where
+  abbrev at : HostNode C S component seats → Option Loads
+  at x = seats.loads x.seat
+
+  pub cannot_then : CannotBegin h'.first_port (state_of h') h'.known (at h') (at k) → CannotBegin h.first_port (state_of h) h.known (at h) (at k)
+  cannot_then cannot = as_before a (λ slot first t w seat o. CannotBegin first t w (at h) (at k)) (cannot_since h'.first_port (state_of h') h'.known (at h) (at h') (at k) steps cannot)
+
+  pub tried_then : {allowed : Bool} {e : Option Event} → HaveNoReplies (node_at h) h.known None (at h) (at h') → TellsLoads (Keeps 2 h'.first_port h'.known) (at h') (at k) → is_passed 1 e ≡ true
+      → (is_passed 2 e ≡ true → IsHeld h'.known h'.known.service (at h') (at k)) → (e ≡ None → allowed ≡ true → CannotBegin h'.first_port (state_of h') h'.known (at h') (at k))
+      → IsTried (node_at h) (state_of h) h.known allowed e (at h) (at k)
+  tried_then {e = e} replies kept passed held cannot = record {
+    replies = λ r below.
+        no_reply_kept 2 h.first_port r h.known (at h) (at h') (at k) (as_before a (λ slot first t w seat o. TellsLoads (Keeps 2 first w) (at h') (at k)) kept)
+        (replies r (subst (λ i. r < i) (all_passed (node_at h) e passed) below));
+    service = λ after. held_since h.known h.known.service (at h) (at h') (at k) steps (as_before a (λ slot first t w seat o. IsHeld w w.service (at h') (at k)) (held after));
+    begin = λ none_ may. cannot_then (cannot none_ may);
+  }
+
+  pub sent_then : {e : Option Event} {old old' new : Hinted} → old' ≡ old → IsSentAfter (gate_seen words gate' h' k) h'.slot h'.first_port (is_none h'.known.service) e old' new
+      → IsSentAfter (gate_seen words gate h k) h.slot h.first_port (is_none h.known.service) e old new
+  sent_then {e = e} {old = old} {new = new} same later =
+      after_since (words.state gate) (at h) (at h') (at k) h.slot h.first_port (is_none h.known.service) e old new steps
+      (as_before a (λ slot first t w seat o. IsSentAfter (record { state = o; before = at h'; after = at k }) slot first (is_none w.service) e old new)
+      (subst (λ x. IsSentAfter (gate_seen words gate' h' k) h'.slot h'.first_port (is_none h'.known.service) e x new) same later))
+
+  pub sent_by_then : {rule rule' : State → Bool} {e : Option Event} {old old' new : Hinted} → old' ≡ old → ((s : State) → TellsState words gate h s → rule' s ≡ rule s)
+      → IsSentBy (gate_seen words gate' h' k) (node_at h') (seats.known h'.seat) rule' e old' new → IsSentBy (gate_seen words gate h k) (node_at h) (seats.known h.seat) rule e old new
+  sent_by_then {rule' = rule'} {e = e} {old = old} {new = new} same ruled later =
+      let b : IsSentBy (record { state = words.state gate; before = at h'; after = at k }) (node_at h) (seats.known h.seat) rule' e old new =
+      as_before a (λ slot first t w seat o. IsSentBy (record { state = o; before = at h'; after = at k }) (node_of slot first t) seat rule' e old new)
+      (subst (λ x. IsSentBy (gate_seen words gate' h' k) (node_at h') (seats.known h'.seat) rule' e x new) same later) in
+      record {
+        asked = b.asked;
+        exact = b.exact;
+        ruled = λ s told. b.ruled s told ∙ ruled s told;
+        after = after_since (words.state gate) (at h) (at h') (at k) h.slot h.first_port b.asked e old new steps b.after;
+      }
 
 -- the inbox wasn't asked
-pub sent_unasked : (g : GateSeen) (slot first : ℕ) (asked : Bool) (e : Option Event) (old new : Hinted) → asked ≡ false → HintOf g first e old new → IsSentAfter g slot first asked e old new
-sent_unasked g slot first asked e old new is h = record {
+pub sent_unasked : {g : GateSeen} {slot first : ℕ} {asked : Bool} {e : Option Event} {old new : Hinted} → asked ≡ false → HintOf g first e old new → IsSentAfter g slot first asked e old new
+sent_unasked {slot = slot} {asked = asked} {old = old} is h = record {
   between = old;
   looked = subst (λ b. Looked b slot old old) (sym is) refl;
   request = λ yes_ passed. absurd (both_ways asked is yes_);
@@ -219,8 +204,8 @@ sent_unasked g slot first asked e old new is h = record {
 }
 
 -- the request at the hint that it gave was taken up
-pub sent_taken : (g : GateSeen) (slot first : ℕ) (e : Event) (old new : Hinted) → IsLooked slot old new → is_move 3 (Some e) ≡ true → is_asking (Some e) ≡ false → IsSentAfter g slot first true (Some e) old new
-sent_taken g slot first e old new looks number quiet = record {
+pub sent_taken : {g : GateSeen} {slot first : ℕ} {e : Event} {old new : Hinted} → IsLooked slot old new → is_move 3 (Some e) ≡ true → is_asking (Some e) ≡ false → IsSentAfter g slot first true (Some e) old new
+sent_taken {g = g} {first = first} {e = e} {new = new} looks number quiet = record {
   between = new;
   looked = looks;
   request = λ yes_ passed. absurd (both_ways (is_passed 3 (Some e)) (ap (nat_lt 3) (eqb-true (move_number e) 3 number)) passed);
@@ -235,9 +220,9 @@ same_none s (Some v) None h = absurd h
 same_none s (Some v) (Some u) h = refl
 
 -- the look after the service
-pub sent_after_service : (g : GateSeen) (n : NodeAt) (t : NodeState) (w seat : Known) (e : Option Event) (old new : Hinted) → w ≡ seat → is_passed 2 e ≡ true → ((s : State) → IsTold g.state n seat s → None ≡ serves s n.slot t)
+pub sent_after_service : {g : GateSeen} {n : NodeAt} (t : NodeState) {w seat : Known} {e : Option Event} {old new : Hinted} → w ≡ seat → is_passed 2 e ≡ true → ((s : State) → IsTold g.state n seat s → None ≡ serves s n.slot t)
     → IsSentAfter g n.slot n.first (is_none w.service) e old new → IsSentBy g n seat (λ s. is_none (serves s n.slot t) && is_none (service s n.slot)) e old new
-sent_after_service g n t w seat e old new kept passed exact h = record {
+sent_after_service {n = n} t {w = w} {seat = seat} kept passed exact h = record {
   asked = is_none w.service;
   exact = ap (λ (k : Known). is_none k.service) kept ∙ ap (λ b. b && is_none seat.service) (sym passed);
   ruled = λ s told.
@@ -247,11 +232,11 @@ sent_after_service g n t w seat e old new kept passed exact h = record {
 }
 
 -- a move before the look
-pub sent_before_look : (g : GateSeen) (n : NodeAt) (w : Known) (rule : State → Bool) (k : ℕ) (e : Event) (old new : Hinted) → nat_lt 2 k ≡ false → is_move k (Some e) ≡ true → ((s : State) → IsTold g.state n w s → rule s ≡ false)
+pub sent_before_look : {g : GateSeen} {n : NodeAt} {w : Known} {rule : State → Bool} (k : ℕ) {e : Event} {old new : Hinted} → nat_lt 2 k ≡ false → is_move k (Some e) ≡ true → ((s : State) → IsTold g.state n w s → rule s ≡ false)
     → HintOf g n.first (Some e) old new → IsSentBy g n w rule (Some e) old new
-sent_before_look g n w rule k e old new below number ruled h = record {
+sent_before_look {w = w} k {e = e} below number ruled h = record {
   asked = false;
   exact = ap (λ b. b && is_none w.service) (sym (ap (nat_lt 2) (eqb-true (move_number e) k number) ∙ below));
   ruled = λ s told. sym (ruled s told);
-  after = sent_unasked g n.slot n.first false (Some e) old new refl h;
+  after = sent_unasked refl h;
 }

@@ -1,3 +1,5 @@
+pub mod Acts
+pub mod Moves
 pub mod Lines
 pub mod Hosted
 pub mod HostedProps
@@ -7,4 +9,5 @@ pub mod Trying
 pub mod Tried
 pub mod Posting
 pub mod Awaiting
+pub mod NodeEvents
 pub mod Turning

@@ -1,22 +1,21 @@
 //! A node's first move: it ends, or replies in, a transaction at the lowest of its ports at which a reply stands.
 
-ghost use Rattle.std.specs.Prelude.{◌≡◌, ◌≢◌, ℕ, ◌+◌, ◌<◌, true, false, length, slice_index_or, vec_capacity, None, Some};
+ghost use Rattle.std.specs.Prelude.{◌≡◌, ℕ, ◌+◌, ◌<◌, true, false, length, slice_index_or, None, Some};
 ghost use Rattle.config_graph.specs.Kinds.{row};
 ghost use Rattle.component_trait.specs.Fold.{after_event};
 ghost use Rattle.config_graph.specs.declared.TheConstants.{VALUE_LIMIT};
-ghost use Rattle.node_host.specs.Hosted.{node_of};
-ghost use Rattle.node_host.specs.Moved.{Moved};
+ghost use Rattle.node_host.specs.Acts.{Acts, CanAct, LoadsSo, TellsState};
+ghost use Rattle.node_host.specs.Moves.{Replies};
 ghost use Rattle.node_host.specs.Posting.{is_asking};
-ghost use Rattle.node_host.specs.Told.{IsTold, reply_at};
+ghost use Rattle.node_host.specs.Told.{reply_at};
 ghost use Rattle.quiesce_core.specs.Knowledge.{port_at_start};
 ghost use Rattle.quiesce_core.specs.State.{State};
 ghost use Rattle.quiesce_core.specs.declared.event.Event.TheVariants as event;
 ghost use Rattle.turn_laws.specs.Agreement.{expects};
-ghost use Rattle.turns.specs.Turn.{ends};
-ghost use Rattle.node_host.specs.Tried.{HasNoReply, HaveNoReplies, LoadsPort, Steps, is_move, is_reply_at};
-ghost use Rattle.port_gate.specs.Loads.{TellsLoads};
+ghost use Rattle.node_host.specs.Tried.{HasNoReply, LoadsPort, is_reply_at};
 
-use crate::keeping::{keep_ask, keep_end, seats_have_places};
+use crate::events::{Message, NodeEvent};
+use crate::keeping::{keep, seats_have_places};
 use crate::node::HostNode;
 use component_trait::Component;
 use port_gate::{GateSeat, PortGate, SeeAnswer};
@@ -50,35 +49,18 @@ impl<C: Component + Drop, S: GateSeat + Drop> HostNode<C, S> {
     /// Ends or replies at the port of one requirement that isn't idle, where a reply stands there.
     #[inline(never)]
     fn reply_at_busy<G: PortGate<Seat = S>>(&mut self, gate: &mut G, require: u32) -> Option<Event>
-        requires fits { G.fits gate.old self.old.seat }
-        requires node { G.node gate.old self.old.seat ≡ node_of self.old.slot self.old.first_port
-            (C.state self.old.inner) }
+        requires can { CanAct G.PortGate gate.old self.old }
         requires require { require < length (row (C.state self.old.inner).kind).requires_ }
         requires busy { (slice_index_or self.old.known.ports require port_at_start).idle ≡ false }
-        requires room { length self.old.log.items < vec_capacity self.old.log }
-        ensures fits { G.fits gate.new self.new.seat }
-        ensures spare { G.spare gate.new ≡ G.spare gate.old }
-        ensures node { G.node gate.new self.new.seat ≡ node_of self.new.slot self.new.first_port
-            (C.state self.new.inner) }
-        ensures others { (other : S) → S.slot_of other ≢ self.old.slot → G.fits gate.old other
-            → G.fits gate.new other × (G.node gate.new other ≡ G.node gate.old other) }
-        ensures moved { Moved (node_of self.old.slot self.old.first_port (C.state self.old.inner)) result
-            (C.state self.old.inner) (C.state self.new.inner) self.old.log.items self.new.log.items
-            (record { slot = S.slot_of self.old.seat; known = S.known self.old.seat; told = S.tells self.old.seat })
-            (record { slot = S.slot_of self.new.seat; known = S.known self.new.seat; told = S.tells self.new.seat })
-            (G.state gate.old) (G.state gate.new) }
-        ensures place { (self.new.slot ≡ self.old.slot) × (self.new.first_port ≡ self.old.first_port) }
-        ensures past { self.new.past ≡ self.old.past }
+        ensures acts { Acts G.PortGate gate.old gate.new self.old self.new result }
         ensures waiting { self.new.waiting ≡ self.old.waiting }
         ensures room { result ≡ None → (self.new.log ≡ self.old.log) × (self.new.inner ≡ self.old.inner) }
         ensures asks_nothing { is_asking result ≡ false }
-        ensures exact { (s : State) → IsTold (G.state gate.old)
-            (node_of self.old.slot self.old.first_port (C.state self.old.inner)) (S.known self.old.seat) s
+        ensures exact { (s : State) → TellsState G.PortGate gate.old self.old s
             → result ≡ reply_at s (C.state self.old.inner) (self.old.first_port + require) }
         ensures known { result ≡ None → self.new.known ≡ self.old.known }
         ensures replies { is_reply_at (self.old.first_port + require) result ≡ true }
-        ensures loads { TellsLoads (LoadsPort (self.old.first_port + require)) (S.loads self.old.seat)
-            (S.loads self.new.seat) }
+        ensures loads { LoadsSo (LoadsPort (self.old.first_port + require)) self.old self.new }
         ensures no_reply { result ≡ None
             → HasNoReply self.old.first_port self.old.known require (S.loads self.old.seat) (S.loads self.new.seat) }
     {
@@ -92,22 +74,22 @@ impl<C: Component + Drop, S: GateSeat + Drop> HostNode<C, S> {
             SeeAnswer::Answer { value } => {
                 gate.end(&mut self.seat, port);
                 hand_in(&mut self.inner, first, require, known, value);
-                keep_end(&mut self.log, &mut self.known, first, port, serial, value);
-                Some(Event::End {
+                let done = NodeEvent::End(Message {
                     port,
                     serial,
                     value,
-                })
+                });
+                Some(keep(&mut self.log, &mut self.known, first, done))
             }
             SeeAnswer::More { .. } => {
                 let value = self.inner.replies(require);
                 gate.ask(&mut self.seat, port, value);
-                keep_ask(&mut self.log, &mut self.known, first, port, serial, value);
-                Some(Event::Ask {
+                let done = NodeEvent::Ask(Message {
                     port,
                     serial,
                     value,
-                })
+                });
+                Some(keep(&mut self.log, &mut self.known, first, done))
             }
         }
     }
@@ -115,34 +97,17 @@ impl<C: Component + Drop, S: GateSeat + Drop> HostNode<C, S> {
     /// Ends or replies at the port of one requirement, where a reply stands there.
     #[inline(always)]
     fn reply_at<G: PortGate<Seat = S>>(&mut self, gate: &mut G, require: u32) -> Option<Event>
-        requires fits { G.fits gate.old self.old.seat }
-        requires node { G.node gate.old self.old.seat ≡ node_of self.old.slot self.old.first_port
-            (C.state self.old.inner) }
+        requires can { CanAct G.PortGate gate.old self.old }
         requires require { require < length (row (C.state self.old.inner).kind).requires_ }
-        requires room { length self.old.log.items < vec_capacity self.old.log }
-        ensures fits { G.fits gate.new self.new.seat }
-        ensures spare { G.spare gate.new ≡ G.spare gate.old }
-        ensures node { G.node gate.new self.new.seat ≡ node_of self.new.slot self.new.first_port
-            (C.state self.new.inner) }
-        ensures others { (other : S) → S.slot_of other ≢ self.old.slot → G.fits gate.old other
-            → G.fits gate.new other × (G.node gate.new other ≡ G.node gate.old other) }
-        ensures moved { Moved (node_of self.old.slot self.old.first_port (C.state self.old.inner)) result
-            (C.state self.old.inner) (C.state self.new.inner) self.old.log.items self.new.log.items
-            (record { slot = S.slot_of self.old.seat; known = S.known self.old.seat; told = S.tells self.old.seat })
-            (record { slot = S.slot_of self.new.seat; known = S.known self.new.seat; told = S.tells self.new.seat })
-            (G.state gate.old) (G.state gate.new) }
-        ensures place { (self.new.slot ≡ self.old.slot) × (self.new.first_port ≡ self.old.first_port) }
-        ensures past { self.new.past ≡ self.old.past }
+        ensures acts { Acts G.PortGate gate.old gate.new self.old self.new result }
         ensures waiting { self.new.waiting ≡ self.old.waiting }
         ensures room { result ≡ None → (self.new.log ≡ self.old.log) × (self.new.inner ≡ self.old.inner) }
         ensures asks_nothing { is_asking result ≡ false }
-        ensures exact { (s : State) → IsTold (G.state gate.old)
-            (node_of self.old.slot self.old.first_port (C.state self.old.inner)) (S.known self.old.seat) s
+        ensures exact { (s : State) → TellsState G.PortGate gate.old self.old s
             → result ≡ reply_at s (C.state self.old.inner) (self.old.first_port + require) }
         ensures known { result ≡ None → self.new.known ≡ self.old.known }
         ensures replies { is_reply_at (self.old.first_port + require) result ≡ true }
-        ensures loads { TellsLoads (LoadsPort (self.old.first_port + require)) (S.loads self.old.seat)
-            (S.loads self.new.seat) }
+        ensures loads { LoadsSo (LoadsPort (self.old.first_port + require)) self.old self.new }
         ensures no_reply { result ≡ None
             → HasNoReply self.old.first_port self.old.known require (S.loads self.old.seat) (S.loads self.new.seat) }
     {
@@ -154,36 +119,15 @@ impl<C: Component + Drop, S: GateSeat + Drop> HostNode<C, S> {
     }
 
     /// Ends or replies at the lower of two ports at which a reply stands.
+    #[tactic(auto, using(crate::proofs::ActLaws::acts_then))]
     fn reply_at_either<G: PortGate<Seat = S>>(&mut self, gate: &mut G) -> Option<Event>
-        requires fits { G.fits gate.old self.old.seat }
-        requires node { G.node gate.old self.old.seat ≡ node_of self.old.slot self.old.first_port
-            (C.state self.old.inner) }
-        requires room { length self.old.log.items < vec_capacity self.old.log }
+        requires can { CanAct G.PortGate gate.old self.old }
         requires two { length (row (C.state self.old.inner).kind).requires_ ≡ 2 }
-        ensures fits { G.fits gate.new self.new.seat }
-        ensures spare { G.spare gate.new ≡ G.spare gate.old }
-        ensures node { G.node gate.new self.new.seat ≡ node_of self.new.slot self.new.first_port
-            (C.state self.new.inner) }
-        ensures others { (other : S) → S.slot_of other ≢ self.old.slot → G.fits gate.old other
-            → G.fits gate.new other × (G.node gate.new other ≡ G.node gate.old other) }
-        ensures moved { Moved (node_of self.old.slot self.old.first_port (C.state self.old.inner)) result
-            (C.state self.old.inner) (C.state self.new.inner) self.old.log.items self.new.log.items
-            (record { slot = S.slot_of self.old.seat; known = S.known self.old.seat; told = S.tells self.old.seat })
-            (record { slot = S.slot_of self.new.seat; known = S.known self.new.seat; told = S.tells self.new.seat })
-            (G.state gate.old) (G.state gate.new) }
-        ensures place { (self.new.slot ≡ self.old.slot) × (self.new.first_port ≡ self.old.first_port) }
-        ensures past { self.new.past ≡ self.old.past }
+        ensures acts { Acts G.PortGate gate.old gate.new self.old self.new result }
         ensures waiting { self.new.waiting ≡ self.old.waiting }
         ensures room { result ≡ None → (self.new.log ≡ self.old.log) × (self.new.inner ≡ self.old.inner) }
         ensures asks_nothing { is_asking result ≡ false }
-        ensures exact { (s : State) → IsTold (G.state gate.old)
-            (node_of self.old.slot self.old.first_port (C.state self.old.inner)) (S.known self.old.seat) s
-            → result ≡ ends s self.old.slot (C.state self.old.inner) }
-        ensures known { result ≡ None → self.new.known ≡ self.old.known }
-        ensures number { is_move 1 result ≡ true }
-        ensures steps { TellsLoads Steps (S.loads self.old.seat) (S.loads self.new.seat) }
-        ensures tried { HaveNoReplies (node_of self.old.slot self.old.first_port (C.state self.old.inner))
-            self.old.known result (S.loads self.old.seat) (S.loads self.new.seat) }
+        ensures replies { Replies G.PortGate gate.old self.old self.new result }
     {
         match self.reply_at(gate, 0) {
             Some(event) => Some(event),
@@ -193,34 +137,12 @@ impl<C: Component + Drop, S: GateSeat + Drop> HostNode<C, S> {
 
     /// Ends or replies at the lowest of its ports at which a reply stands.
     pub(crate) fn end_or_ask<G: PortGate<Seat = S>>(&mut self, gate: &mut G) -> Option<Event>
-        requires fits { G.fits gate.old self.old.seat }
-        requires node { G.node gate.old self.old.seat ≡ node_of self.old.slot self.old.first_port
-            (C.state self.old.inner) }
-        requires room { length self.old.log.items < vec_capacity self.old.log }
-        ensures fits { G.fits gate.new self.new.seat }
-        ensures spare { G.spare gate.new ≡ G.spare gate.old }
-        ensures node { G.node gate.new self.new.seat ≡ node_of self.new.slot self.new.first_port
-            (C.state self.new.inner) }
-        ensures others { (other : S) → S.slot_of other ≢ self.old.slot → G.fits gate.old other
-            → G.fits gate.new other × (G.node gate.new other ≡ G.node gate.old other) }
-        ensures moved { Moved (node_of self.old.slot self.old.first_port (C.state self.old.inner)) result
-            (C.state self.old.inner) (C.state self.new.inner) self.old.log.items self.new.log.items
-            (record { slot = S.slot_of self.old.seat; known = S.known self.old.seat; told = S.tells self.old.seat })
-            (record { slot = S.slot_of self.new.seat; known = S.known self.new.seat; told = S.tells self.new.seat })
-            (G.state gate.old) (G.state gate.new) }
-        ensures place { (self.new.slot ≡ self.old.slot) × (self.new.first_port ≡ self.old.first_port) }
-        ensures past { self.new.past ≡ self.old.past }
+        requires can { CanAct G.PortGate gate.old self.old }
+        ensures acts { Acts G.PortGate gate.old gate.new self.old self.new result }
         ensures waiting { self.new.waiting ≡ self.old.waiting }
         ensures room { result ≡ None → (self.new.log ≡ self.old.log) × (self.new.inner ≡ self.old.inner) }
         ensures asks_nothing { is_asking result ≡ false }
-        ensures exact { (s : State) → IsTold (G.state gate.old)
-            (node_of self.old.slot self.old.first_port (C.state self.old.inner)) (S.known self.old.seat) s
-            → result ≡ ends s self.old.slot (C.state self.old.inner) }
-        ensures known { result ≡ None → self.new.known ≡ self.old.known }
-        ensures number { is_move 1 result ≡ true }
-        ensures steps { TellsLoads Steps (S.loads self.old.seat) (S.loads self.new.seat) }
-        ensures tried { HaveNoReplies (node_of self.old.slot self.old.first_port (C.state self.old.inner))
-            self.old.known result (S.loads self.old.seat) (S.loads self.new.seat) }
+        ensures replies { Replies G.PortGate gate.old self.old self.new result }
     {
         match self.inner.kind().requires_() {
             0 => None,

@@ -4,6 +4,7 @@
 mod acting;
 mod beginning;
 mod ending;
+mod events;
 mod keeping;
 mod node;
 mod posting;

@@ -49,7 +49,7 @@ pub struct HostNode<C: Component + Drop, S: GateSeat + Drop> {
 impl<C: Component + Drop, S: GateSeat + Drop> HostNode<C, S> {
     /// The node in a slot, which has done nothing, with its component in no service. What it opens with is what the
     /// last of its past came to keep, or else what its kind and argument say.
-    #[tactic(auto, using(crate::proofs::Opening::hosted_at_first))]
+    #[tactic(auto, using(crate::proofs::Growing::hosted_at_first))]
     pub fn host(
         alloc: Global,
         slot: u32,

@@ -4,6 +4,7 @@ ghost use Rattle.std.specs.Prelude.{◌≡◌, ◌≢◌, ℕ, ◌+◌, ◌<◌,
 ghost use Rattle.base.specs.Count.{Rose};
 ghost use Rattle.config_graph.specs.declared.TheConstants.{MAX_NODES, MAX_PORTS};
 ghost use Rattle.port_queue.specs.Inboxes.{after_post, has_room};
+ghost use Rattle.node_host.specs.Acts.{hinted};
 ghost use Rattle.node_host.specs.Posting.{ArePosted, Reposted};
 ghost use Rattle.node_host.specs.Trying.{CountsTried, IsGrown, own_box, own_post};
 
@@ -45,8 +46,7 @@ impl<C: Component + Drop, S: GateSeat + Drop> HostNode<C, S> {
             × (self.new.log ≡ self.old.log) × (self.new.past ≡ self.old.past) × (self.new.known ≡ self.old.known) }
         ensures place { (self.new.slot ≡ self.old.slot) × (self.new.first_port ≡ self.old.first_port) }
         ensures reposted { Reposted (slice_index_or self.old.waiting require None) self.old.first_port require
-            (record { waiting = self.old.waiting; counts = H.counts hints.old; told = H.tells hints.old })
-            (record { waiting = self.new.waiting; counts = H.counts hints.new; told = H.tells hints.new }) }
+            (hinted H.Hints hints.old self.old) (hinted H.Hints hints.new self.new) }
         ensures own { (held : List ℕ) → H.tells hints.old self.old.slot ≡ Some held
             → H.tells hints.new self.old.slot ≡ Some (own_post self.old.slot (self.old.first_port + require)
             (slice_index_or self.old.waiting require None) held) }
@@ -71,8 +71,7 @@ impl<C: Component + Drop, S: GateSeat + Drop> HostNode<C, S> {
             × (self.new.log ≡ self.old.log) × (self.new.past ≡ self.old.past) × (self.new.known ≡ self.old.known) }
         ensures place { (self.new.slot ≡ self.old.slot) × (self.new.first_port ≡ self.old.first_port) }
         ensures posted { ArePosted self.old.first_port
-            (record { waiting = self.old.waiting; counts = H.counts hints.old; told = H.tells hints.old })
-            (record { waiting = self.new.waiting; counts = H.counts hints.new; told = H.tells hints.new }) }
+            (hinted H.Hints hints.old self.old) (hinted H.Hints hints.new self.new) }
         ensures own { (held : List ℕ) → H.tells hints.old self.old.slot ≡ Some held → H.tells hints.new self.old.slot
             ≡ Some (own_box self.old.slot self.old.first_port self.old.waiting held) }
         ensures grown { (node : ℕ) → IsGrown (H.counts hints.old node) (H.counts hints.new node) }

@@ -1,22 +1,21 @@
 //! A node's second move: it goes on with its service.
 
-ghost use Rattle.std.specs.Prelude.{◌≡◌, ◌≢◌, ◌+◌, ◌<◌, true, false, length, vec_capacity, option_and_then, is_some, None, Some};
+ghost use Rattle.std.specs.Prelude.{◌≡◌, ◌+◌, ◌<◌, true, false, option_and_then, is_some, None, Some};
 ghost use Rattle.config_graph.specs.Kinds.{depends_on};
 ghost use Rattle.component_trait.specs.Bounds.{FitsRequest};
 ghost use Rattle.component_trait.specs.Moves as moves;
 ghost use Rattle.component_trait.specs.declared.next.Next.TheVariants as next;
 ghost use Rattle.config_graph.specs.declared.TheConstants.{VALUE_LIMIT};
-ghost use Rattle.node_host.specs.Hosted.{node_of};
-ghost use Rattle.node_host.specs.Moved.{Moved};
+ghost use Rattle.node_host.specs.Acts.{Acts, CanAct, LoadsSo, TellsState, gate_seen, hinted};
 ghost use Rattle.node_host.specs.Posting.{HintOf, is_asking};
 ghost use Rattle.node_host.specs.Awaiting.{awaits};
-ghost use Rattle.node_host.specs.Told.{IsTold};
 ghost use Rattle.quiesce_core.specs.State.{State};
 ghost use Rattle.quiesce_core.specs.declared.event.Event.TheVariants as event;
 ghost use Rattle.turns.specs.Turn.{calls, does_next, hears, serves};
 ghost use Rattle.node_host.specs.Tried.{IsHeld, Keeps, is_move, shows_in_more};
-ghost use Rattle.port_gate.specs.Loads.{IsLed, TellsLoads};
+ghost use Rattle.port_gate.specs.Loads.{IsLed};
 
+use crate::events::{Message, NodeEvent};
 use crate::keeping::{keep, seats_have_places};
 use crate::node::HostNode;
 use crate::posting::post;
@@ -39,35 +38,18 @@ impl<C: Component + Drop, S: GateSeat + Drop> HostNode<C, S> {
     fn hear<G: PortGate<Seat = S>>(&mut self, gate: &mut G, served: Served) -> Option<Event>
         requires served { self.old.known.service ≡ Some served }
         requires waits { served.heard ≡ false }
-        requires fits { G.fits gate.old self.old.seat }
-        requires node { G.node gate.old self.old.seat ≡ node_of self.old.slot self.old.first_port
-            (C.state self.old.inner) }
-        requires room { length self.old.log.items < vec_capacity self.old.log }
-        ensures fits { G.fits gate.new self.new.seat }
-        ensures spare { G.spare gate.new ≡ G.spare gate.old }
-        ensures node { G.node gate.new self.new.seat ≡ node_of self.new.slot self.new.first_port
-            (C.state self.new.inner) }
-        ensures others { (other : S) → S.slot_of other ≢ self.old.slot → G.fits gate.old other
-            → G.fits gate.new other × (G.node gate.new other ≡ G.node gate.old other) }
-        ensures moved { Moved (node_of self.old.slot self.old.first_port (C.state self.old.inner)) result
-            (C.state self.old.inner) (C.state self.new.inner) self.old.log.items self.new.log.items
-            (record { slot = S.slot_of self.old.seat; known = S.known self.old.seat; told = S.tells self.old.seat })
-            (record { slot = S.slot_of self.new.seat; known = S.known self.new.seat; told = S.tells self.new.seat })
-            (G.state gate.old) (G.state gate.new) }
-        ensures place { (self.new.slot ≡ self.old.slot) × (self.new.first_port ≡ self.old.first_port) }
-        ensures past { self.new.past ≡ self.old.past }
+        requires can { CanAct G.PortGate gate.old self.old }
+        ensures acts { Acts G.PortGate gate.old gate.new self.old self.new result }
         ensures room { result ≡ None → (self.new.log ≡ self.old.log) × (self.new.inner ≡ self.old.inner) }
         ensures waiting { self.new.waiting ≡ self.old.waiting }
         ensures asks_nothing { is_asking result ≡ false }
-        ensures exact { (s : State) → IsTold (G.state gate.old)
-            (node_of self.old.slot self.old.first_port (C.state self.old.inner)) (S.known self.old.seat) s
+        ensures exact { (s : State) → TellsState G.PortGate gate.old self.old s
             → result ≡ hears s served.port }
         ensures known { result ≡ None → self.new.known ≡ self.old.known }
         ensures number { is_move 2 result ≡ true }
-        ensures loads { TellsLoads (Keeps 2 self.old.first_port self.old.known) (S.loads self.old.seat)
-            (S.loads self.new.seat) }
-        ensures unheard { result ≡ None → TellsLoads (λ a b. IsLed served.port shows_in_more a.steps b.steps b.hear)
-            (S.loads self.old.seat) (S.loads self.new.seat) }
+        ensures loads { LoadsSo (Keeps 2 self.old.first_port self.old.known) self.old self.new }
+        ensures unheard { result ≡ None
+            → LoadsSo (λ a b. IsLed served.port shows_in_more a.steps b.steps b.hear) self.old self.new }
     {
         seats_have_places(gate, &self.seat);
         let port = served.port;
@@ -76,21 +58,12 @@ impl<C: Component + Drop, S: GateSeat + Drop> HostNode<C, S> {
             HearAnswer::NotYet { .. } => None,
             HearAnswer::Heard { value } => {
                 self.inner.heard(value);
-                keep(
-                    &mut self.log,
-                    &mut self.known,
-                    self.first_port,
-                    Event::Hear {
-                        port,
-                        serial,
-                        value,
-                    },
-                );
-                Some(Event::Hear {
+                let done = NodeEvent::Hear(Message {
                     port,
                     serial,
                     value,
-                })
+                });
+                Some(keep(&mut self.log, &mut self.known, self.first_port, done))
             }
         }
     }
@@ -107,51 +80,25 @@ impl<C: Component + Drop, S: GateSeat + Drop> HostNode<C, S> {
         requires ended { awaits self.old.known ≡ false }
         requires gives { moves.next (C.state self.old.inner) ≡ Some (next.Give value) }
         requires small { value < VALUE_LIMIT }
-        requires fits { G.fits gate.old self.old.seat }
-        requires node { G.node gate.old self.old.seat ≡ node_of self.old.slot self.old.first_port
-            (C.state self.old.inner) }
-        requires room { length self.old.log.items < vec_capacity self.old.log }
-        ensures fits { G.fits gate.new self.new.seat }
-        ensures spare { G.spare gate.new ≡ G.spare gate.old }
-        ensures node { G.node gate.new self.new.seat ≡ node_of self.new.slot self.new.first_port
-            (C.state self.new.inner) }
-        ensures others { (other : S) → S.slot_of other ≢ self.old.slot → G.fits gate.old other
-            → G.fits gate.new other × (G.node gate.new other ≡ G.node gate.old other) }
-        ensures moved { Moved (node_of self.old.slot self.old.first_port (C.state self.old.inner)) result
-            (C.state self.old.inner) (C.state self.new.inner) self.old.log.items self.new.log.items
-            (record { slot = S.slot_of self.old.seat; known = S.known self.old.seat; told = S.tells self.old.seat })
-            (record { slot = S.slot_of self.new.seat; known = S.known self.new.seat; told = S.tells self.new.seat })
-            (G.state gate.old) (G.state gate.new) }
-        ensures place { (self.new.slot ≡ self.old.slot) × (self.new.first_port ≡ self.old.first_port) }
-        ensures past { self.new.past ≡ self.old.past }
+        requires can { CanAct G.PortGate gate.old self.old }
+        ensures acts { Acts G.PortGate gate.old gate.new self.old self.new result }
         ensures waiting { self.new.waiting ≡ self.old.waiting }
         ensures event { result ≡ Some (event.Give served.port served.serial value) }
-        ensures exact { (s : State) → IsTold (G.state gate.old)
-            (node_of self.old.slot self.old.first_port (C.state self.old.inner)) (S.known self.old.seat) s
+        ensures exact { (s : State) → TellsState G.PortGate gate.old self.old s
             → result ≡ does_next s self.old.first_port served.port (next.Give value) }
-        ensures loads { TellsLoads (Keeps 2 self.old.first_port self.old.known) (S.loads self.old.seat)
-            (S.loads self.new.seat) }
+        ensures loads { LoadsSo (Keeps 2 self.old.first_port self.old.known) self.old self.new }
     {
         seats_have_places(gate, &self.seat);
         let port = served.port;
         let serial = served.serial;
         gate.give(&mut self.seat, port, value);
         self.inner.given();
-        keep(
-            &mut self.log,
-            &mut self.known,
-            self.first_port,
-            Event::Give {
-                port,
-                serial,
-                value,
-            },
-        );
-        Some(Event::Give {
+        let done = NodeEvent::Give(Message {
             port,
             serial,
             value,
-        })
+        });
+        Some(keep(&mut self.log, &mut self.known, self.first_port, done))
     }
 
     /// Sends the intermediate reply of the service.
@@ -166,51 +113,25 @@ impl<C: Component + Drop, S: GateSeat + Drop> HostNode<C, S> {
         requires ended { awaits self.old.known ≡ false }
         requires sends { moves.next (C.state self.old.inner) ≡ Some (next.More value) }
         requires small { value < VALUE_LIMIT }
-        requires fits { G.fits gate.old self.old.seat }
-        requires node { G.node gate.old self.old.seat ≡ node_of self.old.slot self.old.first_port
-            (C.state self.old.inner) }
-        requires room { length self.old.log.items < vec_capacity self.old.log }
-        ensures fits { G.fits gate.new self.new.seat }
-        ensures spare { G.spare gate.new ≡ G.spare gate.old }
-        ensures node { G.node gate.new self.new.seat ≡ node_of self.new.slot self.new.first_port
-            (C.state self.new.inner) }
-        ensures others { (other : S) → S.slot_of other ≢ self.old.slot → G.fits gate.old other
-            → G.fits gate.new other × (G.node gate.new other ≡ G.node gate.old other) }
-        ensures moved { Moved (node_of self.old.slot self.old.first_port (C.state self.old.inner)) result
-            (C.state self.old.inner) (C.state self.new.inner) self.old.log.items self.new.log.items
-            (record { slot = S.slot_of self.old.seat; known = S.known self.old.seat; told = S.tells self.old.seat })
-            (record { slot = S.slot_of self.new.seat; known = S.known self.new.seat; told = S.tells self.new.seat })
-            (G.state gate.old) (G.state gate.new) }
-        ensures place { (self.new.slot ≡ self.old.slot) × (self.new.first_port ≡ self.old.first_port) }
-        ensures past { self.new.past ≡ self.old.past }
+        requires can { CanAct G.PortGate gate.old self.old }
+        ensures acts { Acts G.PortGate gate.old gate.new self.old self.new result }
         ensures waiting { self.new.waiting ≡ self.old.waiting }
         ensures event { result ≡ Some (event.More served.port served.serial value) }
-        ensures exact { (s : State) → IsTold (G.state gate.old)
-            (node_of self.old.slot self.old.first_port (C.state self.old.inner)) (S.known self.old.seat) s
+        ensures exact { (s : State) → TellsState G.PortGate gate.old self.old s
             → result ≡ does_next s self.old.first_port served.port (next.More value) }
-        ensures loads { TellsLoads (Keeps 2 self.old.first_port self.old.known) (S.loads self.old.seat)
-            (S.loads self.new.seat) }
+        ensures loads { LoadsSo (Keeps 2 self.old.first_port self.old.known) self.old self.new }
     {
         seats_have_places(gate, &self.seat);
         let port = served.port;
         let serial = served.serial;
         gate.more(&mut self.seat, port, value);
         self.inner.more_given();
-        keep(
-            &mut self.log,
-            &mut self.known,
-            self.first_port,
-            Event::More {
-                port,
-                serial,
-                value,
-            },
-        );
-        Some(Event::More {
+        let done = NodeEvent::More(Message {
             port,
             serial,
             value,
-        })
+        });
+        Some(keep(&mut self.log, &mut self.known, self.first_port, done))
     }
 
     /// Makes the call that the service asks for, and posts the hint; or misses it.
@@ -227,37 +148,15 @@ impl<C: Component + Drop, S: GateSeat + Drop> HostNode<C, S> {
         requires asks { moves.next (C.state self.old.inner) ≡ Some (next.Ask ask) }
         requires depends { depends_on (C.state self.old.inner).kind 0 ask.require ≡ true }
         requires fits_ask { FitsRequest (C.state self.old.inner).kind ask }
-        requires fits { G.fits gate.old self.old.seat }
-        requires node { G.node gate.old self.old.seat ≡ node_of self.old.slot self.old.first_port
-            (C.state self.old.inner) }
-        requires room { length self.old.log.items < vec_capacity self.old.log }
-        ensures fits { G.fits gate.new self.new.seat }
-        ensures spare { G.spare gate.new ≡ G.spare gate.old }
-        ensures node { G.node gate.new self.new.seat ≡ node_of self.new.slot self.new.first_port
-            (C.state self.new.inner) }
-        ensures others { (other : S) → S.slot_of other ≢ self.old.slot → G.fits gate.old other
-            → G.fits gate.new other × (G.node gate.new other ≡ G.node gate.old other) }
-        ensures moved { Moved (node_of self.old.slot self.old.first_port (C.state self.old.inner)) result
-            (C.state self.old.inner) (C.state self.new.inner) self.old.log.items self.new.log.items
-            (record { slot = S.slot_of self.old.seat; known = S.known self.old.seat; told = S.tells self.old.seat })
-            (record { slot = S.slot_of self.new.seat; known = S.known self.new.seat; told = S.tells self.new.seat })
-            (G.state gate.old) (G.state gate.new) }
-        ensures place { (self.new.slot ≡ self.old.slot) × (self.new.first_port ≡ self.old.first_port) }
-        ensures past { self.new.past ≡ self.old.past }
-        ensures hint { HintOf (record {
-          state = G.state gate.old;
-          before = S.loads self.old.seat;
-          after = S.loads self.new.seat;
-        }) self.old.first_port result
-            (record { waiting = self.old.waiting; counts = H.counts hints.old; told = H.tells hints.old })
-            (record { waiting = self.new.waiting; counts = H.counts hints.new; told = H.tells hints.new }) }
-        ensures exact { (s : State) → IsTold (G.state gate.old)
-            (node_of self.old.slot self.old.first_port (C.state self.old.inner)) (S.known self.old.seat) s
+        requires can { CanAct G.PortGate gate.old self.old }
+        ensures acts { Acts G.PortGate gate.old gate.new self.old self.new result }
+        ensures hint { HintOf (gate_seen G.PortGate gate.old self.old self.new) self.old.first_port result
+            (hinted H.Hints hints.old self.old) (hinted H.Hints hints.new self.new) }
+        ensures exact { (s : State) → TellsState G.PortGate gate.old self.old s
             → result ≡ calls s (self.old.first_port + ask.require) ask.value }
         ensures number { is_move 2 result ≡ true }
-        ensures loads { TellsLoads (Keeps 2 self.old.first_port self.old.known) (S.loads self.old.seat)
-            (S.loads self.new.seat) }
-        ensures acts { is_some result ≡ true }
+        ensures loads { LoadsSo (Keeps 2 self.old.first_port self.old.known) self.old self.new }
+        ensures some { is_some result ≡ true }
     {
         seats_have_places(gate, &self.seat);
         let port = self.first_port + ask.require;
@@ -265,25 +164,16 @@ impl<C: Component + Drop, S: GateSeat + Drop> HostNode<C, S> {
         match gate.call(&mut self.seat, port, value) {
             CallAnswer::Missed { .. } => {
                 self.inner.answered(ask.require, 0);
-                keep(
-                    &mut self.log,
-                    &mut self.known,
-                    self.first_port,
-                    Event::Miss { port },
-                );
-                Some(Event::Miss { port })
+                let done = NodeEvent::Miss { port };
+                Some(keep(&mut self.log, &mut self.known, self.first_port, done))
             }
             CallAnswer::Called { serial, target } => {
-                keep(
-                    &mut self.log,
-                    &mut self.known,
-                    self.first_port,
-                    Event::Call {
-                        port,
-                        serial,
-                        value,
-                    },
-                );
+                let done = NodeEvent::Call(Message {
+                    port,
+                    serial,
+                    value,
+                });
+                let event = keep(&mut self.log, &mut self.known, self.first_port, done);
                 post(
                     &mut self.waiting,
                     hints,
@@ -291,11 +181,7 @@ impl<C: Component + Drop, S: GateSeat + Drop> HostNode<C, S> {
                     ask.require,
                     target,
                 );
-                Some(Event::Call {
-                    port,
-                    serial,
-                    value,
-                })
+                Some(event)
             }
         }
     }
@@ -310,37 +196,15 @@ impl<C: Component + Drop, S: GateSeat + Drop> HostNode<C, S> {
         requires served { self.old.known.service ≡ Some served }
         requires heard { served.heard ≡ true }
         requires ended { awaits self.old.known ≡ false }
-        requires fits { G.fits gate.old self.old.seat }
-        requires node { G.node gate.old self.old.seat ≡ node_of self.old.slot self.old.first_port
-            (C.state self.old.inner) }
-        requires room { length self.old.log.items < vec_capacity self.old.log }
-        ensures fits { G.fits gate.new self.new.seat }
-        ensures spare { G.spare gate.new ≡ G.spare gate.old }
-        ensures node { G.node gate.new self.new.seat ≡ node_of self.new.slot self.new.first_port
-            (C.state self.new.inner) }
-        ensures others { (other : S) → S.slot_of other ≢ self.old.slot → G.fits gate.old other
-            → G.fits gate.new other × (G.node gate.new other ≡ G.node gate.old other) }
-        ensures moved { Moved (node_of self.old.slot self.old.first_port (C.state self.old.inner)) result
-            (C.state self.old.inner) (C.state self.new.inner) self.old.log.items self.new.log.items
-            (record { slot = S.slot_of self.old.seat; known = S.known self.old.seat; told = S.tells self.old.seat })
-            (record { slot = S.slot_of self.new.seat; known = S.known self.new.seat; told = S.tells self.new.seat })
-            (G.state gate.old) (G.state gate.new) }
-        ensures place { (self.new.slot ≡ self.old.slot) × (self.new.first_port ≡ self.old.first_port) }
-        ensures past { self.new.past ≡ self.old.past }
-        ensures hint { HintOf (record {
-          state = G.state gate.old;
-          before = S.loads self.old.seat;
-          after = S.loads self.new.seat;
-        }) self.old.first_port result
-            (record { waiting = self.old.waiting; counts = H.counts hints.old; told = H.tells hints.old })
-            (record { waiting = self.new.waiting; counts = H.counts hints.new; told = H.tells hints.new }) }
-        ensures exact { (s : State) → IsTold (G.state gate.old)
-            (node_of self.old.slot self.old.first_port (C.state self.old.inner)) (S.known self.old.seat) s → result
+        requires can { CanAct G.PortGate gate.old self.old }
+        ensures acts { Acts G.PortGate gate.old gate.new self.old self.new result }
+        ensures hint { HintOf (gate_seen G.PortGate gate.old self.old self.new) self.old.first_port result
+            (hinted H.Hints hints.old self.old) (hinted H.Hints hints.new self.new) }
+        ensures exact { (s : State) → TellsState G.PortGate gate.old self.old s → result
             ≡ option_and_then (does_next s self.old.first_port served.port) (moves.next (C.state self.old.inner)) }
         ensures number { is_move 2 result ≡ true }
-        ensures loads { TellsLoads (Keeps 2 self.old.first_port self.old.known) (S.loads self.old.seat)
-            (S.loads self.new.seat) }
-        ensures acts { is_some result ≡ true }
+        ensures loads { LoadsSo (Keeps 2 self.old.first_port self.old.known) self.old self.new }
+        ensures some { is_some result ≡ true }
     {
         match self.inner.next() {
             Next::Give(value) => self.give(gate, served, value),
@@ -358,39 +222,17 @@ impl<C: Component + Drop, S: GateSeat + Drop> HostNode<C, S> {
     ) -> Option<Event>
         requires served { self.old.known.service ≡ Some served }
         requires ended { awaits self.old.known ≡ false }
-        requires fits { G.fits gate.old self.old.seat }
-        requires node { G.node gate.old self.old.seat ≡ node_of self.old.slot self.old.first_port
-            (C.state self.old.inner) }
-        requires room { length self.old.log.items < vec_capacity self.old.log }
-        ensures fits { G.fits gate.new self.new.seat }
-        ensures spare { G.spare gate.new ≡ G.spare gate.old }
-        ensures node { G.node gate.new self.new.seat ≡ node_of self.new.slot self.new.first_port
-            (C.state self.new.inner) }
-        ensures others { (other : S) → S.slot_of other ≢ self.old.slot → G.fits gate.old other
-            → G.fits gate.new other × (G.node gate.new other ≡ G.node gate.old other) }
-        ensures moved { Moved (node_of self.old.slot self.old.first_port (C.state self.old.inner)) result
-            (C.state self.old.inner) (C.state self.new.inner) self.old.log.items self.new.log.items
-            (record { slot = S.slot_of self.old.seat; known = S.known self.old.seat; told = S.tells self.old.seat })
-            (record { slot = S.slot_of self.new.seat; known = S.known self.new.seat; told = S.tells self.new.seat })
-            (G.state gate.old) (G.state gate.new) }
-        ensures place { (self.new.slot ≡ self.old.slot) × (self.new.first_port ≡ self.old.first_port) }
-        ensures past { self.new.past ≡ self.old.past }
+        requires can { CanAct G.PortGate gate.old self.old }
+        ensures acts { Acts G.PortGate gate.old gate.new self.old self.new result }
         ensures room { result ≡ None → (self.new.log ≡ self.old.log) × (self.new.inner ≡ self.old.inner) }
-        ensures hint { HintOf (record {
-          state = G.state gate.old;
-          before = S.loads self.old.seat;
-          after = S.loads self.new.seat;
-        }) self.old.first_port result
-            (record { waiting = self.old.waiting; counts = H.counts hints.old; told = H.tells hints.old })
-            (record { waiting = self.new.waiting; counts = H.counts hints.new; told = H.tells hints.new }) }
+        ensures hint { HintOf (gate_seen G.PortGate gate.old self.old self.new) self.old.first_port result
+            (hinted H.Hints hints.old self.old) (hinted H.Hints hints.new self.new) }
         ensures quiet { result ≡ None → (hints.new ≡ hints.old) × (self.new.waiting ≡ self.old.waiting) }
-        ensures exact { (s : State) → IsTold (G.state gate.old)
-            (node_of self.old.slot self.old.first_port (C.state self.old.inner)) (S.known self.old.seat) s
+        ensures exact { (s : State) → TellsState G.PortGate gate.old self.old s
             → result ≡ serves s self.old.slot (C.state self.old.inner) }
         ensures known { result ≡ None → self.new.known ≡ self.old.known }
         ensures number { is_move 2 result ≡ true }
-        ensures loads { TellsLoads (Keeps 2 self.old.first_port self.old.known) (S.loads self.old.seat)
-            (S.loads self.new.seat) }
+        ensures loads { LoadsSo (Keeps 2 self.old.first_port self.old.known) self.old self.new }
         ensures held { result ≡ None
             → IsHeld self.old.known (Some served) (S.loads self.old.seat) (S.loads self.new.seat) }
     {
@@ -407,39 +249,17 @@ impl<C: Component + Drop, S: GateSeat + Drop> HostNode<C, S> {
         gate: &mut G,
         hints: &mut H,
     ) -> Option<Event>
-        requires fits { G.fits gate.old self.old.seat }
-        requires node { G.node gate.old self.old.seat ≡ node_of self.old.slot self.old.first_port
-            (C.state self.old.inner) }
-        requires room { length self.old.log.items < vec_capacity self.old.log }
-        ensures fits { G.fits gate.new self.new.seat }
-        ensures spare { G.spare gate.new ≡ G.spare gate.old }
-        ensures node { G.node gate.new self.new.seat ≡ node_of self.new.slot self.new.first_port
-            (C.state self.new.inner) }
-        ensures others { (other : S) → S.slot_of other ≢ self.old.slot → G.fits gate.old other
-            → G.fits gate.new other × (G.node gate.new other ≡ G.node gate.old other) }
-        ensures moved { Moved (node_of self.old.slot self.old.first_port (C.state self.old.inner)) result
-            (C.state self.old.inner) (C.state self.new.inner) self.old.log.items self.new.log.items
-            (record { slot = S.slot_of self.old.seat; known = S.known self.old.seat; told = S.tells self.old.seat })
-            (record { slot = S.slot_of self.new.seat; known = S.known self.new.seat; told = S.tells self.new.seat })
-            (G.state gate.old) (G.state gate.new) }
-        ensures place { (self.new.slot ≡ self.old.slot) × (self.new.first_port ≡ self.old.first_port) }
-        ensures past { self.new.past ≡ self.old.past }
+        requires can { CanAct G.PortGate gate.old self.old }
+        ensures acts { Acts G.PortGate gate.old gate.new self.old self.new result }
         ensures room { result ≡ None → (self.new.log ≡ self.old.log) × (self.new.inner ≡ self.old.inner) }
-        ensures hint { HintOf (record {
-          state = G.state gate.old;
-          before = S.loads self.old.seat;
-          after = S.loads self.new.seat;
-        }) self.old.first_port result
-            (record { waiting = self.old.waiting; counts = H.counts hints.old; told = H.tells hints.old })
-            (record { waiting = self.new.waiting; counts = H.counts hints.new; told = H.tells hints.new }) }
+        ensures hint { HintOf (gate_seen G.PortGate gate.old self.old self.new) self.old.first_port result
+            (hinted H.Hints hints.old self.old) (hinted H.Hints hints.new self.new) }
         ensures quiet { result ≡ None → (hints.new ≡ hints.old) × (self.new.waiting ≡ self.old.waiting) }
-        ensures exact { (s : State) → IsTold (G.state gate.old)
-            (node_of self.old.slot self.old.first_port (C.state self.old.inner)) (S.known self.old.seat) s
+        ensures exact { (s : State) → TellsState G.PortGate gate.old self.old s
             → result ≡ serves s self.old.slot (C.state self.old.inner) }
         ensures known { result ≡ None → self.new.known ≡ self.old.known }
         ensures number { is_move 2 result ≡ true }
-        ensures loads { TellsLoads (Keeps 2 self.old.first_port self.old.known) (S.loads self.old.seat)
-            (S.loads self.new.seat) }
+        ensures loads { LoadsSo (Keeps 2 self.old.first_port self.old.known) self.old self.new }
         ensures held { result ≡ None
             → IsHeld self.old.known self.old.known.service (S.loads self.old.seat) (S.loads self.new.seat) }
     {

@@ -1,10 +1,9 @@
 //! A node's turn.
 
-ghost use Rattle.std.specs.Prelude.{◌≡◌, ◌≢◌, ℕ, ◌+◌, ◌<◌, false, List, length, vec_capacity, None, Some, OnOk, OnErr, Ok};
-ghost use Rattle.node_host.specs.Hosted.{node_of};
+ghost use Rattle.std.specs.Prelude.{◌≡◌, ℕ, ◌+◌, ◌<◌, false, List, length, vec_capacity, None, Some, OnOk, OnErr, Ok};
+ghost use Rattle.node_host.specs.Acts.{Acts, TellsState, gate_seen, hinted, node_at};
 ghost use Rattle.node_host.specs.Moved.{Moved};
 ghost use Rattle.node_host.specs.Posting.{IsHinted};
-ghost use Rattle.node_host.specs.Told.{IsTold};
 ghost use Rattle.node_host.specs.Turning.{event_of};
 ghost use Rattle.node_host.specs.declared.turning.Turn.TheVariants as turn;
 ghost use Rattle.node_host.specs.Trying.{IsAsked, own_box};
@@ -49,42 +48,22 @@ impl<C: Component + Drop, S: GateSeat + Drop> HostNode<C, S> {
         begins: bool,
     ) -> Result<Turn, NoMemory>
         requires fits { G.fits gate.old self.old.seat }
-        requires node { G.node gate.old self.old.seat ≡ node_of self.old.slot self.old.first_port
-            (C.state self.old.inner) }
-        ensures fits { G.fits gate.new self.new.seat }
-        ensures spare { G.spare gate.new ≡ G.spare gate.old }
-        ensures node { G.node gate.new self.new.seat ≡ node_of self.new.slot self.new.first_port
-            (C.state self.new.inner) }
-        ensures others { (other : S) → S.slot_of other ≢ self.old.slot → G.fits gate.old other
-            → G.fits gate.new other × (G.node gate.new other ≡ G.node gate.old other) }
-        ensures moved { Moved (node_of self.old.slot self.old.first_port (C.state self.old.inner)) (event_of result)
-            (C.state self.old.inner) (C.state self.new.inner) self.old.log.items self.new.log.items
-            (record { slot = S.slot_of self.old.seat; known = S.known self.old.seat; told = S.tells self.old.seat })
-            (record { slot = S.slot_of self.new.seat; known = S.known self.new.seat; told = S.tells self.new.seat })
-            (G.state gate.old) (G.state gate.new) }
-        ensures place { (self.new.slot ≡ self.old.slot) × (self.new.first_port ≡ self.old.first_port) }
-        ensures past { self.new.past ≡ self.old.past }
+        requires node { G.node gate.old self.old.seat ≡ node_at self.old }
+        ensures acts { Acts G.PortGate gate.old gate.new self.old self.new (event_of result) }
         ensures memory { OnErr result ((self.new.waiting ≡ self.old.waiting) × (self.new.seat ≡ self.old.seat)
             × (gate.new ≡ gate.old) × (hints.new ≡ hints.old)) }
         ensures full { OnErr result (length self.old.log.items < vec_capacity self.old.log → C.has_room self.old.inner
             → ⊥) }
-        ensures exact { (s : State) (held : List ℕ) → IsTold (G.state gate.old)
-            (node_of self.old.slot self.old.first_port (C.state self.old.inner)) (S.known self.old.seat) s
+        ensures exact { (s : State) (held : List ℕ) → TellsState G.PortGate gate.old self.old s
             → H.tells hints.old self.old.slot ≡ Some held → OnOk result (event_of result ≡ move_of s self.old.slot
             (C.state self.old.inner) (own_box self.old.slot self.old.first_port self.old.waiting held) begins) }
-        ensures hints { OnOk result (IsHinted (record {
-          state = G.state gate.old;
-          before = S.loads self.old.seat;
-          after = S.loads self.new.seat;
-        }) (node_of self.old.slot self.old.first_port (C.state self.old.inner))
+        ensures hints { OnOk result (IsHinted (gate_seen G.PortGate gate.old self.old self.new) (node_at self.old)
             (S.known self.old.seat) (λ s. looks s self.old.slot (C.state self.old.inner)) (event_of result)
-            (record { waiting = self.old.waiting; counts = H.counts hints.old; told = H.tells hints.old })
-            (record { waiting = self.new.waiting; counts = H.counts hints.new; told = H.tells hints.new })) }
+            (hinted H.Hints hints.old self.old) (hinted H.Hints hints.new self.new)) }
         ensures looked { result ≡ Ok turn.Still → (C.state self.old.inner).service ≡ None
             → IsAsked (H.counts hints.old self.old.slot) (H.counts hints.new self.old.slot) }
-        ensures tried { OnOk result (IsTried (node_of self.old.slot self.old.first_port (C.state self.old.inner))
-            (C.state self.old.inner) self.old.known begins (event_of result) (S.loads self.old.seat)
-            (S.loads self.new.seat)) }
+        ensures tried { OnOk result (IsTried (node_at self.old) (C.state self.old.inner) self.old.known begins
+            (event_of result) (S.loads self.old.seat) (S.loads self.new.seat)) }
         ensures no_begin { begins ≡ false → is_begin (event_of result) ≡ false }
     {
         reserve(&mut self.log)?;

@@ -2,10 +2,15 @@
 use Rattle.std.specs.Prelude.{ℕ, Bool, true, false, List, [], map, slice_get, Option, Some}
 use Rattle.std.specs.Option.{option_map_or}
 use Rattle.component_trait.specs.States.{NodeState}
+use Rattle.state_handover.specs.contracts.any_node.AnyNodeComponent.TheImpl.{ghosts as nodes}
 use Rattle.state_handover.specs.declared.any_node.AnyNode.{AnyNode}
 use Rattle.node_table.specs.Entries.{SlotEntry, Predecessor, gone, here}
 use Rattle.node_table.specs.declared.held.Held.{Held}
 use Rattle.node_table.specs.declared.held.Held.TheVariants as held
+
+-- the state of the machine of a component's kind
+abbrev pub component_state : AnyNode → NodeState
+component_state = nodes.state
 
 -- states are read as the component tells them
 abbrev pub seen : (AnyNode → NodeState) → Held → SlotEntry

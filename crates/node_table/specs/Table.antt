@@ -1,14 +1,18 @@
 -- Which worlds a table shows, what it keeps of its nodes, and for what it has memory.
-use Rattle.std.specs.Prelude.{◌≡◌, ℕ, ◌<◌, true, min, nat_lt, List, map, Option}
+use Rattle.std.specs.Prelude.{◌≡◌, ℕ, ◌<◌, true, min, nat_lt, List, map, length, Option, None}
 use Rattle.std.specs.Option.{option_map_or}
 use Rattle.component_trait.specs.States.{NodeState}
+use Rattle.config_graph.specs.declared.node.Node.{Node}
+use Rattle.port_queue.specs.contracts.plain.PlainHintsHints.TheImpl.{ghosts as hints}
 use Rattle.port_queue.specs.declared.plain.PlainHints.{PlainHints}
+use Rattle.quiesce_core.specs.Rules.{denial}
 use Rattle.quiesce_core.specs.State.{State}
 use Rattle.quiesce_core.specs.declared.event.Event.{Event}
+use Rattle.quiesce_core.specs.declared.event.Event.TheVariants.{Make}
 use Rattle.state_handover.specs.declared.any_node.AnyNode.{AnyNode}
-use Rattle.turns.specs.World.{World}
+use Rattle.turns.specs.World.{World, with_event}
 use Rattle.node_table.specs.Entries.{SlotEntry, log_in}
-use Rattle.node_table.specs.Seen.{seen}
+use Rattle.node_table.specs.Seen.{component_state, seen}
 use Rattle.node_table.specs.Worlds.{ShowsIn}
 use Rattle.node_table.specs.declared.table.NodeTable.{NodeTable}
 
@@ -26,9 +30,36 @@ entries state_of t = map (seen state_of) t.nodes.items
 abbrev pub ShowsWorld : (AnyNode → NodeState) → (PlainHints → ℕ → Option (List ℕ)) → NodeTable → World → Type 0
 ShowsWorld state_of tells t w = ShowsIn (machine t) (entries state_of t) t.line_ends.items (tells t.hints) w
 
+-- and as tables have them
+abbrev pub Shows : NodeTable → World → Type 0
+Shows t w = ShowsWorld component_state hints.tells t w
+
+-- In a world that the table shows no rule denies the event; and what showed a world shows it with the event. A node is
+-- made in the next slot.
+abbrev pub Allows : NodeTable → Event → Type 0
+Allows t e = (w : World) × Shows t w × (denial w.machine e ≡ None)
+
+abbrev pub Follows : NodeTable → NodeTable → Event → Type 0
+Follows t t' e = (w : World) → Shows t w → Shows t' (with_event w e)
+
+abbrev pub made_in : World → Node → Option ℕ → Event
+made_in w n from = Make (length w.machine.config.slots) n from
+
+abbrev pub AllowsNode : NodeTable → Node → Option ℕ → Type 0
+AllowsNode t n from = (w : World) × Shows t w × (denial w.machine (made_in w n from) ≡ None)
+
+abbrev pub FollowsNode : NodeTable → NodeTable → Node → Option ℕ → Type 0
+FollowsNode t t' n from = (w : World) → Shows t w → Shows t' (with_event w (made_in w n from))
+
 -- what each node made did, by slot
 abbrev pub logs : (AnyNode → NodeState) → NodeTable → List (List Event)
 logs state_of t = map (log_in (entries state_of t) t.line_ends.items) (entries state_of t)
+
+abbrev pub entries_of : NodeTable → List SlotEntry
+entries_of t = entries component_state t
+
+abbrev pub logs_of : NodeTable → List (List Event)
+logs_of t = logs component_state t
 
 -- there is memory for so many nodes more, each of which may take over the state of one in a slot below `sources`
 abbrev pub spare : NodeTable → ℕ

@@ -1,23 +1,21 @@
 //! How a table is made, and nodes in it.
 
 ghost use Rattle.std.specs.Prelude.{◌≡◌, ◌+◌, ◌<◌, ◌≤◌, ◌++◌, ◌∷◌, [], None, Some, true, IfOk, length, slice_get, slice_set};
-ghost use Rattle.quiesce_core.specs.Rules.{denial};
 ghost use Rattle.quiesce_core.specs.declared.event.Event.TheVariants as event;
-ghost use Rattle.turns.specs.World.{World, nowhere, with_event};
+ghost use Rattle.turns.specs.World.{nowhere};
 ghost use Rattle.node_table.specs.Rooms.{has_past_room};
 ghost use Rattle.node_table.specs.Seen.{is_node, line_at};
-ghost use Rattle.node_table.specs.Table.{HasRoom, ShowsWorld, sources, spare};
+ghost use Rattle.node_table.specs.Table.{AllowsNode, FollowsNode, HasRoom, Shows, sources, spare};
 ghost use Rattle.node_table.specs.declared.held.Held.TheVariants as held;
 
 use crate::handed::Handed;
 use crate::held::Held;
 use crate::making::{host_first, host_from};
 use crate::table::NodeTable;
-use component_trait::Component;
 use config_graph::{NoMemory, Node};
 use node_host::HostNode;
 use port_gate::{CoreGate, CoreSeat};
-use port_queue::{Hints, PlainHints};
+use port_queue::PlainHints;
 use quiesce_core::Core;
 use state_handover::AnyNode;
 use std::alloc::Global;
@@ -36,8 +34,7 @@ fn first_of_line(node: &HostNode<AnyNode, CoreSeat>) -> u32
 impl NodeTable {
     /// Nothing is made.
     pub fn new(alloc: Global) -> Result<NodeTable, NoMemory>
-        ensures shows { IfOk result
-            (λ t. ShowsWorld ⟦<AnyNode as Component>⟧.state ⟦<PlainHints as Hints>⟧.tells t nowhere) }
+        ensures shows { IfOk result (λ t. Shows t nowhere) }
     {
         let hints = PlainHints::new(alloc)?;
         Ok(NodeTable {
@@ -93,13 +90,9 @@ impl NodeTable {
 
     /// Makes the first node of a line.
     fn make_first(&mut self, node: Node)
-        requires allowed { (w : World) × ShowsWorld ⟦<AnyNode as Component>⟧.state ⟦<PlainHints as Hints>⟧.tells
-            self.old w × (denial w.machine (event.Make (length w.machine.config.slots) node None) ≡ None) }
+        requires allowed { AllowsNode self.old node None }
         requires room { 0 < spare self.old }
-        ensures shows { (w : World)
-            → ShowsWorld ⟦<AnyNode as Component>⟧.state ⟦<PlainHints as Hints>⟧.tells self.old w
-            → ShowsWorld ⟦<AnyNode as Component>⟧.state ⟦<PlainHints as Hints>⟧.tells self.new
-            (with_event w (event.Make (length w.machine.config.slots) node None)) }
+        ensures shows { FollowsNode self.old self.new node None }
         ensures room { (spare self.new + 1 ≡ spare self.old) × (sources self.new ≡ sources self.old) }
     {
         let made = self.gate.core.made();
@@ -110,13 +103,9 @@ impl NodeTable {
 
     /// Makes a node that takes over the state of the one in a slot.
     fn make_from(&mut self, node: Node, source: u32)
-        requires allowed { (w : World) × ShowsWorld ⟦<AnyNode as Component>⟧.state ⟦<PlainHints as Hints>⟧.tells
-            self.old w × (denial w.machine (event.Make (length w.machine.config.slots) node (Some source)) ≡ None) }
+        requires allowed { AllowsNode self.old node (Some source) }
         requires room { (0 < spare self.old) × (source < sources self.old) }
-        ensures shows { (w : World)
-            → ShowsWorld ⟦<AnyNode as Component>⟧.state ⟦<PlainHints as Hints>⟧.tells self.old w
-            → ShowsWorld ⟦<AnyNode as Component>⟧.state ⟦<PlainHints as Hints>⟧.tells self.new
-            (with_event w (event.Make (length w.machine.config.slots) node (Some source))) }
+        ensures shows { FollowsNode self.old self.new node (Some source) }
         ensures room { (spare self.new + 1 ≡ spare self.old) × (sources self.new ≡ sources self.old) }
     {
         let made = self.gate.core.made();
@@ -130,13 +119,9 @@ impl NodeTable {
     /// Makes a node in the next slot, which takes over the state of the one in slot `from` where there is one. It
     /// takes no memory.
     pub fn make(&mut self, node: Node, from: Option<u32>)
-        requires allowed { (w : World) × ShowsWorld ⟦<AnyNode as Component>⟧.state ⟦<PlainHints as Hints>⟧.tells
-            self.old w × (denial w.machine (event.Make (length w.machine.config.slots) node from) ≡ None) }
+        requires allowed { AllowsNode self.old node from }
         requires room { HasRoom self.old from }
-        ensures shows { (w : World)
-            → ShowsWorld ⟦<AnyNode as Component>⟧.state ⟦<PlainHints as Hints>⟧.tells self.old w
-            → ShowsWorld ⟦<AnyNode as Component>⟧.state ⟦<PlainHints as Hints>⟧.tells self.new
-            (with_event w (event.Make (length w.machine.config.slots) node from)) }
+        ensures shows { FollowsNode self.old self.new node from }
         ensures room { (spare self.new + 1 ≡ spare self.old) × (sources self.new ≡ sources self.old) }
     {
         match from {

@@ -1,28 +1,20 @@
 //! Events of the change that make no node. None takes memory.
 
-ghost use Rattle.std.specs.Prelude.{◌≡◌, true, false, None};
+ghost use Rattle.std.specs.Prelude.{◌≡◌, true, false};
 ghost use Rattle.quiesce_core.specs.Doers.{is_make, is_of_change};
-ghost use Rattle.quiesce_core.specs.Rules.{denial};
 ghost use Rattle.quiesce_core.specs.declared.event.Event.TheVariants as event;
-ghost use Rattle.turns.specs.World.{World, with_event};
-ghost use Rattle.node_table.specs.Table.{KeepsRoom, ShowsWorld};
+ghost use Rattle.node_table.specs.Table.{Allows, Follows, KeepsRoom};
 
 use crate::table::NodeTable;
-use component_trait::Component;
-use port_queue::{Hints, PlainHints};
 use quiesce_core::Event;
-use state_handover::AnyNode;
 
 impl NodeTable {
     /// Lets an event of the change happen that makes no node.
     fn perform(&mut self, event: &Event)
         requires by_change { is_of_change event.now ≡ true }
         requires no_make { is_make event.now ≡ false }
-        requires allowed { (w : World) × ShowsWorld ⟦<AnyNode as Component>⟧.state ⟦<PlainHints as Hints>⟧.tells
-            self.old w × (denial w.machine event.now ≡ None) }
-        ensures shows { (w : World)
-            → ShowsWorld ⟦<AnyNode as Component>⟧.state ⟦<PlainHints as Hints>⟧.tells self.old w → ShowsWorld
-            ⟦<AnyNode as Component>⟧.state ⟦<PlainHints as Hints>⟧.tells self.new (with_event w event.now) }
+        requires allowed { Allows self.old event.now }
+        ensures shows { Follows self.old self.new event.now }
         ensures room { KeepsRoom self.old self.new }
     {
         self.gate.core.perform(event);
@@ -30,34 +22,24 @@ impl NodeTable {
 
     /// Lets no node begin a transaction at the port any more.
     pub fn close(&mut self, port: u32)
-        requires allowed { (w : World) × ShowsWorld ⟦<AnyNode as Component>⟧.state ⟦<PlainHints as Hints>⟧.tells
-            self.old w × (denial w.machine (event.Close port) ≡ None) }
-        ensures shows { (w : World)
-            → ShowsWorld ⟦<AnyNode as Component>⟧.state ⟦<PlainHints as Hints>⟧.tells self.old w → ShowsWorld
-            ⟦<AnyNode as Component>⟧.state ⟦<PlainHints as Hints>⟧.tells self.new (with_event w (event.Close port)) }
+        requires allowed { Allows self.old (event.Close port) }
+        ensures shows { Follows self.old self.new (event.Close port) }
         ensures room { KeepsRoom self.old self.new }
     {
         self.perform(&Event::Close { port });
     }
 
     pub fn reopen(&mut self, port: u32)
-        requires allowed { (w : World) × ShowsWorld ⟦<AnyNode as Component>⟧.state ⟦<PlainHints as Hints>⟧.tells
-            self.old w × (denial w.machine (event.Reopen port) ≡ None) }
-        ensures shows { (w : World)
-            → ShowsWorld ⟦<AnyNode as Component>⟧.state ⟦<PlainHints as Hints>⟧.tells self.old w → ShowsWorld
-            ⟦<AnyNode as Component>⟧.state ⟦<PlainHints as Hints>⟧.tells self.new (with_event w (event.Reopen port)) }
+        requires allowed { Allows self.old (event.Reopen port) }
+        ensures shows { Follows self.old self.new (event.Reopen port) }
         ensures room { KeepsRoom self.old self.new }
     {
         self.perform(&Event::Reopen { port });
     }
 
     pub fn link(&mut self, port: u32, node: u32, provide: u32)
-        requires allowed { (w : World) × ShowsWorld ⟦<AnyNode as Component>⟧.state ⟦<PlainHints as Hints>⟧.tells
-            self.old w × (denial w.machine (event.Link port node provide) ≡ None) }
-        ensures shows { (w : World)
-            → ShowsWorld ⟦<AnyNode as Component>⟧.state ⟦<PlainHints as Hints>⟧.tells self.old w
-            → ShowsWorld ⟦<AnyNode as Component>⟧.state ⟦<PlainHints as Hints>⟧.tells self.new
-            (with_event w (event.Link port node provide)) }
+        requires allowed { Allows self.old (event.Link port node provide) }
+        ensures shows { Follows self.old self.new (event.Link port node provide) }
         ensures room { KeepsRoom self.old self.new }
     {
         self.perform(&Event::Link {
@@ -68,11 +50,8 @@ impl NodeTable {
     }
 
     pub fn unlink(&mut self, port: u32)
-        requires allowed { (w : World) × ShowsWorld ⟦<AnyNode as Component>⟧.state ⟦<PlainHints as Hints>⟧.tells
-            self.old w × (denial w.machine (event.Unlink port) ≡ None) }
-        ensures shows { (w : World)
-            → ShowsWorld ⟦<AnyNode as Component>⟧.state ⟦<PlainHints as Hints>⟧.tells self.old w → ShowsWorld
-            ⟦<AnyNode as Component>⟧.state ⟦<PlainHints as Hints>⟧.tells self.new (with_event w (event.Unlink port)) }
+        requires allowed { Allows self.old (event.Unlink port) }
+        ensures shows { Follows self.old self.new (event.Unlink port) }
         ensures room { KeepsRoom self.old self.new }
     {
         self.perform(&Event::Unlink { port });
@@ -80,11 +59,8 @@ impl NodeTable {
 
     /// Removes a node. It is kept, with its log, and another may take its state over.
     pub fn remove(&mut self, slot: u32)
-        requires allowed { (w : World) × ShowsWorld ⟦<AnyNode as Component>⟧.state ⟦<PlainHints as Hints>⟧.tells
-            self.old w × (denial w.machine (event.Remove slot) ≡ None) }
-        ensures shows { (w : World)
-            → ShowsWorld ⟦<AnyNode as Component>⟧.state ⟦<PlainHints as Hints>⟧.tells self.old w → ShowsWorld
-            ⟦<AnyNode as Component>⟧.state ⟦<PlainHints as Hints>⟧.tells self.new (with_event w (event.Remove slot)) }
+        requires allowed { Allows self.old (event.Remove slot) }
+        ensures shows { Follows self.old self.new (event.Remove slot) }
         ensures room { KeepsRoom self.old self.new }
     {
         self.perform(&Event::Remove { node: slot });

@@ -7,7 +7,7 @@ ghost use Rattle.component_trait.specs.Making.{handed_over, new_node};
 ghost use Rattle.port_gate.specs.Seats.{IsWithinLimits};
 ghost use Rattle.quiesce_core.specs.Knowledge.{nothing_known};
 ghost use Rattle.state_handover.specs.Making.{FitsKind};
-ghost use Rattle.node_table.specs.Seen.{past_in};
+ghost use Rattle.node_table.specs.Seen.{component_state, past_in};
 ghost use Rattle.node_table.specs.declared.held.Held.TheVariants as held;
 
 use component_trait::Component;
@@ -28,7 +28,7 @@ pub fn host_first(
     requires fits { FitsKind kind arg }
     requires limits { IsWithinLimits (record { slot = slot; kind = kind; first = first_port }) }
     ensures place { (result.slot ≡ slot) × (result.first_port ≡ first_port) }
-    ensures state { ⟦<AnyNode as Component>⟧.state result.inner ≡ new_node kind arg }
+    ensures state { component_state result.inner ≡ new_node kind arg }
     ensures known { result.seat.known ≡ nothing_known }
     ensures log { result.log.items ≡ [] }
     ensures past { result.past.items ≡ [] }
@@ -54,22 +54,22 @@ pub fn host_from(
     first_port: u32,
     arg: Option<u32>,
 ) -> HostNode<AnyNode, CoreSeat>
-    requires rests { (⟦<AnyNode as Component>⟧.state old.inner).service ≡ None }
-    requires old_arg { option_map_or (λ a. a) (argument (⟦<AnyNode as Component>⟧.state old.inner))
-        0 ≡ (⟦<AnyNode as Component>⟧.state old.inner).arg }
-    requires fits { FitsKind (⟦<AnyNode as Component>⟧.state old.inner).kind arg }
+    requires rests { (component_state old.inner).service ≡ None }
+    requires old_arg { option_map_or (λ a. a) (argument (component_state old.inner))
+        0 ≡ (component_state old.inner).arg }
+    requires fits { FitsKind (component_state old.inner).kind arg }
     requires limits { IsWithinLimits
-        (record { slot = slot; kind = (⟦<AnyNode as Component>⟧.state old.inner).kind; first = first_port }) }
+        (record { slot = slot; kind = (component_state old.inner).kind; first = first_port }) }
     requires room { length old.past.items < vec_capacity old.past }
     ensures place { (result.slot ≡ slot) × (result.first_port ≡ first_port) }
-    ensures state { ⟦<AnyNode as Component>⟧.state result.inner ≡ handed_over
-        (⟦<AnyNode as Component>⟧.state old.inner).kind arg (⟦<AnyNode as Component>⟧.state old.inner).kept }
+    ensures state { component_state result.inner ≡ handed_over
+        (component_state old.inner).kind arg (component_state old.inner).kept }
     ensures known { result.seat.known ≡ nothing_known }
     ensures log { result.log.items ≡ [] }
     ensures past { past_in (held.Node result) ≡ past_in (held.Node old) ++ record {
       slot = old.slot;
       first = old.first_port;
-      arg = (⟦<AnyNode as Component>⟧.state old.inner).arg;
+      arg = (component_state old.inner).arg;
       log = old.log.items;
     } ∷ [] }
     ensures waiting { result.waiting ≡ None ∷ None ∷ [] }

@@ -10,15 +10,14 @@ ghost use Rattle.quiesce_core.specs.declared.state.Slot.{Slot};
 ghost use Rattle.turns.specs.World.{World, state_of};
 ghost use Rattle.node_table.specs.Entries.{gone, log_in};
 ghost use Rattle.node_table.specs.Holding.{HasLog};
-ghost use Rattle.node_table.specs.Table.{ShowsWorld, entries, logs, machine};
+ghost use Rattle.node_table.specs.Seen.{component_state};
+ghost use Rattle.node_table.specs.Table.{Shows, entries_of, logs_of, machine};
 
 use crate::handed::Handed;
 use crate::held::Held;
 use crate::table::NodeTable;
-use component_trait::Component;
 use config_graph::Made;
 use gate_word::Word;
-use port_queue::{Hints, PlainHints};
 use quiesce_core::Event;
 use state_handover::AnyNode;
 
@@ -76,9 +75,8 @@ impl NodeTable {
 
     /// The log of a node that was handed over.
     fn past_log(&self, handed: Handed) -> &[Event]
-        requires there { ∥ HasLog (entries ⟦<AnyNode as Component>⟧.state self.now) self.now.line_ends.items handed ∥₁ }
-        ensures { result.now ≡ log_in (entries ⟦<AnyNode as Component>⟧.state self.now) self.now.line_ends.items
-            (gone handed) }
+        requires there { ∥ HasLog (entries_of self.now) self.now.line_ends.items handed ∥₁ }
+        ensures { result.now ≡ log_in (entries_of self.now) self.now.line_ends.items (gone handed) }
     {
         let end = self.line_ends[handed.line as usize];
         match &self.nodes[end as usize] {
@@ -90,11 +88,10 @@ impl NodeTable {
     /// All that the node in a slot did, whether it is live, was removed or handed its state over.
     pub fn log(&self, slot: u32) -> &[Event]
         requires made { slot < length (machine self.now).config.slots }
-        requires some { ∥ ((w : World)
-            × ShowsWorld ⟦<AnyNode as Component>⟧.state ⟦<PlainHints as Hints>⟧.tells self.now w) ∥₁ }
-        ensures log { (w : World) → ShowsWorld ⟦<AnyNode as Component>⟧.state ⟦<PlainHints as Hints>⟧.tells self.now w
+        requires some { ∥ ((w : World) × Shows self.now w) ∥₁ }
+        ensures log { (w : World) → Shows self.now w
             → result.now ≡ done_by slot w.events }
-        ensures by_slot { result.now ≡ slice_index_or (logs ⟦<AnyNode as Component>⟧.state self.now) slot [] }
+        ensures by_slot { result.now ≡ slice_index_or (logs_of self.now) slot [] }
     {
         match &self.nodes[slot as usize] {
             Held::Node(node) => &node.log,
@@ -106,11 +103,9 @@ impl NodeTable {
     /// state over.
     pub fn component(&self, slot: u32) -> Option<&AnyNode>
         requires made { slot < length (machine self.now).config.slots }
-        requires some { ∥ ((w : World)
-            × ShowsWorld ⟦<AnyNode as Component>⟧.state ⟦<PlainHints as Hints>⟧.tells self.now w) ∥₁ }
-        ensures state { (w : World)
-            → ShowsWorld ⟦<AnyNode as Component>⟧.state ⟦<PlainHints as Hints>⟧.tells self.now w
-            → IfSome result (λ node. state_of w slot ≡ Some (⟦<AnyNode as Component>⟧.state node.now)) }
+        requires some { ∥ ((w : World) × Shows self.now w) ∥₁ }
+        ensures state { (w : World) → Shows self.now w
+            → IfSome result (λ node. state_of w slot ≡ Some (component_state node.now)) }
         ensures handed { (result ≡ None) ↔ ∥ ((n : ℕ) × (m : Slot) × (state.slot (machine self.now).config n ≡ Some m)
             × (m.from ≡ Some slot)) ∥₁ }
     {

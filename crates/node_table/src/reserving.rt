@@ -7,14 +7,11 @@ ghost use Rattle.state_handover.specs.declared.any_node.AnyNode.{AnyNode as Pure
 ghost use Rattle.turns.specs.World.{World};
 ghost use Rattle.node_table.specs.Rooms.{has_past_room};
 ghost use Rattle.node_table.specs.Seen.{seen};
-ghost use Rattle.node_table.specs.Table.{ShowsWorld, machine, sources, spare};
+ghost use Rattle.node_table.specs.Table.{Shows, machine, sources, spare};
 
 use crate::held::Held;
 use crate::table::NodeTable;
-use component_trait::Component;
 use config_graph::NoMemory;
-use port_queue::{Hints, PlainHints};
-use state_handover::AnyNode;
 
 /// Makes room in the past of a node for the node itself.
 fn reserve_past(held: &mut Held) -> Result<(), NoMemory>
@@ -45,15 +42,12 @@ impl NodeTable {
     /// Takes the memory for so many nodes more, each of which may take over the state of one that was made so far.
     /// After want of memory all is as it was, and some of the memory may stay taken.
     pub fn reserve(&mut self, nodes: u32) -> Result<(), NoMemory>
-        requires few { (w : World) × ShowsWorld ⟦<AnyNode as Component>⟧.state ⟦<PlainHints as Hints>⟧.tells
-            self.old w × (length w.machine.config.slots + nodes ≤ MAX_NODES) }
+        requires few { (w : World) × Shows self.old w × (length w.machine.config.slots + nodes ≤ MAX_NODES) }
         ensures nodes { OnOk result (nodes ≤ spare self.new) }
         ensures sources { OnOk result (length (machine self.old).config.slots ≤ sources self.new) }
         ensures kept_nodes { spare self.old ≤ spare self.new }
         ensures kept_sources { sources self.old ≤ sources self.new }
-        ensures shows { (w : World)
-            → ShowsWorld ⟦<AnyNode as Component>⟧.state ⟦<PlainHints as Hints>⟧.tells self.old w
-            → ShowsWorld ⟦<AnyNode as Component>⟧.state ⟦<PlainHints as Hints>⟧.tells self.new w }
+        ensures shows { (w : World) → Shows self.old w → Shows self.new w }
     {
         self.gate.core.reserve(nodes)?;
         self.nodes.try_reserve(nodes as usize)?;

@@ -5,30 +5,21 @@ ghost use Rattle.node_host.specs.Turning.{event_of};
 ghost use Rattle.quiesce_core.specs.State.{is_live};
 ghost use Rattle.turns.specs.Turn.{turn};
 ghost use Rattle.turns.specs.World.{World};
-ghost use Rattle.node_table.specs.Table.{KeepsRoom, ShowsWorld, machine};
+ghost use Rattle.node_table.specs.Table.{KeepsRoom, Shows, machine};
 
 use crate::held::Held;
 use crate::table::NodeTable;
-use component_trait::Component;
 use config_graph::NoMemory;
 use node_host::Turn;
-use port_queue::{Hints, PlainHints};
-use state_handover::AnyNode;
 
 impl NodeTable {
     /// Gives a live node its turn, in which it may begin a transaction or not. After want of memory all is as it was.
     pub fn turn(&mut self, slot: u32, begins: bool) -> Result<Turn, NoMemory>
         requires live { is_live (machine self.old).config slot ≡ true }
-        requires some { ∥ ((w : World)
-            × ShowsWorld ⟦<AnyNode as Component>⟧.state ⟦<PlainHints as Hints>⟧.tells self.old w) ∥₁ }
-        ensures shows { OnOk result ((w : World)
-            → ShowsWorld ⟦<AnyNode as Component>⟧.state ⟦<PlainHints as Hints>⟧.tells self.old w → ShowsWorld
-            ⟦<AnyNode as Component>⟧.state ⟦<PlainHints as Hints>⟧.tells self.new (turn w slot begins).world) }
-        ensures event { OnOk result ((w : World) → ShowsWorld ⟦<AnyNode as Component>⟧.state
-            ⟦<PlainHints as Hints>⟧.tells self.old w → event_of result ≡ (turn w slot begins).event) }
-        ensures memory { OnErr result ((w : World)
-            → ShowsWorld ⟦<AnyNode as Component>⟧.state ⟦<PlainHints as Hints>⟧.tells self.old w
-            → ShowsWorld ⟦<AnyNode as Component>⟧.state ⟦<PlainHints as Hints>⟧.tells self.new w) }
+        requires some { ∥ ((w : World) × Shows self.old w) ∥₁ }
+        ensures shows { OnOk result ((w : World) → Shows self.old w → Shows self.new (turn w slot begins).world) }
+        ensures event { OnOk result ((w : World) → Shows self.old w → event_of result ≡ (turn w slot begins).event) }
+        ensures memory { OnErr result ((w : World) → Shows self.old w → Shows self.new w) }
         ensures room { KeepsRoom self.old self.new }
     {
         match &mut self.nodes[slot as usize] {

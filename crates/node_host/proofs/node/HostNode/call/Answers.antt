@@ -1,178 +1,94 @@
-use Rattle.std.proofs.Common.{◌∙◌, ◌+◌, List, [], ◌∷◌, refl, sym, ap, subst, arith}
-use Rattle.std.specs.Prelude.{◌&&◌, map, not, slice_index_or}
+use Rattle.std.proofs.Common.{rules, ◌∙◌, ◌+◌, Some, refl, sym, ap, subst, arith}
+use Rattle.std.specs.Prelude.{◌&&◌, not, slice_index_or}
 use Rattle.quiesce_core.specs.Knowledge.{port_at_start}
-use Rattle.quiesce_core.specs.declared.event.Event.{Event}
 use Rattle.quiesce_core.specs.declared.event.Event.TheVariants as event
-use Rattle.node_host.specs.Hosted.{SeatSeen, node_of}
-use Rattle.node_host.specs.Posting.{Hinted, IsPosted}
-use Rattle.node_host.proofs.Replying.{index_is}
-use Rattle.node_host.specs.Lines.{LineNode}
-use Rattle.config_graph.proofs.KindLaws.{two_requires}
-use Rattle.port_gate.specs.Seats.{MayCall}
-use Rattle.node_host.proofs.Exactly.{calls_called, calls_missed}
-use Rattle.node_host.proofs.Growing.{hosted_after, moved_after, node_after}
-use Rattle.node_host.proofs.InService.{idle_to_call, no_call}
 use Rattle.port_gate.specs.Loads.{is_next, is_word, leads_to}
-use Rattle.node_host.proofs.Loading.{keeps_loaded, loads_first}
-use Rattle.node_host.proofs.Permitted.{call_folds, can_call, can_miss, did_by, may_call, miss_folds}
-use Rattle.node_host.proofs.Still.{hosted_waiting}
+use Rattle.port_gate.specs.Seats.{MayCall}
+use Rattle.node_host.proofs.EventLaws.{GoesOn, did_by, goes_on}
+use Rattle.node_host.proofs.Exactly.{calls_called, calls_missed}
+use Rattle.node_host.proofs.Growing.{hosted_waiting}
+use Rattle.node_host.proofs.Hinting.{hint_as, sent_at}
+use Rattle.node_host.proofs.InService.{idle_to_call, no_call}
+use Rattle.node_host.proofs.Loading.{keeps_loaded}
+use Rattle.node_host.proofs.Permitted.{call_folds, can_call, can_miss, may_call, miss_folds}
+use Rattle.node_host.specs.Acts.{state_of}
+use Rattle.node_host.proofs.node.HostNode.call.Given.{Over}
 use Rattle.node_host.proofs.node.HostNode.call.Goals as goal
+use Rattle.node_host.proofs.node.HostNode.call.Goals.{After-keep, After-keep-event}
 
 pub call-requires-clause-may : goal.call-requires-clause-may
 call-requires-clause-may g c =
     let h = c.args.self.now in
-    let t = g.C.Component.state h.inner in
-    let line : List LineNode = map (λ p. record { first = p.first_port; arg = p.arg; log = p.log.items }) h.past.items in
-    let seat : SeatSeen = record { slot = g.S.GateSeat.slot_of h.seat; known = g.S.GateSeat.known h.seat; told = g.S.GateSeat.tells h.seat } in
-    subst (λ m. MayCall m seat.known (h.first_port + c.args.ask.require) c.args.ask.value) (sym c.requires.node)
-    (may_call h.slot h.first_port t h.log.items line h.known h.waiting seat h.hosted c.args.served c.requires.served c.requires.heard c.requires.ended c.args.ask (slice_index_or h.known.ports c.args.ask.require port_at_start) c.requires.asks c.requires.fits_ask c.requires.depends refl (idle_to_call h.slot h.first_port t h.log.items line h.known h.waiting seat h.hosted c.args.ask (omega (arith, c.requires.fits_ask.require, two_requires t.kind)) c.requires.ended c.requires.asks))
+    subst (λ m. MayCall m (g.S.GateSeat.known h.seat) (h.first_port + c.args.ask.require) c.args.ask.value) (sym c.requires.can.node)
+    (may_call h.hosted c.args.served c.requires.served c.requires.heard c.requires.ended c.args.ask (slice_index_or h.known.ports c.args.ask.require port_at_start) c.requires.asks c.requires.fits_ask c.requires.depends refl (idle_to_call h.hosted c.args.ask c.requires.fits_ask c.requires.ended c.requires.asks))
 
 pub answered-requires-clause-asked : goal.answered-requires-clause-asked
-answered-requires-clause-asked g c =
-    (c.args.ask.value, c.requires.asks)
+answered-requires-clause-asked g c = (c.args.ask.value, c.requires.asks)
 
 pub keep-requires-clause-count : goal.keep-requires-clause-count
 keep-requires-clause-count g c =
     let h = c.args.self.now in
-    let t = g.C.Component.state h.inner in
-    let line : List LineNode = map (λ p. record { first = p.first_port; arg = p.arg; log = p.log.items }) h.past.items in
-    let seat : SeatSeen = record { slot = g.S.GateSeat.slot_of h.seat; known = g.S.GateSeat.known h.seat; told = g.S.GateSeat.tells h.seat } in
-    can_miss h.slot h.first_port t h.log.items line h.known h.waiting seat h.hosted c.args.served c.requires.served c.requires.heard c.requires.ended (h.first_port + c.args.ask.require) c.args.ask c.requires.asks
+    can_miss h.hosted c.args.served c.requires.served c.requires.heard c.requires.ended (h.first_port + c.args.ask.require) c.args.ask c.requires.asks
 
-pub keep-requires-in-Called-clause-count : goal.keep-requires-in-Called-clause-count
-keep-requires-in-Called-clause-count g c =
+pub keep-event-requires-clause-count : goal.keep-event-requires-clause-count
+keep-event-requires-clause-count g c =
     let h = c.args.self.now in
-    let t = g.C.Component.state h.inner in
-    let line : List LineNode = map (λ p. record { first = p.first_port; arg = p.arg; log = p.log.items }) h.past.items in
-    let seat : SeatSeen = record { slot = g.S.GateSeat.slot_of h.seat; known = g.S.GateSeat.known h.seat; told = g.S.GateSeat.tells h.seat } in
-    can_call h.slot h.first_port t h.log.items line h.known h.waiting seat h.hosted c.args.served c.requires.served c.requires.heard c.requires.ended (h.first_port + c.args.ask.require) c.in-Called.serial c.args.ask.value c.args.ask c.requires.asks
+    can_call h.hosted c.args.served c.requires.served c.requires.heard c.requires.ended (h.first_port + c.args.ask.require) c.in-Called.serial c.args.ask.value c.args.ask c.requires.asks
 
 pub post-requires-clause-port : goal.post-requires-clause-port
-post-requires-clause-port g c =
-    let h = c.args.self.now in
-    omega (arith, c.requires.fits_ask.require, h.hosted.limits.ports_within)
+post-requires-clause-port g c = omega (arith, c.requires.fits_ask.require, c.args.self.now.hosted.limits.ports_within)
 
 pub post-requires-clause-node : goal.post-requires-clause-node
-post-requires-clause-node g c =
-    c.in-Called.ensures.says.1
+post-requires-clause-node g c = c.in-Called.ensures.says.1
+
+missed : (g : Over) (c : After-keep g) → GoesOn g.G.PortGate c.args.gate.now c.call.new.self c.args.self.now c.answered.new.self c.call.new.seat c.keep.new.log.items c.keep.new.known c.keep.result (event.Miss (c.args.self.now.first_port + c.args.ask.require))
+missed g c =
+    let h = c.args.self.now in
+    goes_on (c.call.ensures.node ∙ c.requires.can.node) (g.met.G.PortGate.within c.call.new.self c.call.new.seat c.call.ensures.fits).1 (did_by c.requires.can.node refl c.in-Missed.ensures.does)
+    (no_call h.hosted c.requires.ended) (miss_folds h.first_port c.args.ask (state_of h) _ c.requires.asks c.answered.ensures.state) c.keep.ensures.event c.keep.ensures.logged c.keep.ensures.known
+
+called : (g : Over) (c : After-keep-event g) → GoesOn g.G.PortGate c.args.gate.now c.call.new.self c.args.self.now c.args.self.now.inner c.call.new.seat c.keep-event.new.log.items c.keep-event.new.known c.keep-event.result (event.Call (c.args.self.now.first_port + c.args.ask.require) c.in-Called.serial c.args.ask.value)
+called g c =
+    let h = c.args.self.now in
+    goes_on (c.call.ensures.node ∙ c.requires.can.node) (g.met.G.PortGate.within c.call.new.self c.call.new.seat c.call.ensures.fits).1 (did_by c.requires.can.node refl c.in-Called.ensures.does)
+    (no_call h.hosted c.requires.ended) (call_folds h.first_port c.in-Called.serial c.args.ask (state_of h) c.requires.asks) c.keep-event.ensures.event c.keep-event.ensures.logged c.keep-event.ensures.known
 
 pub invariant_of-self-clause-hosted : goal.invariant_of-self-clause-hosted
-invariant_of-self-clause-hosted g c =
-    let h = c.args.self.now in
-    let t = g.C.Component.state h.inner in
-    let line : List LineNode = map (λ p. record { first = p.first_port; arg = p.arg; log = p.log.items }) h.past.items in
-    let seat : SeatSeen = record { slot = g.S.GateSeat.slot_of h.seat; known = g.S.GateSeat.known h.seat; told = g.S.GateSeat.tells h.seat } in
-    let seat' : SeatSeen = record { slot = g.S.GateSeat.slot_of c.call.new.seat; known = g.S.GateSeat.known c.call.new.seat; told = g.S.GateSeat.tells c.call.new.seat } in
-    let e : Event = event.Miss (h.first_port + c.args.ask.require) in
-    hosted_after h.slot h.first_port t h.log.items line h.known h.waiting seat h.hosted e (g.C.Component.state c.answered.new.self) c.keep.new.log.items c.keep.new.known seat'
-    (g.G.PortGate.node c.call.new.self c.call.new.seat) (g.G.PortGate.state c.args.gate.now) (g.G.PortGate.state c.call.new.self)
-    (c.call.ensures.node ∙ c.requires.node) (g.met.G.PortGate.within c.call.new.self c.call.new.seat c.call.ensures.fits).1
-    (did_by (node_of h.slot h.first_port t) (g.G.PortGate.node c.args.gate.now h.seat) seat.known seat'.known seat.told seat'.told (g.G.PortGate.state c.args.gate.now) (g.G.PortGate.state c.call.new.self) (e ∷ []) (event.Miss (h.first_port + c.args.ask.require) ∷ []) c.requires.node (refl) c.in-Missed.ensures.does)
-    (no_call h.slot h.first_port t h.log.items line h.known h.waiting seat h.hosted c.requires.ended) (miss_folds h.first_port c.args.ask t (g.C.Component.state c.answered.new.self) c.requires.asks c.answered.ensures.state) c.keep.ensures.logged c.keep.ensures.known
+invariant_of-self-clause-hosted g c = (missed g (goal.at.invariant_of-self-clause-hosted g c).After-keep).hosted
 
 pub invariant_of-self-in-Called-clause-hosted : goal.invariant_of-self-in-Called-clause-hosted
 invariant_of-self-in-Called-clause-hosted g c =
-    let h = c.args.self.now in
-    let t = g.C.Component.state h.inner in
-    let line : List LineNode = map (λ p. record { first = p.first_port; arg = p.arg; log = p.log.items }) h.past.items in
-    let seat : SeatSeen = record { slot = g.S.GateSeat.slot_of h.seat; known = g.S.GateSeat.known h.seat; told = g.S.GateSeat.tells h.seat } in
-    let seat' : SeatSeen = record { slot = g.S.GateSeat.slot_of c.call.new.seat; known = g.S.GateSeat.known c.call.new.seat; told = g.S.GateSeat.tells c.call.new.seat } in
-    let e : Event = event.Call (h.first_port + c.args.ask.require) c.in-Called.serial c.args.ask.value in
-    hosted_waiting h.slot h.first_port t c.keep-in-Called.new.log.items line c.keep-in-Called.new.known h.waiting seat' (hosted_after h.slot h.first_port t h.log.items line h.known h.waiting seat h.hosted e (t) c.keep-in-Called.new.log.items c.keep-in-Called.new.known seat'
-    (g.G.PortGate.node c.call.new.self c.call.new.seat) (g.G.PortGate.state c.args.gate.now) (g.G.PortGate.state c.call.new.self)
-    (c.call.ensures.node ∙ c.requires.node) (g.met.G.PortGate.within c.call.new.self c.call.new.seat c.call.ensures.fits).1
-    (did_by (node_of h.slot h.first_port t) (g.G.PortGate.node c.args.gate.now h.seat) seat.known seat'.known seat.told seat'.told (g.G.PortGate.state c.args.gate.now) (g.G.PortGate.state c.call.new.self) (e ∷ []) (event.Call (h.first_port + c.args.ask.require) c.in-Called.serial c.args.ask.value ∷ []) c.requires.node (refl) c.in-Called.ensures.does)
-    (no_call h.slot h.first_port t h.log.items line h.known h.waiting seat h.hosted c.requires.ended) (call_folds h.first_port c.in-Called.serial c.args.ask t c.requires.asks) c.keep-in-Called.ensures.logged c.keep-in-Called.ensures.known)
-    c.post.new.waiting c.args.ask.require c.in-Called.target c.post.result c.post.ensures.waiting c.requires.fits_ask.require c.in-Called.ensures.says.1
+    hosted_waiting (called g (goal.at.invariant_of-self-in-Called-clause-hosted g c).After-keep-event).hosted c.post.result c.post.ensures.waiting c.requires.fits_ask.require c.in-Called.ensures.says.1
 
-pub returns-in-Missed-clause-node : goal.returns-in-Missed-clause-node
-returns-in-Missed-clause-node g c =
-    let h = c.args.self.now in
-    let t = g.C.Component.state h.inner in
-    let line : List LineNode = map (λ p. record { first = p.first_port; arg = p.arg; log = p.log.items }) h.past.items in
-    let seat : SeatSeen = record { slot = g.S.GateSeat.slot_of h.seat; known = g.S.GateSeat.known h.seat; told = g.S.GateSeat.tells h.seat } in
-    let seat' : SeatSeen = record { slot = g.S.GateSeat.slot_of c.call.new.seat; known = g.S.GateSeat.known c.call.new.seat; told = g.S.GateSeat.tells c.call.new.seat } in
-    let e : Event = event.Miss (h.first_port + c.args.ask.require) in
-    node_after h.slot h.first_port t h.log.items line h.known h.waiting seat h.hosted e (g.C.Component.state c.answered.new.self) c.keep.new.log.items c.keep.new.known seat'
-    (g.G.PortGate.node c.call.new.self c.call.new.seat) (g.G.PortGate.state c.args.gate.now) (g.G.PortGate.state c.call.new.self)
-    (c.call.ensures.node ∙ c.requires.node) (g.met.G.PortGate.within c.call.new.self c.call.new.seat c.call.ensures.fits).1
-    (did_by (node_of h.slot h.first_port t) (g.G.PortGate.node c.args.gate.now h.seat) seat.known seat'.known seat.told seat'.told (g.G.PortGate.state c.args.gate.now) (g.G.PortGate.state c.call.new.self) (e ∷ []) (event.Miss (h.first_port + c.args.ask.require) ∷ []) c.requires.node (refl) c.in-Missed.ensures.does)
-    (no_call h.slot h.first_port t h.log.items line h.known h.waiting seat h.hosted c.requires.ended) (miss_folds h.first_port c.args.ask t (g.C.Component.state c.answered.new.self) c.requires.asks c.answered.ensures.state) c.keep.ensures.logged c.keep.ensures.known
+pub returns-in-Missed-clause-acts : goal.returns-in-Missed-clause-acts
+returns-in-Missed-clause-acts g c = let w = missed g (goal.at.returns-in-Missed-clause-acts g c).After-keep in search (rules, w.node, w.moved)
 
-pub returns-in-Missed-clause-moved : goal.returns-in-Missed-clause-moved
-returns-in-Missed-clause-moved g c =
-    let h = c.args.self.now in
-    let t = g.C.Component.state h.inner in
-    let line : List LineNode = map (λ p. record { first = p.first_port; arg = p.arg; log = p.log.items }) h.past.items in
-    let seat : SeatSeen = record { slot = g.S.GateSeat.slot_of h.seat; known = g.S.GateSeat.known h.seat; told = g.S.GateSeat.tells h.seat } in
-    let seat' : SeatSeen = record { slot = g.S.GateSeat.slot_of c.call.new.seat; known = g.S.GateSeat.known c.call.new.seat; told = g.S.GateSeat.tells c.call.new.seat } in
-    let e : Event = event.Miss (h.first_port + c.args.ask.require) in
-    moved_after h.slot h.first_port t h.log.items line h.known h.waiting seat h.hosted e (g.C.Component.state c.answered.new.self) c.keep.new.log.items c.keep.new.known seat'
-    (g.G.PortGate.node c.call.new.self c.call.new.seat) (g.G.PortGate.state c.args.gate.now) (g.G.PortGate.state c.call.new.self)
-    (c.call.ensures.node ∙ c.requires.node) (g.met.G.PortGate.within c.call.new.self c.call.new.seat c.call.ensures.fits).1
-    (did_by (node_of h.slot h.first_port t) (g.G.PortGate.node c.args.gate.now h.seat) seat.known seat'.known seat.told seat'.told (g.G.PortGate.state c.args.gate.now) (g.G.PortGate.state c.call.new.self) (e ∷ []) (event.Miss (h.first_port + c.args.ask.require) ∷ []) c.requires.node (refl) c.in-Missed.ensures.does)
-    (no_call h.slot h.first_port t h.log.items line h.known h.waiting seat h.hosted c.requires.ended) (miss_folds h.first_port c.args.ask t (g.C.Component.state c.answered.new.self) c.requires.asks c.answered.ensures.state) c.keep.ensures.logged c.keep.ensures.known
-
-pub returns-in-Called-clause-moved : goal.returns-in-Called-clause-moved
-returns-in-Called-clause-moved g c =
-    let h = c.args.self.now in
-    let t = g.C.Component.state h.inner in
-    let line : List LineNode = map (λ p. record { first = p.first_port; arg = p.arg; log = p.log.items }) h.past.items in
-    let seat : SeatSeen = record { slot = g.S.GateSeat.slot_of h.seat; known = g.S.GateSeat.known h.seat; told = g.S.GateSeat.tells h.seat } in
-    let seat' : SeatSeen = record { slot = g.S.GateSeat.slot_of c.call.new.seat; known = g.S.GateSeat.known c.call.new.seat; told = g.S.GateSeat.tells c.call.new.seat } in
-    let e : Event = event.Call (h.first_port + c.args.ask.require) c.in-Called.serial c.args.ask.value in
-    moved_after h.slot h.first_port t h.log.items line h.known h.waiting seat h.hosted e (t) c.keep-in-Called.new.log.items c.keep-in-Called.new.known seat'
-    (g.G.PortGate.node c.call.new.self c.call.new.seat) (g.G.PortGate.state c.args.gate.now) (g.G.PortGate.state c.call.new.self)
-    (c.call.ensures.node ∙ c.requires.node) (g.met.G.PortGate.within c.call.new.self c.call.new.seat c.call.ensures.fits).1
-    (did_by (node_of h.slot h.first_port t) (g.G.PortGate.node c.args.gate.now h.seat) seat.known seat'.known seat.told seat'.told (g.G.PortGate.state c.args.gate.now) (g.G.PortGate.state c.call.new.self) (e ∷ []) (event.Call (h.first_port + c.args.ask.require) c.in-Called.serial c.args.ask.value ∷ []) c.requires.node (refl) c.in-Called.ensures.does)
-    (no_call h.slot h.first_port t h.log.items line h.known h.waiting seat h.hosted c.requires.ended) (call_folds h.first_port c.in-Called.serial c.args.ask t c.requires.asks) c.keep-in-Called.ensures.logged c.keep-in-Called.ensures.known
+pub returns-in-Called-clause-acts : goal.returns-in-Called-clause-acts
+returns-in-Called-clause-acts g c = let w = called g (goal.at.returns-in-Called-clause-acts g c).After-keep-event in search (rules, w.node, w.moved)
 
 pub returns-in-Missed-clause-exact : goal.returns-in-Missed-clause-exact
 returns-in-Missed-clause-exact g c =
-    let h = c.args.self.now in
-    let t = g.C.Component.state h.inner in
-    let seat : SeatSeen = record { slot = g.S.GateSeat.slot_of h.seat; known = g.S.GateSeat.known h.seat; told = g.S.GateSeat.tells h.seat } in
-    λ s told. calls_missed (g.G.PortGate.state c.args.gate.now) (node_of h.slot h.first_port t) seat.known s told (h.first_port + c.args.ask.require) c.args.ask.value (g.G.PortGate.state c.call.new.self)
-    (did_by (node_of h.slot h.first_port t) (g.G.PortGate.node c.args.gate.now h.seat) seat.known (g.S.GateSeat.known c.call.new.seat) seat.told (g.S.GateSeat.tells c.call.new.seat) (g.G.PortGate.state c.args.gate.now) (g.G.PortGate.state c.call.new.self) (event.Miss (h.first_port + c.args.ask.require) ∷ []) (event.Miss (h.first_port + c.args.ask.require) ∷ []) c.requires.node (refl) c.in-Missed.ensures.does).steps
+    let w = missed g (goal.at.returns-in-Missed-clause-exact g c).After-keep in
+    λ s told. ap Some w.is ∙ calls_missed told (c.args.self.now.first_port + c.args.ask.require) c.args.ask.value _ w.led
 
 pub returns-in-Called-clause-exact : goal.returns-in-Called-clause-exact
 returns-in-Called-clause-exact g c =
-    let h = c.args.self.now in
-    let t = g.C.Component.state h.inner in
-    let seat : SeatSeen = record { slot = g.S.GateSeat.slot_of h.seat; known = g.S.GateSeat.known h.seat; told = g.S.GateSeat.tells h.seat } in
-    λ s told. calls_called (g.G.PortGate.state c.args.gate.now) (node_of h.slot h.first_port t) seat.known s told (h.first_port + c.args.ask.require) c.in-Called.serial c.args.ask.value (g.G.PortGate.state c.call.new.self)
-    (did_by (node_of h.slot h.first_port t) (g.G.PortGate.node c.args.gate.now h.seat) seat.known (g.S.GateSeat.known c.call.new.seat) seat.told (g.S.GateSeat.tells c.call.new.seat) (g.G.PortGate.state c.args.gate.now) (g.G.PortGate.state c.call.new.self) (event.Call (h.first_port + c.args.ask.require) c.in-Called.serial c.args.ask.value ∷ []) (event.Call (h.first_port + c.args.ask.require) c.in-Called.serial c.args.ask.value ∷ []) c.requires.node (refl) c.in-Called.ensures.does).steps
+    let w = called g (goal.at.returns-in-Called-clause-exact g c).After-keep-event in
+    λ s told. ap Some w.is ∙ calls_called told (c.args.self.now.first_port + c.args.ask.require) c.in-Called.serial c.args.ask.value _ w.led
 
 pub returns-in-Called-clause-hint : goal.returns-in-Called-clause-hint
 returns-in-Called-clause-hint g c =
-    let h = c.args.self.now in
-    let old : Hinted = record { waiting = h.waiting; counts = g.H.Hints.counts c.args.hints.now; told = g.H.Hints.tells c.args.hints.now } in
-    let new : Hinted = record { waiting = c.post.new.waiting; counts = g.H.Hints.counts c.post.new.hints; told = g.H.Hints.tells c.post.new.hints } in
-    let posted : IsPosted h.first_port c.args.ask.require c.in-Called.target old new = record {
-      posted = c.post.result;
-      waits = c.post.ensures.waiting;
-      tried = c.post.ensures.counts;
-      full = c.post.ensures.full;
-      put = c.post.ensures.posted;
-      counts = c.post.ensures.others;
-      told = c.post.ensures.other_inboxes;
-    } in
-    record { target = c.in-Called.target; leads = c.in-Called.ensures.says.2; loaded = loads_first (h.first_port + c.args.ask.require) (leads_to c.in-Called.target) (is_next c.in-Called.serial) (g.S.GateSeat.loads h.seat) (g.S.GateSeat.loads c.call.new.seat) c.in-Called.ensures.loads; posted = subst (λ r. IsPosted h.first_port r c.in-Called.target old new) (sym (index_is h.first_port c.args.ask.require)) posted }
+    hint_as _ _ _ _ c.keep-event.ensures.event
+    (sent_at c.args.ask.require (is_next c.in-Called.serial) c.post.result c.in-Called.ensures.says.2 c.in-Called.ensures.loads c.post.ensures.waiting c.post.ensures.counts c.post.ensures.full c.post.ensures.posted c.post.ensures.others c.post.ensures.other_inboxes)
 
 pub returns-in-Missed-clause-loads : goal.returns-in-Missed-clause-loads
 returns-in-Missed-clause-loads g c =
     let h = c.args.self.now in
-    let t = g.C.Component.state h.inner in
-    let line : List LineNode = map (λ p. record { first = p.first_port; arg = p.arg; log = p.log.items }) h.past.items in
-    let seat : SeatSeen = record { slot = g.S.GateSeat.slot_of h.seat; known = g.S.GateSeat.known h.seat; told = g.S.GateSeat.tells h.seat } in
-    let idle = idle_to_call h.slot h.first_port t h.log.items line h.known h.waiting seat h.hosted c.args.ask (omega (arith, c.requires.fits_ask.require, two_requires t.kind)) c.requires.ended c.requires.asks in
-    keeps_loaded 2 h.first_port c.args.ask.require (is_word c.in-Missed.word) h.known (g.S.GateSeat.loads h.seat) (g.S.GateSeat.loads c.call.new.seat) (ap not idle) c.in-Missed.ensures.loads
+    keeps_loaded 2 h.first_port c.args.ask.require (is_word c.in-Missed.word) h.known (g.S.GateSeat.loads h.seat) (g.S.GateSeat.loads c.call.new.seat)
+    (ap not (idle_to_call h.hosted c.args.ask c.requires.fits_ask c.requires.ended c.requires.asks)) c.in-Missed.ensures.loads
 
 pub returns-in-Called-clause-loads : goal.returns-in-Called-clause-loads
 returns-in-Called-clause-loads g c =
     let h = c.args.self.now in
-    let t = g.C.Component.state h.inner in
-    let line : List LineNode = map (λ p. record { first = p.first_port; arg = p.arg; log = p.log.items }) h.past.items in
-    let seat : SeatSeen = record { slot = g.S.GateSeat.slot_of h.seat; known = g.S.GateSeat.known h.seat; told = g.S.GateSeat.tells h.seat } in
-    let idle = idle_to_call h.slot h.first_port t h.log.items line h.known h.waiting seat h.hosted c.args.ask (omega (arith, c.requires.fits_ask.require, two_requires t.kind)) c.requires.ended c.requires.asks in
-    keeps_loaded 2 h.first_port c.args.ask.require (λ l. leads_to c.in-Called.target l && is_next c.in-Called.serial l) h.known (g.S.GateSeat.loads h.seat) (g.S.GateSeat.loads c.call.new.seat) (ap not idle) c.in-Called.ensures.loads
+    keeps_loaded 2 h.first_port c.args.ask.require (λ l. leads_to c.in-Called.target l && is_next c.in-Called.serial l) h.known (g.S.GateSeat.loads h.seat) (g.S.GateSeat.loads c.call.new.seat)
+    (ap not (idle_to_call h.hosted c.args.ask c.requires.fits_ask c.requires.ended c.requires.asks)) c.in-Called.ensures.loads

@@ -1,13 +1,15 @@
-use Rattle.std.proofs.Common.{◌∙◌, sym, ap}
+use Rattle.std.proofs.Common.{rules, ◌+◌, ◌∙◌, sym, ap}
 use Rattle.std.specs.Prelude.{length}
 use Rattle.config_graph.specs.Kinds.{row}
-use Rattle.node_host.specs.Hosted.{SeatSeen, node_of}
+use Rattle.node_host.specs.Acts.{state_of}
+use Rattle.node_host.proofs.Loading.{port_steps}
 use Rattle.node_host.proofs.Moving.{ends_at_one}
 use Rattle.node_host.proofs.node.HostNode.end_or_ask.Goals as goal
 
-pub returns-in-1-clause-exact : goal.returns-in-1-clause-exact
-returns-in-1-clause-exact g c =
-    let h = c.args.self.now in
-    let t = g.C.Component.state h.inner in
-    let seat : SeatSeen = record { slot = g.S.GateSeat.slot_of h.seat; known = g.S.GateSeat.known h.seat; told = g.S.GateSeat.tells h.seat } in
-    λ s told. ends_at_one (g.G.PortGate.state c.args.gate.now) (node_of h.slot h.first_port t) seat.known s told t c.reply_at.result (ap (λ k. length (row k).requires_) (sym c.kind.ensures) ∙ sym c.requires_.ensures ∙ c.in-1.is) (c.reply_at.ensures.exact s told)
+pub returns-in-1-clause-replies : goal.returns-in-1-clause-replies
+returns-in-1-clause-replies g c = record {
+  exact = λ s told. ends_at_one told (state_of c.args.self.now) (ap (λ k. length (row k).requires_) (sym c.kind.ensures) ∙ sym c.requires_.ensures ∙ c.in-1.is) (c.reply_at.ensures.exact s told);
+  number = search rules;
+  steps = port_steps (c.args.self.now.first_port + 0) (g.S.GateSeat.loads c.args.self.now.seat) (g.S.GateSeat.loads c.reply_at.new.self.seat) c.reply_at.ensures.loads;
+  tried = search rules;
+}

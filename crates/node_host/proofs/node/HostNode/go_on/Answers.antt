@@ -1,27 +1,16 @@
-use Rattle.std.proofs.Common.{List, ap}
-use Rattle.std.specs.Prelude.{map}
-use Rattle.node_host.specs.Hosted.{SeatSeen}
+use Rattle.std.proofs.Common.{ap}
 use Rattle.node_host.specs.Posting.{is_asking}
 use Rattle.node_host.proofs.Hinting.{without_hint}
-use Rattle.node_host.specs.Lines.{LineNode}
 use Rattle.node_host.proofs.InService.{goes_on_there}
-use Rattle.node_host.proofs.Going.{some_next}
 use Rattle.node_host.proofs.node.HostNode.go_on.Goals as goal
 
 pub next-requires : goal.next-requires
 next-requires g c =
     let h = c.args.self.now in
-    let t = g.C.Component.state h.inner in
-    let line : List LineNode = map (λ p. record { first = p.first_port; arg = p.arg; log = p.log.items }) h.past.items in
-    let seat : SeatSeen = record { slot = g.S.GateSeat.slot_of h.seat; known = g.S.GateSeat.known h.seat; told = g.S.GateSeat.tells h.seat } in
-    record { goes_on = some_next t (goes_on_there h.slot h.first_port t h.log.items line h.known h.waiting seat h.hosted c.args.served c.requires.served c.requires.heard) }
+    record { goes_on = goes_on_there h.hosted c.args.served c.requires.served c.requires.heard }
 
 pub returns-in-Give-clause-hint : goal.returns-in-Give-clause-hint
-returns-in-Give-clause-hint g c =
-    let h = c.args.self.now in
-    without_hint (record { state = g.G.PortGate.state c.args.gate.now; before = g.S.GateSeat.loads h.seat; after = g.S.GateSeat.loads c.give.new.self.seat }) h.first_port c.give.result h.waiting c.give.new.self.waiting (g.H.Hints.counts c.args.hints.now) (g.H.Hints.tells c.args.hints.now) (ap is_asking c.give.ensures.event) c.give.ensures.waiting
+returns-in-Give-clause-hint g c = without_hint _ _ _ _ _ (ap is_asking c.give.ensures.event) c.give.ensures.waiting
 
 pub returns-in-More-clause-hint : goal.returns-in-More-clause-hint
-returns-in-More-clause-hint g c =
-    let h = c.args.self.now in
-    without_hint (record { state = g.G.PortGate.state c.args.gate.now; before = g.S.GateSeat.loads h.seat; after = g.S.GateSeat.loads c.send_more.new.self.seat }) h.first_port c.send_more.result h.waiting c.send_more.new.self.waiting (g.H.Hints.counts c.args.hints.now) (g.H.Hints.tells c.args.hints.now) (ap is_asking c.send_more.ensures.event) c.send_more.ensures.waiting
+returns-in-More-clause-hint g c = without_hint _ _ _ _ _ (ap is_asking c.send_more.ensures.event) c.send_more.ensures.waiting

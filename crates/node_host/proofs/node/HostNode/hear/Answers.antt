@@ -1,107 +1,48 @@
-use Rattle.std.proofs.Common.{◌∙◌, List, [], ◌∷◌, ap}
-use Rattle.std.specs.Prelude.{map}
-use Rattle.quiesce_core.specs.declared.event.Event.{Event}
+use Rattle.std.proofs.Common.{rules, ◌∙◌, [], ◌∷◌, Some, refl, ap}
 use Rattle.quiesce_core.specs.declared.event.Event.TheVariants as event
-use Rattle.node_host.specs.Hosted.{SeatSeen, node_of}
-use Rattle.node_host.specs.Lines.{LineNode}
-use Rattle.port_gate.specs.Seats.{serial_served}
+use Rattle.node_host.proofs.EventLaws.{GoesOn, GoesStill, did_by, goes_on, goes_still}
 use Rattle.node_host.proofs.Exactly.{hears_heard, hears_not_yet}
-use Rattle.node_host.proofs.Growing.{hosted_after, moved_after, node_after}
 use Rattle.node_host.proofs.InService.{waits_there}
-use Rattle.node_host.proofs.Permitted.{did_by, hear_folds, may_hear, serial_is}
-use Rattle.node_host.proofs.Still.{hosted_still, moved_still}
+use Rattle.node_host.proofs.Permitted.{hear_folds, may_hear, serial_is}
+use Rattle.node_host.specs.Acts.{state_of}
+use Rattle.node_host.proofs.node.HostNode.hear.Given.{Over}
 use Rattle.node_host.proofs.node.HostNode.hear.Goals as goal
+use Rattle.node_host.proofs.node.HostNode.hear.Goals.{After-keep, In-NotYet}
 
 pub hear-requires-clause-may : goal.hear-requires-clause-may
-hear-requires-clause-may g c =
-    let h = c.args.self.now in
-    let t = g.C.Component.state h.inner in
-    let line : List LineNode = map (λ p. record { first = p.first_port; arg = p.arg; log = p.log.items }) h.past.items in
-    let seat : SeatSeen = record { slot = g.S.GateSeat.slot_of h.seat; known = g.S.GateSeat.known h.seat; told = g.S.GateSeat.tells h.seat } in
-    may_hear h.slot h.first_port t h.log.items line h.known h.waiting seat h.hosted c.args.served c.requires.served c.requires.waits
+hear-requires-clause-may g c = may_hear c.args.self.now.hosted c.args.served c.requires.served c.requires.waits
 
 pub heard-requires-clause-waits : goal.heard-requires-clause-waits
-heard-requires-clause-waits g c =
+heard-requires-clause-waits g c = waits_there c.args.self.now.hosted c.args.served c.requires.served c.requires.waits
+
+still : (g : Over) (c : In-NotYet g) → GoesStill g.G.PortGate c.args.gate.now c.hear.new.self c.args.self.now c.hear.new.seat
+still g c =
+    goes_still (c.hear.ensures.node ∙ c.requires.can.node) (g.met.G.PortGate.within c.hear.new.self c.hear.new.seat c.hear.ensures.fits).1
+    (did_by c.requires.can.node refl c.in-NotYet.ensures.does)
+
+went : (g : Over) (c : After-keep g) → GoesOn g.G.PortGate c.args.gate.now c.hear.new.self c.args.self.now c.heard.new.self c.hear.new.seat c.keep.new.log.items c.keep.new.known c.keep.result (event.Hear c.args.served.port c.args.served.serial c.in-Heard.value)
+went g c =
     let h = c.args.self.now in
-    let t = g.C.Component.state h.inner in
-    let line : List LineNode = map (λ p. record { first = p.first_port; arg = p.arg; log = p.log.items }) h.past.items in
-    let seat : SeatSeen = record { slot = g.S.GateSeat.slot_of h.seat; known = g.S.GateSeat.known h.seat; told = g.S.GateSeat.tells h.seat } in
-    waits_there h.slot h.first_port t h.log.items line h.known h.waiting seat h.hosted c.args.served c.requires.served c.requires.waits
+    goes_on (c.hear.ensures.node ∙ c.requires.can.node) (g.met.G.PortGate.within c.hear.new.self c.hear.new.seat c.hear.ensures.fits).1
+    (did_by c.requires.can.node (ap (λ k. event.Hear c.args.served.port k c.in-Heard.value ∷ []) (serial_is h.hosted c.args.served c.requires.served)) c.in-Heard.ensures.does)
+    tt (hear_folds h.first_port c.args.served.port c.args.served.serial c.in-Heard.value (state_of h) _ (waits_there h.hosted c.args.served c.requires.served c.requires.waits) c.heard.ensures.state) c.keep.ensures.event c.keep.ensures.logged c.keep.ensures.known
 
 pub invariant_of-self-clause-hosted : goal.invariant_of-self-clause-hosted
-invariant_of-self-clause-hosted g c =
-    let h = c.args.self.now in
-    let t = g.C.Component.state h.inner in
-    let line : List LineNode = map (λ p. record { first = p.first_port; arg = p.arg; log = p.log.items }) h.past.items in
-    let seat : SeatSeen = record { slot = g.S.GateSeat.slot_of h.seat; known = g.S.GateSeat.known h.seat; told = g.S.GateSeat.tells h.seat } in
-    let seat' : SeatSeen = record { slot = g.S.GateSeat.slot_of c.hear.new.seat; known = g.S.GateSeat.known c.hear.new.seat; told = g.S.GateSeat.tells c.hear.new.seat } in
-    hosted_still h.slot h.first_port t h.log.items line h.known h.waiting seat h.hosted seat' (g.G.PortGate.node c.args.gate.now h.seat) (g.G.PortGate.node c.hear.new.self c.hear.new.seat) (g.G.PortGate.state c.args.gate.now) (g.G.PortGate.state c.hear.new.self)
-    c.requires.node c.hear.ensures.node (g.met.G.PortGate.within c.hear.new.self c.hear.new.seat c.hear.ensures.fits).1 c.in-NotYet.ensures.does
+invariant_of-self-clause-hosted g c = (still g (goal.at.invariant_of-self-clause-hosted g c).In-NotYet).hosted
 
-pub returns-in-NotYet-clause-moved : goal.returns-in-NotYet-clause-moved
-returns-in-NotYet-clause-moved g c =
-    let h = c.args.self.now in
-    let t = g.C.Component.state h.inner in
-    let line : List LineNode = map (λ p. record { first = p.first_port; arg = p.arg; log = p.log.items }) h.past.items in
-    let seat : SeatSeen = record { slot = g.S.GateSeat.slot_of h.seat; known = g.S.GateSeat.known h.seat; told = g.S.GateSeat.tells h.seat } in
-    let seat' : SeatSeen = record { slot = g.S.GateSeat.slot_of c.hear.new.seat; known = g.S.GateSeat.known c.hear.new.seat; told = g.S.GateSeat.tells c.hear.new.seat } in
-    moved_still h.slot h.first_port t h.log.items line h.known h.waiting seat h.hosted seat' (g.G.PortGate.node c.args.gate.now h.seat) (g.G.PortGate.node c.hear.new.self c.hear.new.seat) (g.G.PortGate.state c.args.gate.now) (g.G.PortGate.state c.hear.new.self)
-    c.requires.node c.hear.ensures.node (g.met.G.PortGate.within c.hear.new.self c.hear.new.seat c.hear.ensures.fits).1 c.in-NotYet.ensures.does
+pub returns-in-NotYet-clause-acts : goal.returns-in-NotYet-clause-acts
+returns-in-NotYet-clause-acts g c = let w = still g (goal.at.returns-in-NotYet-clause-acts g c).In-NotYet in search (rules, w.moved)
 
 pub returns-in-NotYet-clause-exact : goal.returns-in-NotYet-clause-exact
-returns-in-NotYet-clause-exact g c =
-    let h = c.args.self.now in
-    let t = g.C.Component.state h.inner in
-    let seat : SeatSeen = record { slot = g.S.GateSeat.slot_of h.seat; known = g.S.GateSeat.known h.seat; told = g.S.GateSeat.tells h.seat } in
-    λ s told. hears_not_yet (g.G.PortGate.state c.args.gate.now) (node_of h.slot h.first_port t) seat.known s told c.args.served.port c.in-NotYet.word c.in-NotYet.ensures.says
+returns-in-NotYet-clause-exact g c = λ s told. hears_not_yet told c.args.served.port c.in-NotYet.word c.in-NotYet.ensures.says
 
 pub invariant_of-self-in-Heard-clause-hosted : goal.invariant_of-self-in-Heard-clause-hosted
-invariant_of-self-in-Heard-clause-hosted g c =
-    let h = c.args.self.now in
-    let t = g.C.Component.state h.inner in
-    let line : List LineNode = map (λ p. record { first = p.first_port; arg = p.arg; log = p.log.items }) h.past.items in
-    let seat : SeatSeen = record { slot = g.S.GateSeat.slot_of h.seat; known = g.S.GateSeat.known h.seat; told = g.S.GateSeat.tells h.seat } in
-    let seat' : SeatSeen = record { slot = g.S.GateSeat.slot_of c.hear.new.seat; known = g.S.GateSeat.known c.hear.new.seat; told = g.S.GateSeat.tells c.hear.new.seat } in
-    let e : Event = event.Hear c.args.served.port c.args.served.serial c.in-Heard.value in
-    hosted_after h.slot h.first_port t h.log.items line h.known h.waiting seat h.hosted e (g.C.Component.state c.heard.new.self) c.keep.new.log.items c.keep.new.known seat'
-    (g.G.PortGate.node c.hear.new.self c.hear.new.seat) (g.G.PortGate.state c.args.gate.now) (g.G.PortGate.state c.hear.new.self)
-    (c.hear.ensures.node ∙ c.requires.node) (g.met.G.PortGate.within c.hear.new.self c.hear.new.seat c.hear.ensures.fits).1
-    (did_by (node_of h.slot h.first_port t) (g.G.PortGate.node c.args.gate.now h.seat) seat.known seat'.known seat.told seat'.told (g.G.PortGate.state c.args.gate.now) (g.G.PortGate.state c.hear.new.self) (e ∷ []) (event.Hear c.args.served.port (serial_served seat.known) c.in-Heard.value ∷ []) c.requires.node (ap (λ k. event.Hear c.args.served.port k c.in-Heard.value ∷ []) (serial_is h.slot h.first_port t h.log.items line h.known h.waiting seat h.hosted c.args.served c.requires.served)) c.in-Heard.ensures.does)
-    (tt) (hear_folds h.first_port c.args.served.port c.args.served.serial c.in-Heard.value t (g.C.Component.state c.heard.new.self) (waits_there h.slot h.first_port t h.log.items line h.known h.waiting seat h.hosted c.args.served c.requires.served c.requires.waits) c.heard.ensures.state) c.keep.ensures.logged c.keep.ensures.known
+invariant_of-self-in-Heard-clause-hosted g c = (went g (goal.at.invariant_of-self-in-Heard-clause-hosted g c).After-keep).hosted
 
-pub returns-in-Heard-clause-node : goal.returns-in-Heard-clause-node
-returns-in-Heard-clause-node g c =
-    let h = c.args.self.now in
-    let t = g.C.Component.state h.inner in
-    let line : List LineNode = map (λ p. record { first = p.first_port; arg = p.arg; log = p.log.items }) h.past.items in
-    let seat : SeatSeen = record { slot = g.S.GateSeat.slot_of h.seat; known = g.S.GateSeat.known h.seat; told = g.S.GateSeat.tells h.seat } in
-    let seat' : SeatSeen = record { slot = g.S.GateSeat.slot_of c.hear.new.seat; known = g.S.GateSeat.known c.hear.new.seat; told = g.S.GateSeat.tells c.hear.new.seat } in
-    let e : Event = event.Hear c.args.served.port c.args.served.serial c.in-Heard.value in
-    node_after h.slot h.first_port t h.log.items line h.known h.waiting seat h.hosted e (g.C.Component.state c.heard.new.self) c.keep.new.log.items c.keep.new.known seat'
-    (g.G.PortGate.node c.hear.new.self c.hear.new.seat) (g.G.PortGate.state c.args.gate.now) (g.G.PortGate.state c.hear.new.self)
-    (c.hear.ensures.node ∙ c.requires.node) (g.met.G.PortGate.within c.hear.new.self c.hear.new.seat c.hear.ensures.fits).1
-    (did_by (node_of h.slot h.first_port t) (g.G.PortGate.node c.args.gate.now h.seat) seat.known seat'.known seat.told seat'.told (g.G.PortGate.state c.args.gate.now) (g.G.PortGate.state c.hear.new.self) (e ∷ []) (event.Hear c.args.served.port (serial_served seat.known) c.in-Heard.value ∷ []) c.requires.node (ap (λ k. event.Hear c.args.served.port k c.in-Heard.value ∷ []) (serial_is h.slot h.first_port t h.log.items line h.known h.waiting seat h.hosted c.args.served c.requires.served)) c.in-Heard.ensures.does)
-    (tt) (hear_folds h.first_port c.args.served.port c.args.served.serial c.in-Heard.value t (g.C.Component.state c.heard.new.self) (waits_there h.slot h.first_port t h.log.items line h.known h.waiting seat h.hosted c.args.served c.requires.served c.requires.waits) c.heard.ensures.state) c.keep.ensures.logged c.keep.ensures.known
-
-pub returns-in-Heard-clause-moved : goal.returns-in-Heard-clause-moved
-returns-in-Heard-clause-moved g c =
-    let h = c.args.self.now in
-    let t = g.C.Component.state h.inner in
-    let line : List LineNode = map (λ p. record { first = p.first_port; arg = p.arg; log = p.log.items }) h.past.items in
-    let seat : SeatSeen = record { slot = g.S.GateSeat.slot_of h.seat; known = g.S.GateSeat.known h.seat; told = g.S.GateSeat.tells h.seat } in
-    let seat' : SeatSeen = record { slot = g.S.GateSeat.slot_of c.hear.new.seat; known = g.S.GateSeat.known c.hear.new.seat; told = g.S.GateSeat.tells c.hear.new.seat } in
-    let e : Event = event.Hear c.args.served.port c.args.served.serial c.in-Heard.value in
-    moved_after h.slot h.first_port t h.log.items line h.known h.waiting seat h.hosted e (g.C.Component.state c.heard.new.self) c.keep.new.log.items c.keep.new.known seat'
-    (g.G.PortGate.node c.hear.new.self c.hear.new.seat) (g.G.PortGate.state c.args.gate.now) (g.G.PortGate.state c.hear.new.self)
-    (c.hear.ensures.node ∙ c.requires.node) (g.met.G.PortGate.within c.hear.new.self c.hear.new.seat c.hear.ensures.fits).1
-    (did_by (node_of h.slot h.first_port t) (g.G.PortGate.node c.args.gate.now h.seat) seat.known seat'.known seat.told seat'.told (g.G.PortGate.state c.args.gate.now) (g.G.PortGate.state c.hear.new.self) (e ∷ []) (event.Hear c.args.served.port (serial_served seat.known) c.in-Heard.value ∷ []) c.requires.node (ap (λ k. event.Hear c.args.served.port k c.in-Heard.value ∷ []) (serial_is h.slot h.first_port t h.log.items line h.known h.waiting seat h.hosted c.args.served c.requires.served)) c.in-Heard.ensures.does)
-    (tt) (hear_folds h.first_port c.args.served.port c.args.served.serial c.in-Heard.value t (g.C.Component.state c.heard.new.self) (waits_there h.slot h.first_port t h.log.items line h.known h.waiting seat h.hosted c.args.served c.requires.served c.requires.waits) c.heard.ensures.state) c.keep.ensures.logged c.keep.ensures.known
+pub returns-in-Heard-clause-acts : goal.returns-in-Heard-clause-acts
+returns-in-Heard-clause-acts g c = let w = went g (goal.at.returns-in-Heard-clause-acts g c).After-keep in search (rules, w.node, w.moved)
 
 pub returns-in-Heard-clause-exact : goal.returns-in-Heard-clause-exact
 returns-in-Heard-clause-exact g c =
-    let h = c.args.self.now in
-    let t = g.C.Component.state h.inner in
-    let line : List LineNode = map (λ p. record { first = p.first_port; arg = p.arg; log = p.log.items }) h.past.items in
-    let seat : SeatSeen = record { slot = g.S.GateSeat.slot_of h.seat; known = g.S.GateSeat.known h.seat; told = g.S.GateSeat.tells h.seat } in
-    λ s told. hears_heard (g.G.PortGate.state c.args.gate.now) (node_of h.slot h.first_port t) seat.known s told c.args.served.port c.args.served.serial c.in-Heard.value (g.G.PortGate.state c.hear.new.self)
-    (did_by (node_of h.slot h.first_port t) (g.G.PortGate.node c.args.gate.now h.seat) seat.known (g.S.GateSeat.known c.hear.new.seat) seat.told (g.S.GateSeat.tells c.hear.new.seat) (g.G.PortGate.state c.args.gate.now) (g.G.PortGate.state c.hear.new.self) (event.Hear c.args.served.port c.args.served.serial c.in-Heard.value ∷ []) (event.Hear c.args.served.port (serial_served seat.known) c.in-Heard.value ∷ []) c.requires.node (ap (λ k. event.Hear c.args.served.port k c.in-Heard.value ∷ []) (serial_is h.slot h.first_port t h.log.items line h.known h.waiting seat h.hosted c.args.served c.requires.served)) c.in-Heard.ensures.does).steps
+    let w = went g (goal.at.returns-in-Heard-clause-exact g c).After-keep in
+    λ s told. ap Some w.is ∙ hears_heard told c.args.served.port c.args.served.serial c.in-Heard.value _ w.led

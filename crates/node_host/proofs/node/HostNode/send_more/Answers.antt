@@ -1,83 +1,42 @@
-use Rattle.std.proofs.Common.{◌∙◌, List, [], ◌∷◌, sym, ap, subst}
-use Rattle.std.specs.Prelude.{map}
-use Rattle.quiesce_core.specs.declared.event.Event.{Event}
+use Rattle.std.proofs.Common.{rules, ◌∙◌, [], ◌∷◌, Some, sym, ap, subst}
 use Rattle.quiesce_core.specs.declared.event.Event.TheVariants as event
-use Rattle.node_host.specs.Hosted.{SeatSeen, node_of}
-use Rattle.node_host.specs.Lines.{LineNode}
-use Rattle.port_gate.specs.Seats.{MaySendMore, serial_served}
+use Rattle.port_gate.specs.Seats.{MaySendMore}
+use Rattle.node_host.proofs.EventLaws.{GoesOn, did_by, goes_on}
 use Rattle.node_host.proofs.Exactly.{sends_next}
-use Rattle.node_host.proofs.Growing.{hosted_after, moved_after, node_after}
 use Rattle.node_host.proofs.InService.{no_call}
-use Rattle.node_host.proofs.Permitted.{did_by, more_folds, may_send, serial_is, can_send}
+use Rattle.node_host.proofs.Permitted.{more_folds, may_send, serial_is, can_send}
+use Rattle.node_host.specs.Acts.{state_of}
+use Rattle.node_host.proofs.node.HostNode.send_more.Given.{Over}
 use Rattle.node_host.proofs.node.HostNode.send_more.Goals as goal
+use Rattle.node_host.proofs.node.HostNode.send_more.Goals.{After-keep}
 
 pub more-requires-clause-may : goal.more-requires-clause-may
 more-requires-clause-may g c =
     let h = c.args.self.now in
-    let t = g.C.Component.state h.inner in
-    let line : List LineNode = map (λ p. record { first = p.first_port; arg = p.arg; log = p.log.items }) h.past.items in
-    let seat : SeatSeen = record { slot = g.S.GateSeat.slot_of h.seat; known = g.S.GateSeat.known h.seat; told = g.S.GateSeat.tells h.seat } in
-    subst (λ m. MaySendMore m seat.known c.args.served.port c.args.value) (sym c.requires.node) (may_send h.slot h.first_port t h.log.items line h.known h.waiting seat h.hosted c.args.served c.requires.served c.requires.heard c.requires.ended c.args.value c.requires.sends c.requires.small)
+    subst (λ m. MaySendMore m (g.S.GateSeat.known h.seat) c.args.served.port c.args.value) (sym c.requires.can.node)
+    (may_send h.hosted c.args.served c.requires.served c.requires.heard c.requires.ended c.args.value c.requires.sends c.requires.small)
 
 pub keep-requires-clause-count : goal.keep-requires-clause-count
 keep-requires-clause-count g c =
-    let h = c.args.self.now in
-    let t = g.C.Component.state h.inner in
-    let line : List LineNode = map (λ p. record { first = p.first_port; arg = p.arg; log = p.log.items }) h.past.items in
-    let seat : SeatSeen = record { slot = g.S.GateSeat.slot_of h.seat; known = g.S.GateSeat.known h.seat; told = g.S.GateSeat.tells h.seat } in
-    can_send h.slot h.first_port t h.log.items line h.known h.waiting seat h.hosted c.args.served c.requires.served c.requires.heard c.requires.ended c.args.served.port c.args.served.serial c.args.value c.requires.sends
+    can_send c.args.self.now.hosted c.args.served c.requires.served c.requires.heard c.requires.ended c.args.served.port c.args.served.serial c.args.value c.requires.sends
 
 pub more_given-requires : goal.more_given-requires
-more_given-requires g c =
-    record { sent = (c.args.value, c.requires.sends) }
+more_given-requires g c = record { sent = (c.args.value, c.requires.sends) }
+
+went : (g : Over) (c : After-keep g) → GoesOn g.G.PortGate c.args.gate.now c.more.new.self c.args.self.now c.more_given.new.self c.more.new.seat c.keep.new.log.items c.keep.new.known c.keep.result (event.More c.args.served.port c.args.served.serial c.args.value)
+went g c =
+    let h = c.args.self.now in
+    goes_on (c.more.ensures.node ∙ c.requires.can.node) (g.met.G.PortGate.within c.more.new.self c.more.new.seat c.more.ensures.fits).1
+    (did_by c.requires.can.node (ap (λ k. event.More c.args.served.port k c.args.value ∷ []) (serial_is h.hosted c.args.served c.requires.served)) c.more.ensures.does)
+    (no_call h.hosted c.requires.ended) (more_folds h.first_port c.args.served.port c.args.served.serial c.args.value (state_of h) _ c.requires.sends c.more_given.ensures.state) c.keep.ensures.event c.keep.ensures.logged c.keep.ensures.known
 
 pub invariant_of-self-clause-hosted : goal.invariant_of-self-clause-hosted
-invariant_of-self-clause-hosted g c =
-    let h = c.args.self.now in
-    let t = g.C.Component.state h.inner in
-    let line : List LineNode = map (λ p. record { first = p.first_port; arg = p.arg; log = p.log.items }) h.past.items in
-    let seat : SeatSeen = record { slot = g.S.GateSeat.slot_of h.seat; known = g.S.GateSeat.known h.seat; told = g.S.GateSeat.tells h.seat } in
-    let seat' : SeatSeen = record { slot = g.S.GateSeat.slot_of c.more.new.seat; known = g.S.GateSeat.known c.more.new.seat; told = g.S.GateSeat.tells c.more.new.seat } in
-    let e : Event = event.More c.args.served.port c.args.served.serial c.args.value in
-    hosted_after h.slot h.first_port t h.log.items line h.known h.waiting seat h.hosted e (g.C.Component.state c.more_given.new.self) c.keep.new.log.items c.keep.new.known seat'
-    (g.G.PortGate.node c.more.new.self c.more.new.seat) (g.G.PortGate.state c.args.gate.now) (g.G.PortGate.state c.more.new.self)
-    (c.more.ensures.node ∙ c.requires.node) (g.met.G.PortGate.within c.more.new.self c.more.new.seat c.more.ensures.fits).1
-    (did_by (node_of h.slot h.first_port t) (g.G.PortGate.node c.args.gate.now h.seat) seat.known seat'.known seat.told seat'.told (g.G.PortGate.state c.args.gate.now) (g.G.PortGate.state c.more.new.self) (e ∷ []) (event.More c.args.served.port (serial_served seat.known) c.args.value ∷ []) c.requires.node (ap (λ k. event.More c.args.served.port k c.args.value ∷ []) (serial_is h.slot h.first_port t h.log.items line h.known h.waiting seat h.hosted c.args.served c.requires.served)) c.more.ensures.does)
-    (no_call h.slot h.first_port t h.log.items line h.known h.waiting seat h.hosted c.requires.ended) (more_folds h.first_port c.args.served.port c.args.served.serial c.args.value t (g.C.Component.state c.more_given.new.self) c.requires.sends c.more_given.ensures.state) c.keep.ensures.logged c.keep.ensures.known
+invariant_of-self-clause-hosted g c = (went g (goal.at.invariant_of-self-clause-hosted g c).After-keep).hosted
 
-pub returns-clause-node : goal.returns-clause-node
-returns-clause-node g c =
-    let h = c.args.self.now in
-    let t = g.C.Component.state h.inner in
-    let line : List LineNode = map (λ p. record { first = p.first_port; arg = p.arg; log = p.log.items }) h.past.items in
-    let seat : SeatSeen = record { slot = g.S.GateSeat.slot_of h.seat; known = g.S.GateSeat.known h.seat; told = g.S.GateSeat.tells h.seat } in
-    let seat' : SeatSeen = record { slot = g.S.GateSeat.slot_of c.more.new.seat; known = g.S.GateSeat.known c.more.new.seat; told = g.S.GateSeat.tells c.more.new.seat } in
-    let e : Event = event.More c.args.served.port c.args.served.serial c.args.value in
-    node_after h.slot h.first_port t h.log.items line h.known h.waiting seat h.hosted e (g.C.Component.state c.more_given.new.self) c.keep.new.log.items c.keep.new.known seat'
-    (g.G.PortGate.node c.more.new.self c.more.new.seat) (g.G.PortGate.state c.args.gate.now) (g.G.PortGate.state c.more.new.self)
-    (c.more.ensures.node ∙ c.requires.node) (g.met.G.PortGate.within c.more.new.self c.more.new.seat c.more.ensures.fits).1
-    (did_by (node_of h.slot h.first_port t) (g.G.PortGate.node c.args.gate.now h.seat) seat.known seat'.known seat.told seat'.told (g.G.PortGate.state c.args.gate.now) (g.G.PortGate.state c.more.new.self) (e ∷ []) (event.More c.args.served.port (serial_served seat.known) c.args.value ∷ []) c.requires.node (ap (λ k. event.More c.args.served.port k c.args.value ∷ []) (serial_is h.slot h.first_port t h.log.items line h.known h.waiting seat h.hosted c.args.served c.requires.served)) c.more.ensures.does)
-    (no_call h.slot h.first_port t h.log.items line h.known h.waiting seat h.hosted c.requires.ended) (more_folds h.first_port c.args.served.port c.args.served.serial c.args.value t (g.C.Component.state c.more_given.new.self) c.requires.sends c.more_given.ensures.state) c.keep.ensures.logged c.keep.ensures.known
-
-pub returns-clause-moved : goal.returns-clause-moved
-returns-clause-moved g c =
-    let h = c.args.self.now in
-    let t = g.C.Component.state h.inner in
-    let line : List LineNode = map (λ p. record { first = p.first_port; arg = p.arg; log = p.log.items }) h.past.items in
-    let seat : SeatSeen = record { slot = g.S.GateSeat.slot_of h.seat; known = g.S.GateSeat.known h.seat; told = g.S.GateSeat.tells h.seat } in
-    let seat' : SeatSeen = record { slot = g.S.GateSeat.slot_of c.more.new.seat; known = g.S.GateSeat.known c.more.new.seat; told = g.S.GateSeat.tells c.more.new.seat } in
-    let e : Event = event.More c.args.served.port c.args.served.serial c.args.value in
-    moved_after h.slot h.first_port t h.log.items line h.known h.waiting seat h.hosted e (g.C.Component.state c.more_given.new.self) c.keep.new.log.items c.keep.new.known seat'
-    (g.G.PortGate.node c.more.new.self c.more.new.seat) (g.G.PortGate.state c.args.gate.now) (g.G.PortGate.state c.more.new.self)
-    (c.more.ensures.node ∙ c.requires.node) (g.met.G.PortGate.within c.more.new.self c.more.new.seat c.more.ensures.fits).1
-    (did_by (node_of h.slot h.first_port t) (g.G.PortGate.node c.args.gate.now h.seat) seat.known seat'.known seat.told seat'.told (g.G.PortGate.state c.args.gate.now) (g.G.PortGate.state c.more.new.self) (e ∷ []) (event.More c.args.served.port (serial_served seat.known) c.args.value ∷ []) c.requires.node (ap (λ k. event.More c.args.served.port k c.args.value ∷ []) (serial_is h.slot h.first_port t h.log.items line h.known h.waiting seat h.hosted c.args.served c.requires.served)) c.more.ensures.does)
-    (no_call h.slot h.first_port t h.log.items line h.known h.waiting seat h.hosted c.requires.ended) (more_folds h.first_port c.args.served.port c.args.served.serial c.args.value t (g.C.Component.state c.more_given.new.self) c.requires.sends c.more_given.ensures.state) c.keep.ensures.logged c.keep.ensures.known
+pub returns-clause-acts : goal.returns-clause-acts
+returns-clause-acts g c = let w = went g (goal.at.returns-clause-acts g c).After-keep in search (rules, w.node, w.moved)
 
 pub returns-clause-exact : goal.returns-clause-exact
 returns-clause-exact g c =
-    let h = c.args.self.now in
-    let t = g.C.Component.state h.inner in
-    let line : List LineNode = map (λ p. record { first = p.first_port; arg = p.arg; log = p.log.items }) h.past.items in
-    let seat : SeatSeen = record { slot = g.S.GateSeat.slot_of h.seat; known = g.S.GateSeat.known h.seat; told = g.S.GateSeat.tells h.seat } in
-    λ s told. sends_next (g.G.PortGate.state c.args.gate.now) (node_of h.slot h.first_port t) seat.known s told c.args.served.port c.args.served.serial c.args.value (g.G.PortGate.state c.more.new.self)
-    (did_by (node_of h.slot h.first_port t) (g.G.PortGate.node c.args.gate.now h.seat) seat.known (g.S.GateSeat.known c.more.new.seat) seat.told (g.S.GateSeat.tells c.more.new.seat) (g.G.PortGate.state c.args.gate.now) (g.G.PortGate.state c.more.new.self) (event.More c.args.served.port c.args.served.serial c.args.value ∷ []) (event.More c.args.served.port (serial_served seat.known) c.args.value ∷ []) c.requires.node (ap (λ k. event.More c.args.served.port k c.args.value ∷ []) (serial_is h.slot h.first_port t h.log.items line h.known h.waiting seat h.hosted c.args.served c.requires.served)) c.more.ensures.does).steps
+    let w = went g (goal.at.returns-clause-exact g c).After-keep in
+    λ s told. ap Some w.is ∙ sends_next told c.args.served.port c.args.served.serial c.args.value _ w.led

@@ -1,103 +1,56 @@
-use Rattle.std.proofs.Common.{◌∙◌, ◌<◌, List, [], ◌∷◌, refl, sym, ap, subst}
-use Rattle.std.specs.Prelude.{length, map}
+use Rattle.std.proofs.Common.{rules, ◌∙◌, ◌<◌, Some, refl, sym, ap, subst}
+use Rattle.std.specs.Prelude.{length}
+use Rattle.config_graph.specs.Kinds.{row}
+use Rattle.quiesce_core.specs.declared.event.Event.TheVariants as event
 use Rattle.port_gate.specs.Answers.{TakeSays}
 use Rattle.port_gate.specs.declared.answers.TakeAnswer.TheVariants as take
-use Rattle.config_graph.specs.Kinds.{row}
-use Rattle.quiesce_core.specs.declared.event.Event.{Event}
-use Rattle.quiesce_core.specs.declared.event.Event.TheVariants as event
-use Rattle.node_host.specs.Hosted.{SeatSeen, node_of}
-use Rattle.node_host.specs.Lines.{LineNode}
+use Rattle.node_host.proofs.EventLaws.{GoesOn, GoesStill, did_by, goes_on, goes_still}
 use Rattle.node_host.proofs.Exactly.{takes_stale, takes_taken}
-use Rattle.node_host.proofs.Growing.{hosted_after, moved_after, node_after}
-use Rattle.node_host.proofs.Permitted.{did_by, take_folds}
-use Rattle.node_host.proofs.Still.{free_known, hosted_still, moved_still}
+use Rattle.node_host.proofs.InService.{free_known}
+use Rattle.node_host.proofs.Permitted.{take_folds}
+use Rattle.node_host.specs.Acts.{state_of}
+use Rattle.node_host.proofs.node.HostNode.take_at.Given.{Over}
 use Rattle.node_host.proofs.node.HostNode.take_at.Goals as goal
+use Rattle.node_host.proofs.node.HostNode.take_at.Goals.{After-keep, In-Stale}
 
 pub take-requires-clause-may : goal.take-requires-clause-may
 take-requires-clause-may g c =
     let h = c.args.self.now in
-    let t = g.C.Component.state h.inner in
-    let line : List LineNode = map (λ p. record { first = p.first_port; arg = p.arg; log = p.log.items }) h.past.items in
-    let seat : SeatSeen = record { slot = g.S.GateSeat.slot_of h.seat; known = g.S.GateSeat.known h.seat; told = g.S.GateSeat.tells h.seat } in
-    record { free = ap (λ w. w.service) (sym h.hosted.kept) ∙ free_known h.slot h.first_port t h.log.items line h.known h.waiting seat h.hosted c.requires.free; made = c.requires.port }
+    record { free = ap (λ w. w.service) (sym h.hosted.kept) ∙ free_known h.hosted c.requires.free; made = c.requires.port }
 
 pub serve-requires-clause-provide : goal.serve-requires-clause-provide
-serve-requires-clause-provide g c =
-    subst (λ m. c.in-Taken.provide < length (row m.kind).provides) c.requires.node c.in-Taken.ensures.says.0
+serve-requires-clause-provide g c = subst (λ m. c.in-Taken.provide < length (row m.kind).provides) c.requires.can.node c.in-Taken.ensures.says.0
+
+still : (g : Over) (c : In-Stale g) → GoesStill g.G.PortGate c.args.gate.now c.take.new.self c.args.self.now c.take.new.seat
+still g c =
+    goes_still (c.take.ensures.node ∙ c.requires.can.node) (g.met.G.PortGate.within c.take.new.self c.take.new.seat c.take.ensures.fits).1
+    (did_by c.requires.can.node refl c.in-Stale.ensures.does)
+
+went : (g : Over) (c : After-keep g) → GoesOn g.G.PortGate c.args.gate.now c.take.new.self c.args.self.now c.serve.new.self c.take.new.seat c.keep.new.log.items c.keep.new.known c.keep.result (event.Take c.args.port c.in-Taken.serial c.in-Taken.value)
+went g c =
+    let h = c.args.self.now in
+    goes_on (c.take.ensures.node ∙ c.requires.can.node) (g.met.G.PortGate.within c.take.new.self c.take.new.seat c.take.ensures.fits).1 (did_by c.requires.can.node refl c.in-Taken.ensures.does)
+    tt (take_folds h.first_port c.args.port c.in-Taken.serial c.in-Taken.value c.in-Taken.provide (state_of h) _ (subst (λ m. c.in-Taken.provide < length (row m.kind).provides) c.requires.can.node c.in-Taken.ensures.says.0) c.requires.free c.serve.ensures.state)
+    c.keep.ensures.event c.keep.ensures.logged c.keep.ensures.known
 
 pub invariant_of-self-clause-hosted : goal.invariant_of-self-clause-hosted
-invariant_of-self-clause-hosted g c =
-    let h = c.args.self.now in
-    let t = g.C.Component.state h.inner in
-    let line : List LineNode = map (λ p. record { first = p.first_port; arg = p.arg; log = p.log.items }) h.past.items in
-    let seat : SeatSeen = record { slot = g.S.GateSeat.slot_of h.seat; known = g.S.GateSeat.known h.seat; told = g.S.GateSeat.tells h.seat } in
-    let seat' : SeatSeen = record { slot = g.S.GateSeat.slot_of c.take.new.seat; known = g.S.GateSeat.known c.take.new.seat; told = g.S.GateSeat.tells c.take.new.seat } in
-    hosted_still h.slot h.first_port t h.log.items line h.known h.waiting seat h.hosted seat' (g.G.PortGate.node c.args.gate.now h.seat) (g.G.PortGate.node c.take.new.self c.take.new.seat) (g.G.PortGate.state c.args.gate.now) (g.G.PortGate.state c.take.new.self)
-    c.requires.node c.take.ensures.node (g.met.G.PortGate.within c.take.new.self c.take.new.seat c.take.ensures.fits).1 c.in-Stale.ensures.does
+invariant_of-self-clause-hosted g c = (still g (goal.at.invariant_of-self-clause-hosted g c).In-Stale).hosted
 
-pub returns-in-Stale-clause-moved : goal.returns-in-Stale-clause-moved
-returns-in-Stale-clause-moved g c =
-    let h = c.args.self.now in
-    let t = g.C.Component.state h.inner in
-    let line : List LineNode = map (λ p. record { first = p.first_port; arg = p.arg; log = p.log.items }) h.past.items in
-    let seat : SeatSeen = record { slot = g.S.GateSeat.slot_of h.seat; known = g.S.GateSeat.known h.seat; told = g.S.GateSeat.tells h.seat } in
-    let seat' : SeatSeen = record { slot = g.S.GateSeat.slot_of c.take.new.seat; known = g.S.GateSeat.known c.take.new.seat; told = g.S.GateSeat.tells c.take.new.seat } in
-    moved_still h.slot h.first_port t h.log.items line h.known h.waiting seat h.hosted seat' (g.G.PortGate.node c.args.gate.now h.seat) (g.G.PortGate.node c.take.new.self c.take.new.seat) (g.G.PortGate.state c.args.gate.now) (g.G.PortGate.state c.take.new.self)
-    c.requires.node c.take.ensures.node (g.met.G.PortGate.within c.take.new.self c.take.new.seat c.take.ensures.fits).1 c.in-Stale.ensures.does
+pub returns-in-Stale-clause-acts : goal.returns-in-Stale-clause-acts
+returns-in-Stale-clause-acts g c = let w = still g (goal.at.returns-in-Stale-clause-acts g c).In-Stale in search (rules, w.moved)
 
 pub returns-in-Stale-clause-exact : goal.returns-in-Stale-clause-exact
-returns-in-Stale-clause-exact g c =
-    let h = c.args.self.now in
-    let t = g.C.Component.state h.inner in
-    let seat : SeatSeen = record { slot = g.S.GateSeat.slot_of h.seat; known = g.S.GateSeat.known h.seat; told = g.S.GateSeat.tells h.seat } in
-    λ s later told. takes_stale (g.G.PortGate.state c.args.gate.now) (node_of h.slot h.first_port t) seat.known s told (c.args.port ∷ later) c.args.port c.in-Stale.word refl (subst (λ m. TakeSays (g.G.PortGate.state c.args.gate.now) m c.args.port (take.Stale c.in-Stale.word)) c.requires.node c.in-Stale.ensures.says)
+returns-in-Stale-clause-exact g c = λ s later told.
+    takes_stale told c.args.port c.in-Stale.word later
+    (subst (λ m. TakeSays (g.G.PortGate.state c.args.gate.now) m c.args.port (take.Stale c.in-Stale.word)) c.requires.can.node c.in-Stale.ensures.says)
 
 pub invariant_of-self-in-Taken-clause-hosted : goal.invariant_of-self-in-Taken-clause-hosted
-invariant_of-self-in-Taken-clause-hosted g c =
-    let h = c.args.self.now in
-    let t = g.C.Component.state h.inner in
-    let line : List LineNode = map (λ p. record { first = p.first_port; arg = p.arg; log = p.log.items }) h.past.items in
-    let seat : SeatSeen = record { slot = g.S.GateSeat.slot_of h.seat; known = g.S.GateSeat.known h.seat; told = g.S.GateSeat.tells h.seat } in
-    let seat' : SeatSeen = record { slot = g.S.GateSeat.slot_of c.take.new.seat; known = g.S.GateSeat.known c.take.new.seat; told = g.S.GateSeat.tells c.take.new.seat } in
-    let e : Event = event.Take c.args.port c.in-Taken.serial c.in-Taken.value in
-    hosted_after h.slot h.first_port t h.log.items line h.known h.waiting seat h.hosted e (g.C.Component.state c.serve.new.self) c.keep.new.log.items c.keep.new.known seat'
-    (g.G.PortGate.node c.take.new.self c.take.new.seat) (g.G.PortGate.state c.args.gate.now) (g.G.PortGate.state c.take.new.self)
-    (c.take.ensures.node ∙ c.requires.node) (g.met.G.PortGate.within c.take.new.self c.take.new.seat c.take.ensures.fits).1
-    (did_by (node_of h.slot h.first_port t) (g.G.PortGate.node c.args.gate.now h.seat) seat.known seat'.known seat.told seat'.told (g.G.PortGate.state c.args.gate.now) (g.G.PortGate.state c.take.new.self) (e ∷ []) (event.Take c.args.port c.in-Taken.serial c.in-Taken.value ∷ []) c.requires.node (refl) c.in-Taken.ensures.does)
-    (tt) (take_folds h.first_port c.args.port c.in-Taken.serial c.in-Taken.value c.in-Taken.provide t (g.C.Component.state c.serve.new.self) (subst (λ m. c.in-Taken.provide < length (row m.kind).provides) c.requires.node c.in-Taken.ensures.says.0) c.requires.free c.serve.ensures.state) c.keep.ensures.logged c.keep.ensures.known
+invariant_of-self-in-Taken-clause-hosted g c = (went g (goal.at.invariant_of-self-in-Taken-clause-hosted g c).After-keep).hosted
 
-pub returns-in-Taken-clause-node : goal.returns-in-Taken-clause-node
-returns-in-Taken-clause-node g c =
-    let h = c.args.self.now in
-    let t = g.C.Component.state h.inner in
-    let line : List LineNode = map (λ p. record { first = p.first_port; arg = p.arg; log = p.log.items }) h.past.items in
-    let seat : SeatSeen = record { slot = g.S.GateSeat.slot_of h.seat; known = g.S.GateSeat.known h.seat; told = g.S.GateSeat.tells h.seat } in
-    let seat' : SeatSeen = record { slot = g.S.GateSeat.slot_of c.take.new.seat; known = g.S.GateSeat.known c.take.new.seat; told = g.S.GateSeat.tells c.take.new.seat } in
-    let e : Event = event.Take c.args.port c.in-Taken.serial c.in-Taken.value in
-    node_after h.slot h.first_port t h.log.items line h.known h.waiting seat h.hosted e (g.C.Component.state c.serve.new.self) c.keep.new.log.items c.keep.new.known seat'
-    (g.G.PortGate.node c.take.new.self c.take.new.seat) (g.G.PortGate.state c.args.gate.now) (g.G.PortGate.state c.take.new.self)
-    (c.take.ensures.node ∙ c.requires.node) (g.met.G.PortGate.within c.take.new.self c.take.new.seat c.take.ensures.fits).1
-    (did_by (node_of h.slot h.first_port t) (g.G.PortGate.node c.args.gate.now h.seat) seat.known seat'.known seat.told seat'.told (g.G.PortGate.state c.args.gate.now) (g.G.PortGate.state c.take.new.self) (e ∷ []) (event.Take c.args.port c.in-Taken.serial c.in-Taken.value ∷ []) c.requires.node (refl) c.in-Taken.ensures.does)
-    (tt) (take_folds h.first_port c.args.port c.in-Taken.serial c.in-Taken.value c.in-Taken.provide t (g.C.Component.state c.serve.new.self) (subst (λ m. c.in-Taken.provide < length (row m.kind).provides) c.requires.node c.in-Taken.ensures.says.0) c.requires.free c.serve.ensures.state) c.keep.ensures.logged c.keep.ensures.known
-
-pub returns-in-Taken-clause-moved : goal.returns-in-Taken-clause-moved
-returns-in-Taken-clause-moved g c =
-    let h = c.args.self.now in
-    let t = g.C.Component.state h.inner in
-    let line : List LineNode = map (λ p. record { first = p.first_port; arg = p.arg; log = p.log.items }) h.past.items in
-    let seat : SeatSeen = record { slot = g.S.GateSeat.slot_of h.seat; known = g.S.GateSeat.known h.seat; told = g.S.GateSeat.tells h.seat } in
-    let seat' : SeatSeen = record { slot = g.S.GateSeat.slot_of c.take.new.seat; known = g.S.GateSeat.known c.take.new.seat; told = g.S.GateSeat.tells c.take.new.seat } in
-    let e : Event = event.Take c.args.port c.in-Taken.serial c.in-Taken.value in
-    moved_after h.slot h.first_port t h.log.items line h.known h.waiting seat h.hosted e (g.C.Component.state c.serve.new.self) c.keep.new.log.items c.keep.new.known seat'
-    (g.G.PortGate.node c.take.new.self c.take.new.seat) (g.G.PortGate.state c.args.gate.now) (g.G.PortGate.state c.take.new.self)
-    (c.take.ensures.node ∙ c.requires.node) (g.met.G.PortGate.within c.take.new.self c.take.new.seat c.take.ensures.fits).1
-    (did_by (node_of h.slot h.first_port t) (g.G.PortGate.node c.args.gate.now h.seat) seat.known seat'.known seat.told seat'.told (g.G.PortGate.state c.args.gate.now) (g.G.PortGate.state c.take.new.self) (e ∷ []) (event.Take c.args.port c.in-Taken.serial c.in-Taken.value ∷ []) c.requires.node (refl) c.in-Taken.ensures.does)
-    (tt) (take_folds h.first_port c.args.port c.in-Taken.serial c.in-Taken.value c.in-Taken.provide t (g.C.Component.state c.serve.new.self) (subst (λ m. c.in-Taken.provide < length (row m.kind).provides) c.requires.node c.in-Taken.ensures.says.0) c.requires.free c.serve.ensures.state) c.keep.ensures.logged c.keep.ensures.known
+pub returns-in-Taken-clause-acts : goal.returns-in-Taken-clause-acts
+returns-in-Taken-clause-acts g c = let w = went g (goal.at.returns-in-Taken-clause-acts g c).After-keep in search (rules, w.node, w.moved)
 
 pub returns-in-Taken-clause-exact : goal.returns-in-Taken-clause-exact
 returns-in-Taken-clause-exact g c =
-    let h = c.args.self.now in
-    let t = g.C.Component.state h.inner in
-    let seat : SeatSeen = record { slot = g.S.GateSeat.slot_of h.seat; known = g.S.GateSeat.known h.seat; told = g.S.GateSeat.tells h.seat } in
-    λ s later told. takes_taken (g.G.PortGate.state c.args.gate.now) (node_of h.slot h.first_port t) seat.known s told (c.args.port ∷ later) c.args.port c.in-Taken.serial c.in-Taken.value (g.G.PortGate.state c.take.new.self) refl
-    (did_by (node_of h.slot h.first_port t) (g.G.PortGate.node c.args.gate.now h.seat) seat.known (g.S.GateSeat.known c.take.new.seat) seat.told (g.S.GateSeat.tells c.take.new.seat) (g.G.PortGate.state c.args.gate.now) (g.G.PortGate.state c.take.new.self) (event.Take c.args.port c.in-Taken.serial c.in-Taken.value ∷ []) (event.Take c.args.port c.in-Taken.serial c.in-Taken.value ∷ []) c.requires.node (refl) c.in-Taken.ensures.does).steps
+    let w = went g (goal.at.returns-in-Taken-clause-exact g c).After-keep in
+    λ s later told. ap Some w.is ∙ takes_taken told c.args.port c.in-Taken.serial c.in-Taken.value later _ w.led

@@ -1,70 +1,31 @@
 use Rattle.std.proofs.Common.{◌∙◌, refl, sym, ap}
 use Rattle.std.specs.Prelude.{◌&&◌, is_none}
-use Rattle.node_host.specs.Hosted.{SeatSeen, node_of}
-use Rattle.node_host.specs.Posting.{GateSeen, Hinted}
-use Rattle.node_host.proofs.Composing.{same_machine, same_state}
-use Rattle.node_host.proofs.Loading.{keeps_steps}
-use Rattle.node_host.proofs.Tries.{cannot_after, held_kept, sent_after_service, sent_as, sent_before_look}
 use Rattle.quiesce_core.specs.State.{service}
-use Rattle.turns.specs.Turn.{serves}
+use Rattle.node_host.specs.Acts.{hinted, state_of}
+use Rattle.node_host.proofs.Loading.{keeps_steps}
+use Rattle.node_host.proofs.Tries.{cannot_then, held_kept, sent_after_service, sent_before_look, sent_then}
 use Rattle.node_host.proofs.node.HostNode.work.Goals as goal
 
 pub returns-in-Some-clause-sent : goal.returns-in-Some-clause-sent
 returns-in-Some-clause-sent g c =
-    let h = c.args.self.now in
-    let t = g.C.Component.state h.inner in
-    let k = c.serve.new.self in
-    let seen : GateSeen = record { state = g.G.PortGate.state c.args.gate.now; before = g.S.GateSeat.loads h.seat; after = g.S.GateSeat.loads k.seat } in
-    let old : Hinted = record { waiting = h.waiting; counts = g.H.Hints.counts c.args.hints.now; told = g.H.Hints.tells c.args.hints.now } in
-    let new : Hinted = record { waiting = k.waiting; counts = g.H.Hints.counts c.serve.new.hints; told = g.H.Hints.tells c.serve.new.hints } in
-    sent_before_look seen (node_of h.slot h.first_port t) (g.S.GateSeat.known h.seat) (λ s. is_none (serves s h.slot t) && is_none (service s h.slot)) 2 c.in-Some.event old new refl c.in-Some.ensures.number
-    (λ s told. ap (λ e. is_none e && is_none (service s h.slot)) (sym (c.in-Some.ensures.exact s told)))
-    c.in-Some.ensures.hint
+    sent_before_look 2 refl c.in-Some.ensures.number (λ s told. ap (λ e. is_none e && is_none (service s c.args.self.now.slot)) (sym (c.in-Some.ensures.exact s told))) c.in-Some.ensures.hint
 
 pub returns-in-None-clause-sent : goal.returns-in-None-clause-sent
 returns-in-None-clause-sent g c =
     let h = c.args.self.now in
-    let t = g.C.Component.state h.inner in
-    let seat : SeatSeen = record { slot = g.S.GateSeat.slot_of h.seat; known = g.S.GateSeat.known h.seat; told = g.S.GateSeat.tells h.seat } in
     let m = c.serve.new.self in
-    let tm = g.C.Component.state m.inner in
-    let seatm : SeatSeen = record { slot = g.S.GateSeat.slot_of m.seat; known = g.S.GateSeat.known m.seat; told = g.S.GateSeat.tells m.seat } in
-    let a = g.S.GateSeat.loads h.seat in
-    let b = g.S.GateSeat.loads m.seat in
-    let k = c.look.new.self in
-    let d = g.S.GateSeat.loads k.seat in
-    let o = g.G.PortGate.state c.args.gate.now in
-    let seen : GateSeen = record { state = o; before = a; after = d } in
-    let old : Hinted = record { waiting = h.waiting; counts = g.H.Hints.counts c.args.hints.now; told = g.H.Hints.tells c.args.hints.now } in
-    let between : Hinted = record { waiting = m.waiting; counts = g.H.Hints.counts c.serve.new.hints; told = g.H.Hints.tells c.serve.new.hints } in
-    let new : Hinted = record { waiting = k.waiting; counts = g.H.Hints.counts c.look.new.hints; told = g.H.Hints.tells c.look.new.hints } in
     let quiet = c.in-None.ensures.quiet refl in
-    sent_after_service seen (node_of h.slot h.first_port t) t h.known seat.known c.look.result old new h.hosted.kept c.look.ensures.passed (λ s told. c.in-None.ensures.exact s told)
-    (sent_as o (g.G.PortGate.state c.serve.new.gate) a b d h.slot m.slot h.first_port m.first_port h.known m.known c.look.result old between new
-    (same_machine (node_of h.slot h.first_port t) t tm h.log.items m.log.items seat seatm (g.G.PortGate.state c.args.gate.now) (g.G.PortGate.state c.serve.new.gate) c.in-None.ensures.moved)
-    c.in-None.ensures.place.0 c.in-None.ensures.place.1 (c.in-None.ensures.known refl)
-    (ap (λ x. record { waiting = m.waiting; counts = g.H.Hints.counts x; told = g.H.Hints.tells x }) quiet.0 ∙ ap (λ x. record { waiting = x; counts = g.H.Hints.counts c.args.hints.now; told = g.H.Hints.tells c.args.hints.now }) quiet.1)
-    (keeps_steps 2 h.first_port h.known a b c.in-None.ensures.loads) c.look.ensures.sent)
+    sent_after_service (state_of h) h.hosted.kept c.look.ensures.looks.passed (λ s told. c.in-None.ensures.exact s told)
+    (sent_then c.in-None.ensures.acts (keeps_steps 2 h.first_port h.known (g.S.GateSeat.loads h.seat) (g.S.GateSeat.loads m.seat) c.in-None.ensures.loads) c.look.new.self
+    (ap (λ x. hinted g.H.Hints x m) quiet.0 ∙ ap (λ x. record { waiting = x; counts = g.H.Hints.counts c.args.hints.now; told = g.H.Hints.tells c.args.hints.now }) quiet.1) c.look.ensures.looks.sent)
 
 pub returns-in-None-clause-tried : goal.returns-in-None-clause-tried
 returns-in-None-clause-tried g c =
     let h = c.args.self.now in
-    let t = g.C.Component.state h.inner in
-    let seat : SeatSeen = record { slot = g.S.GateSeat.slot_of h.seat; known = g.S.GateSeat.known h.seat; told = g.S.GateSeat.tells h.seat } in
-    let m = c.serve.new.self in
-    let tm = g.C.Component.state m.inner in
-    let seatm : SeatSeen = record { slot = g.S.GateSeat.slot_of m.seat; known = g.S.GateSeat.known m.seat; told = g.S.GateSeat.tells m.seat } in
-    let a = g.S.GateSeat.loads h.seat in
-    let b = g.S.GateSeat.loads m.seat in
-    let k = c.look.new.self in
-    let d = g.S.GateSeat.loads k.seat in
-    cannot_after h.first_port m.first_port t tm h.known m.known c.args.allowed c.look.result a b d c.in-None.ensures.place.1
-    (same_state (node_of h.slot h.first_port t) t tm h.log.items m.log.items seat seatm (g.G.PortGate.state c.args.gate.now) (g.G.PortGate.state c.serve.new.gate) c.in-None.ensures.moved) (c.in-None.ensures.known refl)
-    (keeps_steps 2 h.first_port h.known a b c.in-None.ensures.loads) c.look.ensures.tried
+    λ none_ may. cannot_then c.in-None.ensures.acts (keeps_steps 2 h.first_port h.known (g.S.GateSeat.loads h.seat) (g.S.GateSeat.loads c.serve.new.self.seat) c.in-None.ensures.loads) c.look.new.self (c.look.ensures.looks.tried none_ may)
 
 pub returns-in-None-clause-held : goal.returns-in-None-clause-held
 returns-in-None-clause-held g c =
     let h = c.args.self.now in
     let m = c.serve.new.self in
-    let k = c.look.new.self in
-    λ passed. held_kept m.first_port m.known h.known h.known.service (g.S.GateSeat.loads h.seat) (g.S.GateSeat.loads m.seat) (g.S.GateSeat.loads k.seat) c.look.ensures.loads (c.in-None.ensures.held refl)
+    λ passed. held_kept m.first_port m.known h.known h.known.service (g.S.GateSeat.loads h.seat) (g.S.GateSeat.loads m.seat) (g.S.GateSeat.loads c.look.new.self.seat) c.look.ensures.looks.loads (c.in-None.ensures.held refl)

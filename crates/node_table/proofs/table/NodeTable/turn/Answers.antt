@@ -33,7 +33,7 @@ invariant_of-self c = record {
   past_room =
       past_rooms_kept c.args.self.now.nodes.items c.args.self.now.sources c.args.slot (held.Node c.in-Node.node) (held.Node c.turn.new.self) c.args.self.now.past_room
       (at_slot c.args.self.now.nodes.items c.args.slot c.index_mut.result.now (held.Node c.in-Node.node) (within_live _ _ _ _ _ _ c.requires.live c.requires.some) c.index_mut.ensures.value c.in-Node.is)
-      (ap (λ p. nat_lt (length p.items) (vec_capacity p)) c.turn.ensures.past);
+      (ap (λ p. nat_lt (length p.items) (vec_capacity p)) c.turn.ensures.acts.past);
 }
 
 pub unreachable-requires : goal.unreachable-requires
@@ -47,23 +47,23 @@ returns-clause-shows c =
     on_ok_weaker c.turn.result (λ p. λ w h. (p w h).0)
     (shows_ok _ _ _ c.args.self.now.nodes.items _ _ _ c.args.slot c.args.begins (held.Node c.in-Node.node) (held.Node c.turn.new.self) _ _
     (at_slot c.args.self.now.nodes.items c.args.slot c.index_mut.result.now (held.Node c.in-Node.node) (within_live _ _ _ _ _ _ c.requires.live c.requires.some) c.index_mut.ensures.value c.in-Node.is)
-    refl refl c.requires.live _ _ _ _ c.turn.result _ _ refl refl c.turn.ensures.moved c.turn.ensures.place.0 c.turn.ensures.place.1
-    (ap (λ p. map (λ q. record { slot = q.slot; first = q.first_port; arg = q.arg; log = q.log.items }) p.items) c.turn.ensures.past)
-    c.turn.new.self.seat.slot (c.turn.new.self.hosted.of_slot ∙ c.turn.ensures.place.0) c.turn.ensures.fits (rests_told _ _ _ _ _ _ _ _ c.turn.new.self.hosted) c.turn.ensures.exact c.turn.ensures.hints)
+    refl refl c.requires.live _ _ _ _ c.turn.result _ _ refl refl c.turn.ensures.acts.moved c.turn.ensures.acts.place.0 c.turn.ensures.acts.place.1
+    (ap (λ p. map (λ q. record { slot = q.slot; first = q.first_port; arg = q.arg; log = q.log.items }) p.items) c.turn.ensures.acts.past)
+    c.turn.new.self.seat.slot (c.turn.new.self.hosted.of_slot ∙ c.turn.ensures.acts.place.0) c.turn.ensures.acts.fits (rests_told _ _ _ _ _ _ _ _ c.turn.new.self.hosted) c.turn.ensures.exact c.turn.ensures.hints)
 
 pub returns-clause-event : goal.returns-clause-event
 returns-clause-event c =
     on_ok_weaker c.turn.result (λ p. λ w h. (p w h).1)
     (shows_ok _ _ _ c.args.self.now.nodes.items _ _ _ c.args.slot c.args.begins (held.Node c.in-Node.node) (held.Node c.turn.new.self) _ _
     (at_slot c.args.self.now.nodes.items c.args.slot c.index_mut.result.now (held.Node c.in-Node.node) (within_live _ _ _ _ _ _ c.requires.live c.requires.some) c.index_mut.ensures.value c.in-Node.is)
-    refl refl c.requires.live _ _ _ _ c.turn.result _ _ refl refl c.turn.ensures.moved c.turn.ensures.place.0 c.turn.ensures.place.1
-    (ap (λ p. map (λ q. record { slot = q.slot; first = q.first_port; arg = q.arg; log = q.log.items }) p.items) c.turn.ensures.past)
-    c.turn.new.self.seat.slot (c.turn.new.self.hosted.of_slot ∙ c.turn.ensures.place.0) c.turn.ensures.fits (rests_told _ _ _ _ _ _ _ _ c.turn.new.self.hosted) c.turn.ensures.exact c.turn.ensures.hints)
+    refl refl c.requires.live _ _ _ _ c.turn.result _ _ refl refl c.turn.ensures.acts.moved c.turn.ensures.acts.place.0 c.turn.ensures.acts.place.1
+    (ap (λ p. map (λ q. record { slot = q.slot; first = q.first_port; arg = q.arg; log = q.log.items }) p.items) c.turn.ensures.acts.past)
+    c.turn.new.self.seat.slot (c.turn.new.self.hosted.of_slot ∙ c.turn.ensures.acts.place.0) c.turn.ensures.acts.fits (rests_told _ _ _ _ _ _ _ _ c.turn.new.self.hosted) c.turn.ensures.exact c.turn.ensures.hints)
 
 pub returns-clause-memory : goal.returns-clause-memory
 returns-clause-memory c =
     shows_err _ _ _ c.args.self.now.nodes.items _ _ _ c.args.slot c.args.begins (held.Node c.in-Node.node) (held.Node c.turn.new.self) _ _
     (at_slot c.args.self.now.nodes.items c.args.slot c.index_mut.result.now (held.Node c.in-Node.node) (within_live _ _ _ _ _ _ c.requires.live c.requires.some) c.index_mut.ensures.value c.in-Node.is)
-    refl refl c.requires.live (λ k. no_counts) (λ k. no_counts) None None c.turn.result _ _ refl refl c.turn.ensures.moved c.turn.ensures.place.0 c.turn.ensures.place.1
-    (ap (λ p. map (λ q. record { slot = q.slot; first = q.first_port; arg = q.arg; log = q.log.items }) p.items) c.turn.ensures.past)
+    refl refl c.requires.live (λ k. no_counts) (λ k. no_counts) None None c.turn.result _ _ refl refl c.turn.ensures.acts.moved c.turn.ensures.acts.place.0 c.turn.ensures.acts.place.1
+    (ap (λ p. map (λ q. record { slot = q.slot; first = q.first_port; arg = q.arg; log = q.log.items }) p.items) c.turn.ensures.acts.past)
     (on_err_weaker c.turn.result (λ k. (k.0, ap (λ s. s.known) k.1, ap (λ g. g.core.state) k.2, ap (λ h. λ n. Some (box_of h.inboxes.items n).held) k.3)) c.turn.ensures.memory)
