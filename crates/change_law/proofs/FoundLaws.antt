@@ -1,6 +1,6 @@
 -- A report that was found lawful is so.
 use Rattle.std.proofs.Common.{◌≡◌, ◌∙◌, ℕ, ◌+◌, ◌-◌, Bool, true, false, not, ◌&&◌, ◌||◌, cond, List, [], ◌∷◌, ◌++◌, append_assoc, map, length, take, drop, Option, Some, None, refl, sym, ap, subst, ⊎_elim, inl, inr, arith}
-use Rattle.std.specs.Prelude.{◌==◌, ◌⊎◌, All, nat_le, nat_lt, slice_get}
+use Rattle.std.specs.Prelude.{◌==◌, ◌⊎◌, All, nat_le, nat_lt}
 use Rattle.std.specs.List.{count_by, list_all, list_any, range_with_len}
 use Rattle.std.specs.Option.{option_map_or}
 use Rattle.std.proofs.lemmas.Bool.{and_parts, both_ways, eqb-true, leb-true, ltb-true, or_cases, or_parts}
@@ -14,11 +14,10 @@ use Rattle.base.proofs.RangeLaws.{all_in_range, any_in_range}
 use Rattle.component_trait.specs.States.{NodeState}
 use Rattle.config_graph.specs.Graph.{Graph}
 use Rattle.quiesce_core.specs.Runs.{IsRun, done_by}
-use Rattle.quiesce_core.specs.State.{is_live}
+use Rattle.quiesce_core.specs.State.{gate, is_live}
 use Rattle.quiesce_core.proofs.RunLaws.{run_if}
 use Rattle.quiesce_core.proofs.TableLaws.{live_made}
 use Rattle.quiesce_core.specs.declared.event.Event.{Event}
-use Rattle.quiescence_laws.specs.Events.{reopens}
 use Rattle.quiescence_laws.specs.Roots.{has_root}
 use Rattle.turns.specs.Round.{is_end}
 use Rattle.change_script.specs.declared.report.HistoryLine.{HistoryLine}
@@ -29,12 +28,13 @@ use Rattle.change_script.specs.declared.report.NodeLog.{NodeLog}
 use Rattle.change_script.specs.declared.report.Report.{Report}
 use Rattle.change_law.specs.Endings.{moved_to}
 use Rattle.change_law.specs.Follows.{Follows}
-use Rattle.change_law.specs.Found.{IsFound, came_to_rest, held_at, held_since, is_drained_at, is_finish_at, is_graph_at, is_line, is_of_its_kind, is_of_rounds, is_run_at, is_same_count, last_of_log, since_line, up_to_line}
-use Rattle.change_law.specs.Lawful.{CameToRest, EndsAs, HeldSince, StoodOpen, StoodOpenWhereSaid, IsDrainedAt, IsFinishAt, IsGraphAt, IsGraphDescribed, IsLawfulBy, IsOfItsKind, IsOfRounds, IsRunAt, Lawful, Merge, Pace, on_threads, in_rounds, described, is_done, is_idle_after}
+use Rattle.change_law.specs.Found.{IsFound, came_to_rest, held_at, held_since, is_drained_at, is_ended_at, is_few_at, is_finish_at, is_graph_at, is_line, is_of_its_kind, is_run_at, last_of_log, passes_each, since_line, up_to_line}
+use Rattle.change_law.specs.Lawful.{CameToRest, EndedSince, EndsAs, HeldSince, StoodOpen, StoodOpenWhereSaid, IsDrainedAt, IsEndedAt, IsFewAt, IsFinishAt, IsGraphAt, IsGraphDescribed, IsLawfulBy, IsOfItsKind, IsRunAt, Lawful, LawfulInRounds, LawfulOnThreads, Merge, described, is_done, is_idle_after}
 use Rattle.change_law.specs.Members.{Member, by_node, of_history, events, is_close, is_root, lines, state_at, without_roots}
 use Rattle.change_law.specs.Opening.{fold_of_node}
 use Rattle.commit_laws.specs.Steps.{live_ports}
 use Rattle.change_law.specs.Scene.{Seen}
+use Rattle.change_law.specs.Serial.{Serial}
 use Rattle.change_law.specs.Standing.{is_graph_of}
 use Rattle.change_law.specs.Statements.{Statement}
 use Rattle.change_law.specs.Told.{Told}
@@ -123,60 +123,38 @@ rests_if before h =
       ports = all_by (λ p. HeldSince before (is_idle_after p)) (λ p. held_since before (is_idle_after p)) (λ p e. held_if before (is_idle_after p) e) (live_ports c) w.1;
     }
 
--- the numbers of the rounds
+-- numbers
 
-count_same : (x y : HistoryLine) → is_same_count x y ≡ true → x ≡ y
-count_same (to.Run k n) (to.Run j m) h =
-    let w = and_parts (k == j) (n == m) h in let a = eqb-true k j w.0 in let b = eqb-true n m w.1 in λ i. to.Run (a i) (b i)
-count_same (to.Finish k n) (to.Finish j m) h =
-    let w = and_parts (k == j) (n == m) h in let a = eqb-true k j w.0 in let b = eqb-true n m w.1 in λ i. to.Finish (a i) (b i)
-count_same _ _ h = absurd (both_ways false refl h)
+ended_since : (before : List Member) (n : ℕ) → nat_le n (count_by is_end (since_line before)) ≡ true → EndedSince before n
+ended_since before n h = record { front = up_to_line before; later = since_line before; parts = since_parts before; enough = leb-true n (count_by is_end (since_line before)) h }
 
-of_rounds : {statements : List Statement} (pace : Pace statements) (before : List Member) (l : HistoryLine) → is_of_rounds pace before l ≡ true → IsOfRounds pace before l
-of_rounds on_threads before l h = absurd (both_ways false refl h)
-of_rounds (in_rounds rounds serial) before l h = by (slice_get (without_roots rounds.history) (length (lines before))) h
-  where
-    by : (o : Option HistoryLine) → option_map_or (is_same_count l) o false ≡ true → o ≡ Some l
-    by None e = absurd (both_ways false refl e)
-    by (Some x) e = ap Some (sym (count_same l x e))
-
-rested_or_so : {statements : List Statement} (pace : Pace statements) (before : List Member) (l : HistoryLine) → (came_to_rest before || is_of_rounds pace before l) ≡ true
-    → CameToRest before ⊎ IsOfRounds pace before l
-rested_or_so pace before l h = ⊎_elim (λ (rest : came_to_rest before ≡ true). inl (rests_if before rest))
-    (λ (so : is_of_rounds pace before l ≡ true). inr (of_rounds pace before l so)) (or_cases (came_to_rest before) (is_of_rounds pace before l) h)
-
-pub run_at : {statements : List Statement} (pace : Pace statements) (before : List Member) (x : Member) → is_run_at pace before x ≡ true → IsRunAt pace before x
-run_at pace before (of_history (to.Run k n)) h =
-    let ends = came_to_rest before || is_of_rounds pace before (to.Run k n) in
-    let w = and_parts (nat_le n (count_by is_end (since_line before))) (nat_le k n || ends) h in (
-      record { front = up_to_line before; later = since_line before; parts = since_parts before; enough = leb-true n (count_by is_end (since_line before)) w.0 },
-      ⊎_elim (λ (all : nat_le k n ≡ true). inl (leb-true k n all)) (λ (early : ends ≡ true). inr (rested_or_so pace before (to.Run k n) early)) (or_cases (nat_le k n) ends w.1),
+pub run_at : (before : List Member) (x : Member) → is_run_at before x ≡ true → IsRunAt before x
+run_at before (of_history (to.Run k n)) h =
+    let w = and_parts (nat_le n (count_by is_end (since_line before))) (nat_le k n || came_to_rest before) h in (
+      ended_since before n w.0,
+      ⊎_elim (λ (all : nat_le k n ≡ true). inl (leb-true k n all)) (λ (rest : came_to_rest before ≡ true). inr (rests_if before rest)) (or_cases (nat_le k n) (came_to_rest before) w.1),
     )
-run_at pace before _ h = tt
+run_at before _ h = tt
 
-pub finish_at : {statements : List Statement} (pace : Pace statements) (before : List Member) (x : Member) → is_finish_at pace before x ≡ true → IsFinishAt pace before x
-finish_at pace before (of_history (to.Finish n r)) h =
-    let ends = came_to_rest before || is_of_rounds pace before (to.Finish n r) in
-    ⊎_elim
+pub finish_at : (before : List Member) (x : Member) → is_finish_at before x ≡ true → IsFinishAt before x
+finish_at before (of_history (to.Finish n r)) h = ⊎_elim
     (λ (all : (r == n) ≡ true). inl (eqb-true r n all))
-    (λ (early : (nat_lt r n && ends) ≡ true). let w = and_parts (nat_lt r n) ends early in inr (ltb-true r n w.0, rested_or_so pace before (to.Finish n r) w.1))
-    (or_cases (r == n) (nat_lt r n && ends) h)
-finish_at pace before _ h = tt
+    (λ (early : (nat_lt r n && came_to_rest before) ≡ true). let w = and_parts (nat_lt r n) (came_to_rest before) early in inr (ltb-true r n w.0, rests_if before w.1))
+    (or_cases (r == n) (nat_lt r n && came_to_rest before) h)
+finish_at before _ h = tt
+
+pub ended_at : (before : List Member) (x : Member) → is_ended_at before x ≡ true → IsEndedAt before x
+ended_at before (of_history (to.Run k n)) h = ended_since before n h
+ended_at before _ h = tt
+
+pub few_at : (before : List Member) (x : Member) → is_few_at before x ≡ true → IsFewAt before x
+few_at before (of_history (to.Finish n r)) h = leb-true r n h
+few_at before _ h = tt
 
 -- what was still open
 
-abbrev pub front_to : ℕ → List Member → List Member
-front_to a m = take a m
-
-abbrev pub since_to : ℕ → ℕ → List Member → List Member
-since_to a b m = take b (drop (a + 1) m)
-
-abbrev pub later_than : ℕ → ℕ → List Member → ℕ → List HistoryLine → List HistoryLine
-later_than a b m p before = drop (length (lines (front_to a m ++ of_history (to.Close p) ∷ since_to a b m))) (without_roots before)
-
-abbrev pub stands_through : List Member → List Member → ℕ → ℕ → Bool
-stands_through front since p k =
-    list_all (λ j. has_root (state_at (front ++ of_history (to.Close p) ∷ take j since)) p k) (range_with_len 0 (length since + 1))
+abbrev pub later_than : ℕ → List Member → List HistoryLine → List HistoryLine
+later_than n m before = drop (length (lines (take n m))) (without_roots before)
 
 pub none_open : (m : List Member) (before history : List HistoryLine) → list_any is_root history ≡ false → EachAfter (StoodOpenWhereSaid m) before history
 none_open m before [] h = tt
@@ -188,32 +166,13 @@ pub open_then : (m : List Member) (before xs : List HistoryLine) (l : HistoryLin
     → EachAfter (StoodOpenWhereSaid m) ((before ++ xs) ++ l ∷ []) ys → EachAfter (StoodOpenWhereSaid m) before (xs ++ l ∷ ys)
 open_then m before xs l ys none stood rest = each_joined (StoodOpenWhereSaid m) before xs (l ∷ ys) (none_open m before xs none) (stood, rest)
 
--- a root stood open from the close that is member a on, through so many members
-pub stood_at : (m : List Member) (before : List HistoryLine) (p k a b : ℕ) → m ≡ front_to a m ++ of_history (to.Close p) ∷ since_to a b m ++ drop b (drop (a + 1) m)
-    → lines (front_to a m ++ of_history (to.Close p) ∷ since_to a b m) ++ later_than a b m p before ≡ without_roots before → list_any is_close (later_than a b m p before) ≡ false
-    → list_any (reopens p) (events (since_to a b m)) ≡ false → stands_through (front_to a m) (since_to a b m) p k ≡ true → StoodOpen m before p k
-stood_at m before p k a b parts place behind closed through =
-    record {
-      front = front_to a m;
-      since = since_to a b m;
-      rest = drop b (drop (a + 1) m);
-      later = later_than a b m p before;
-      parts = parts;
-      place = place;
-      behind_closes = behind;
-      not_reopened = closed;
-      stood = λ x y e. stood_so x y (since_to a b m) e through;
-    }
-  where
-    stood_so : (x y since : List Member) → since ≡ x ++ y → stands_through (front_to a m) since p k ≡ true → has_root (state_at (front_to a m ++ of_history (to.Close p) ∷ x)) p k ≡ true
-    stood_so x y since e h =
-        let front = front_to a m in
-        let n : length since ≡ length x + length y = ap length e ∙ length-append x y in
-        let taken : take (length x) since ≡ x = ap (take (length x)) e ∙ take-append_seam x y in
-        sym (ap (λ z. has_root (state_at (front ++ of_history (to.Close p) ∷ z)) p k) taken)
-        ∙ all_in_range (λ j. has_root (state_at (front ++ of_history (to.Close p) ∷ take j since)) p k) 0 (length since + 1) (length x) h (omega arith) (omega (arith, n))
+-- a root stands open behind so many members
+pub stood_at : (m : List Member) (before : List HistoryLine) (p k n : ℕ) → m ≡ take n m ++ drop n m → lines (take n m) ++ later_than n m before ≡ without_roots before
+    → list_any is_close (later_than n m before) ≡ false → has_root (state_at (take n m)) p k ≡ true → (gate (state_at (take n m)).config p).closed ≡ true → StoodOpen m before p k
+stood_at m before p k n parts place behind open_ closed =
+    record { front = take n m; rest = drop n m; later = later_than n m before; parts = parts; place = place; behind_closes = behind; open_there = open_; closed_there = closed }
 
-module _ (statements : List Statement) (pace : Pace statements) (ts : List Told) (seen : List Seen) (m : List Member) (report : Report) (f : IsFound statements pace ts seen m report) where
+module _ (statements : List Statement) (ts : List Told) (seen : List Seen) (m : List Member) (report : Report) (f : IsFound statements ts seen m report) where
   follows_so : Follows statements report.history
   follows_so = subst (Follows statements) f.history (follows_told statements ts seen f.follows)
 
@@ -248,11 +207,18 @@ module _ (statements : List Statement) (pace : Pace statements) (ts : List Told)
     status = f.status;
   }
 
-  pub found_lawful : Lawful statements pace report
-  found_lawful = record {
-    follows = follows_so;
-    members = m;
-    by_them = found_so;
-    runs_end = each_by (IsRunAt pace) (is_run_at pace) (run_at pace) [] m f.runs_end;
-    finishes_end = each_by (IsFinishAt pace) (is_finish_at pace) (finish_at pace) [] m f.finishes_end;
+  pub found_lawful : Lawful statements report
+  found_lawful = record { follows = follows_so; members = m; by_them = found_so }
+
+  pub found_on_threads : passes_each is_run_at [] m ≡ true → passes_each is_finish_at [] m ≡ true → LawfulOnThreads statements report
+  found_on_threads runs finishes = record {
+    lawful = record { follows = follows_so; members = m; by_them = found_so };
+    numbers = record { runs_end = each_by IsRunAt is_run_at run_at [] m runs; finishes_end = each_by IsFinishAt is_finish_at finish_at [] m finishes };
+  }
+
+  pub found_in_rounds : (serial : Serial statements report) → passes_each is_ended_at [] m ≡ true → passes_each is_few_at [] m ≡ true → events m ≡ serial.world.events → LawfulInRounds statements report serial
+  found_in_rounds serial ended few order = record {
+    lawful = record { follows = follows_so; members = m; by_them = found_so };
+    numbers = record { ended = each_by IsEndedAt is_ended_at ended_at [] m ended; few = each_by IsFewAt is_few_at few_at [] m few };
+    order = order;
   }

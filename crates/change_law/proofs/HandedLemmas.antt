@@ -37,6 +37,10 @@ same_fold es low (suc f) (suc g) n below also =
     same_step es f g n (slot (state_after es).config n) (λ m k there is. low.lower n k m there is)
     (λ k less. same_fold es low f g k (omega (arith, below, less)) (omega (arith, also, less)))
 
+-- so a chain of hand-overs ends within as many nodes as are allowed for
+pub chain_ends : (es : List Event) → IsRun es → (n bound : ℕ) → n < bound → fold_within es bound n ≡ fold_of_node es n
+chain_ends es run n bound below = same_fold es (lower_after es run) bound (suc n) n below (omega arith)
+
 pub handed_over : (es : List Event) → IsRun es → (n k : ℕ) (m : Slot) → slot (state_after es).config n ≡ Some m → m.from ≡ Some k
     → fold_of_node es n ≡ option_and_then (fold_at m (done_by n es)) (option_map (λ (s : NodeState). s.kept) (fold_of_node es k))
 handed_over es run n k m there is =

@@ -25,6 +25,16 @@ use Rattle.change_law.specs.Statements.{Statement, start, change, run, finish, s
 use Rattle.change_law.proofs.PlanningLaws.{one_plan}
 use Rattle.change_law.proofs.FirstLemmas.{one_first}
 
+-- a change that was tried, by its rounds
+module _ (w : World) (name : List ℕ) (args : List ℤ) (new : Graph) (within : ℕ) (moves : List Move) (lines : List HistoryLine) (v : World) (c : ChangesTo w name args new within moves lines v) where
+  pub changed_lines : lines ≡ opening_lines name args c.old c.plan w.machine.config
+      ++ end_lines c.old new c.plan within c.closed (after_rounds false c.waiting c.rounds) (looks_after c.waiting c.closed c.rounds)
+  changed_lines = c.are ∙ (λ i. opening_lines name args c.old c.plan w.machine.config ++ end_lines c.old new c.plan within c.closed (c.end_is i) (c.found_is i))
+
+  pub changed_world : v ≡ after_changes (after_rounds false c.waiting c.rounds)
+      (end_events c.old new c.plan c.closed (after_rounds false c.waiting c.rounds) (looks_after c.waiting c.closed c.rounds))
+  changed_world = c.world ∙ (λ i. after_changes (c.end_is i) (end_events c.old new c.plan c.closed (c.end_is i) (c.found_is i)))
+
 -- what two ways to play come to is the same
 record Same (lines lines' : List HistoryLine) (v v' : World) : Type 0 where
   lines_are : lines ≡ lines'
@@ -50,11 +60,11 @@ module _ (w : World) (lines lines' : List HistoryLine) (v v' : World) where
       let waiting : a.waiting ≡ b.waiting = a.waits ∙ ap (λ ports. after_changes w (map Close ports)) closed ∙ sym b.waits in
       let rounds : a.rounds ≡ b.rounds =
       one_first (wait_ends b.waiting b.closed within) a.rounds b.rounds (subst (λ t. FirstAt t a.rounds) (λ i. wait_ends (waiting i) (closed i) within) a.number) b.number in
+      let at_end : a.at_end ≡ b.at_end = a.end_is ∙ (λ i. after_rounds false (waiting i) (rounds i)) ∙ sym b.end_is in
+      let found : a.found ≡ b.found = a.found_is ∙ (λ i. looks_after (waiting i) (closed i) (rounds i)) ∙ sym b.found_is in
       record {
-        lines_are = a.are ∙ (λ i. opening_lines name args (old i) (plan i) w.machine.config
-            ++ end_lines (old i) new (plan i) within (closed i) (after_rounds false (waiting i) (rounds i)) (looks_after (waiting i) (closed i) (rounds i))) ∙ sym b.are;
-        worlds_are = a.world ∙ (λ i. after_changes (after_rounds false (waiting i) (rounds i))
-            (end_events (old i) new (plan i) (closed i) (after_rounds false (waiting i) (rounds i)) (looks_after (waiting i) (closed i) (rounds i)))) ∙ sym b.world;
+        lines_are = a.are ∙ (λ i. opening_lines name args (old i) (plan i) w.machine.config ++ end_lines (old i) new (plan i) within (closed i) (at_end i) (found i)) ∙ sym b.are;
+        worlds_are = a.world ∙ (λ i. after_changes (at_end i) (end_events (old i) new (plan i) (closed i) (at_end i) (found i))) ∙ sym b.world;
       }
 
   one_show : ShowsGraph w lines × (v ≡ w) → ShowsGraph w lines' × (v' ≡ w) → Same lines lines' v v'

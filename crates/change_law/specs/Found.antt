@@ -1,4 +1,4 @@
--- Whether a report is lawful by a list of members (`IsLawfulBy`), found by tests and by lists that are computed, so
+-- Whether a report is lawful by a list of members (`IsLawfulBy`), with which numbers, found by tests and by lists that are computed, so
 -- that it can be evaluated on a report.
 use Rattle.std.specs.Prelude.{◌≡◌, ℕ, ◌+◌, ◌-◌, Bool, true, false, not, ◌&&◌, ◌||◌, ◌==◌, nat_le, nat_lt, List, [], ◌∷◌, ◌++◌, map, length, take, filter_map, slice_get, Option, Some, None, if◌then◌else◌}
 use Rattle.std.specs.List.{count_by, list_all, list_any, range_with_len}
@@ -19,7 +19,7 @@ use Rattle.change_script.specs.declared.report.Last.TheVariants as last
 use Rattle.change_script.specs.declared.report.NodeLog.{NodeLog}
 use Rattle.change_script.specs.declared.report.Report.{Report}
 use Rattle.change_law.specs.Endings.{moved_to, status_of}
-use Rattle.change_law.specs.Lawful.{Pace, on_threads, in_rounds, StoodOpenWhereSaid, described, is_done, is_idle_after, unfinished_of}
+use Rattle.change_law.specs.Lawful.{StoodOpenWhereSaid, described, is_done, is_idle_after, unfinished_of}
 use Rattle.change_law.specs.Members.{Member, by_node, of_history, events, lines, made_slot, state_at, without_roots}
 use Rattle.change_law.specs.Opening.{fold_of_node}
 use Rattle.commit_laws.specs.Steps.{live_ports}
@@ -84,32 +84,27 @@ came_to_rest before =
     || held_since before (λ es. is_done es n)) (range_with_len 0 (length (state_at before).config.slots))
     && list_all (λ p. held_since before (is_idle_after p)) (live_ports (state_at before).config)
 
--- whether a line of a run or a finish is this one, and that of the rounds at the same place
-abbrev pub is_same_count : HistoryLine → HistoryLine → Bool
-is_same_count (to.Run k n) (to.Run j m) = k == j && n == m
-is_same_count (to.Finish k n) (to.Finish j m) = k == j && n == m
-is_same_count _ _ = false
+-- whether the numbers are those of a system on threads
+abbrev pub is_run_at : List Member → Member → Bool
+is_run_at before (of_history (to.Run k n)) = nat_le n (count_by is_end (since_line before)) && (nat_le k n || came_to_rest before)
+is_run_at before _ = true
 
-abbrev pub is_of_rounds : {statements : List Statement} → Pace statements → List Member → HistoryLine → Bool
-is_of_rounds on_threads before l = false
-is_of_rounds (in_rounds rounds serial) before l =
-    option_map_or (is_same_count l) (slice_get (without_roots rounds.history) (length (lines before))) false
+abbrev pub is_finish_at : List Member → Member → Bool
+is_finish_at before (of_history (to.Finish n r)) = r == n || (nat_lt r n && came_to_rest before)
+is_finish_at before _ = true
 
-abbrev pub is_run_at : {statements : List Statement} → Pace statements → List Member → Member → Bool
-is_run_at pace before (of_history (to.Run k n)) =
-    nat_le n (count_by is_end (since_line before))
-    && (nat_le k n || (came_to_rest before || is_of_rounds pace before (to.Run k n)))
-is_run_at pace before _ = true
+-- whether they may be those of a system in rounds
+abbrev pub is_ended_at : List Member → Member → Bool
+is_ended_at before (of_history (to.Run k n)) = nat_le n (count_by is_end (since_line before))
+is_ended_at before _ = true
 
-abbrev pub is_finish_at : {statements : List Statement} → Pace statements → List Member → Member → Bool
-is_finish_at pace before (of_history (to.Finish n r)) =
-    r == n || (nat_lt r n && (came_to_rest before || is_of_rounds pace before (to.Finish n r)))
-is_finish_at pace before _ = true
+abbrev pub is_few_at : List Member → Member → Bool
+is_few_at before (of_history (to.Finish n r)) = nat_le r n
+is_few_at before _ = true
 
 -- A report that was found lawful for these statements: by what its history tells beside them, by what the stop saw,
 -- and by these members. That what was still open stood so is said of the lines that say it.
-pub record IsFound (statements : List Statement) (pace : Pace statements) (ts : List Told) (seen : List Seen)
-    (m : List Member) (report : Report) : Type 0 where
+pub record IsFound (statements : List Statement) (ts : List Told) (seen : List Seen) (m : List Member) (report : Report) : Type 0 where
   pub follows : can_follow statements ts seen ≡ true
   pub history : history_told statements ts seen ≡ report.history
   pub slots : map (λ (l : NodeLog). l.slot) report.logs ≡ filter_map made_slot report.history
@@ -124,5 +119,3 @@ pub record IsFound (statements : List Statement) (pace : Pace statements) (ts : 
   pub graphs : passes_each (is_graph_at statements) [] m ≡ true
   pub unfinished : report.unfinished ≡ unfinished_of statements (events m)
   pub status : report.status ≡ status_of report.history report.unfinished
-  pub runs_end : passes_each (is_run_at pace) [] m ≡ true
-  pub finishes_end : passes_each (is_finish_at pace) [] m ≡ true

@@ -13,9 +13,9 @@ use Rattle.quiesce_core.specs.Live.{IsGraphOf}
 use Rattle.gate_word.specs.Phases.{is_idle}
 use Rattle.quiesce_core.specs.Runs.{IsRun, done_by, is_begin_of, is_end_of, state_after}
 use Rattle.quiesce_core.specs.Settled.{Quiescent}
-use Rattle.quiesce_core.specs.State.{exchange, is_live, owner}
+use Rattle.quiesce_core.specs.State.{exchange, gate, is_live, owner}
 use Rattle.quiescence_laws.specs.Drained.{is_drained}
-use Rattle.quiescence_laws.specs.Events.{is_ask_of, is_give_of, is_hear_of, is_more_of, is_take_of, reopens}
+use Rattle.quiescence_laws.specs.Events.{is_ask_of, is_give_of, is_hear_of, is_more_of, is_take_of}
 use Rattle.quiescence_laws.specs.Roots.{has_root}
 use Rattle.turns.specs.Round.{is_end}
 use Rattle.change_script.specs.declared.report.HistoryLine.{HistoryLine}
@@ -26,7 +26,7 @@ use Rattle.change_script.specs.declared.report.NodeLog.{NodeLog}
 use Rattle.change_script.specs.declared.report.Report.{Report}
 use Rattle.change_law.specs.Endings.{moved_to, status_of}
 use Rattle.change_law.specs.Follows.{Follows}
-use Rattle.change_law.specs.Members.{Member, by_node, of_history, without_roots, events, is_close, lines, made_slot, state_at}
+use Rattle.change_law.specs.Members.{Member, by_node, of_history, events, is_close, lines, made_slot, state_at, without_roots}
 use Rattle.change_law.specs.Opening.{fold_of_node}
 use Rattle.commit_laws.specs.Steps.{live_ports}
 use Rattle.change_law.specs.Serial.{Serial}
@@ -83,19 +83,17 @@ abbrev pub IsDrainedAt : List Member → Member → Type 0
 IsDrainedAt before (of_history (to.Drained p k)) = IsTrue (is_drained (state_at before) p) × ((exchange (state_at before) p).serial ≡ k)
 IsDrainedAt before _ = ⊤
 
--- Root k of port p stood open from the port's last close on to a place behind all closes of the change, before its
--- first reopen.
+-- Root k of port p stands open, and the port closed, at a place behind all closes of the change and before the line
+-- that says so. In a run it stood open then since the port's last close: no root begins at a closed port.
 pub record StoodOpen (m : List Member) (before : List HistoryLine) (p k : ℕ) : Type 0 where
   pub front : List Member
-  pub since : List Member
   pub rest : List Member
   pub later : List HistoryLine
-  pub parts : m ≡ front ++ of_history (to.Close p) ∷ since ++ rest
-  pub place : lines (front ++ of_history (to.Close p) ∷ since) ++ later ≡ without_roots before
+  pub parts : m ≡ front ++ rest
+  pub place : lines front ++ later ≡ without_roots before
   pub behind_closes : list_any is_close later ≡ false
-  pub not_reopened : list_any (reopens p) (events since) ≡ false
-  pub stood : (x y : List Member) → since ≡ x ++ y
-      → IsTrue (has_root (state_at (front ++ of_history (to.Close p) ∷ x)) p k)
+  pub open_there : IsTrue (has_root (state_at front) p k)
+  pub closed_there : IsTrue (gate (state_at front).config p).closed
 
 abbrev pub StoodOpenWhereSaid : List Member → List HistoryLine → HistoryLine → Type 0
 StoodOpenWhereSaid m before (to.Root p k) = StoodOpen m before p k
@@ -158,6 +156,15 @@ pub record IsLawfulBy (statements : List Statement) (report : Report) (m : List 
   -- 7 where a change was given up, else 8 where a node wasn't done, else 0
   pub status : report.status ≡ status_of report.history report.unfinished
 
+-- The report is lawful for a script with these statements, but for the numbers of `run` and `finish` lines: what is
+-- asked of them goes by how the report came about (below).
+pub record Lawful (statements : List Statement) (report : Report) : Type 0 where
+  -- the history has the lines of each statement, in order, and those of the stop
+  pub follows : Follows statements report.history
+  -- the one list that is said to be there
+  pub members : List Member
+  pub by_them : IsLawfulBy statements report members
+
 -- Rest, and the numbers of `run` and `finish`.
 
 -- a place since the last line at which a test holds
@@ -182,37 +189,42 @@ pub record EndedSince (before : List Member) (n : ℕ) : Type 0 where
   pub parts : before ≡ front ++ map by_node later
   pub enough : n ≤ count_by is_end later
 
--- how a report came about: on threads, or in rounds on one thread, of which these statements have this report
-pub data Pace (statements : List Statement) : Type 0 where
-  on_threads : Pace statements
-  in_rounds : (rounds : Report) (serial : Serial statements rounds) → Pace statements
+-- A `run` ended with as many transactions as it says: with all that were asked for, or all came to rest.
+abbrev pub IsRunAt : List Member → Member → Type 0
+IsRunAt before (of_history (to.Run k n)) = EndedSince before n × ((k ≤ n) ⊎ CameToRest before)
+IsRunAt before _ = ⊤
 
--- the report of the rounds has this line at the same place; there is none for a system on threads
-abbrev pub IsOfRounds : {statements : List Statement} → Pace statements → List Member → HistoryLine → Type 0
-IsOfRounds on_threads before l = ⊥
-IsOfRounds (in_rounds rounds serial) before l =
-    slice_get (without_roots rounds.history) (length (lines before)) ≡ Some l
+-- A `finish` made all rounds that were allowed, or fewer where all came to rest.
+abbrev pub IsFinishAt : List Member → Member → Type 0
+IsFinishAt before (of_history (to.Finish n r)) = (r ≡ n) ⊎ ((r < n) × CameToRest before)
+IsFinishAt before _ = ⊤
 
-abbrev pub IsRunAt : {statements : List Statement} → Pace statements → List Member → Member → Type 0
-IsRunAt pace before (of_history (to.Run k n)) =
-    EndedSince before n × ((k ≤ n) ⊎ CameToRest before ⊎ IsOfRounds pace before (to.Run k n))
-IsRunAt pace before _ = ⊤
+-- the numbers of a system on threads
+pub record NumbersOnThreads (m : List Member) : Type 0 where
+  pub runs_end : Each IsRunAt m
+  pub finishes_end : Each IsFinishAt m
 
-abbrev pub IsFinishAt : {statements : List Statement} → Pace statements → List Member → Member → Type 0
-IsFinishAt pace before (of_history (to.Finish n r)) =
-    (r ≡ n) ⊎ ((r < n) × (CameToRest before ⊎ IsOfRounds pace before (to.Finish n r)))
-IsFinishAt pace before _ = ⊤
+-- Of the numbers in rounds no more is asked here: they are those that the rounds give (`Serial`).
+abbrev pub IsEndedAt : List Member → Member → Type 0
+IsEndedAt before (of_history (to.Run k n)) = EndedSince before n
+IsEndedAt before _ = ⊤
 
--- The report is lawful for a script with these statements, at this pace.
-pub record Lawful (statements : List Statement) (pace : Pace statements) (report : Report) : Type 0 where
-  -- the history has the lines of each statement, in order, and those of the stop
-  pub follows : Follows statements report.history
-  -- the one list that is said to be there
-  pub members : List Member
-  pub by_them : IsLawfulBy statements report members
-  -- a `run` ended with as many transactions as it says: all that were asked for, or what came to rest, or what the
-  -- rounds give
-  pub runs_end : Each (IsRunAt pace) members
-  -- a `finish` made as many rounds as it says: all that were allowed, or fewer where all came to rest, or what the
-  -- rounds give
-  pub finishes_end : Each (IsFinishAt pace) members
+abbrev pub IsFewAt : List Member → Member → Type 0
+IsFewAt before (of_history (to.Finish n r)) = r ≤ n
+IsFewAt before _ = ⊤
+
+-- the numbers of a system in rounds
+pub record NumbersInRounds (m : List Member) : Type 0 where
+  pub ended : Each IsEndedAt m
+  pub few : Each IsFewAt m
+
+-- what the report of a system on threads must be
+pub record LawfulOnThreads (statements : List Statement) (report : Report) : Type 0 where
+  pub lawful : Lawful statements report
+  pub numbers : NumbersOnThreads lawful.members
+
+-- What the report of rounds must be: lawful by the list in which the rounds made the events.
+pub record LawfulInRounds (statements : List Statement) (report : Report) (serial : Serial statements report) : Type 0 where
+  pub lawful : Lawful statements report
+  pub numbers : NumbersInRounds lawful.members
+  pub order : events lawful.members ≡ serial.world.events

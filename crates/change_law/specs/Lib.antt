@@ -5,10 +5,12 @@ pub mod Scene
 pub mod Changes
 pub mod Follows
 pub mod Closings
+pub mod Consistent
 pub mod Opening
 pub mod Endings
 pub mod Serial
 pub mod Lawful
+pub mod Roots
 pub mod Planning
 pub mod Standing
 pub mod Told

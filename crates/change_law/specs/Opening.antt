@@ -18,7 +18,8 @@ argument_of m = argument_or_0 m.node.arg
 abbrev pub fold_at : Slot → List Event → Kept → Option NodeState
 fold_at m own kept = fold_from m.first_port (at_rest m.node.kind (argument_of m) kept) own
 
--- The fold of the node in slot n, where a chain of hand-overs has at most so many nodes. Each leads to a lower slot.
+-- The fold of the node in slot n, where a chain of hand-overs has at most so many nodes. In a run each leads to a lower
+-- slot, so n + 1 of them are enough: the fold is what one step says of it (`a_moved_state_is_the_last_one`).
 abbrev pub fold_within : List Event → ℕ → ℕ → Option NodeState
 fold_within es zero n = None
 fold_within es (suc fuel) n =

@@ -95,6 +95,8 @@ abbrev pub end_events : Graph → Graph → Plan → List ℕ → World → Look
 end_events old new plan closed v l =
     if length l.left == 0 then commit_events old new plan v.machine.config else map Reopen closed
 
+-- A change that is tried closes its ports and waits for rounds in which no node begins a transaction, whether its gate
+-- is closed or open; then it ends by what the looks found.
 pub record ChangesTo (w : World) (name : List ℕ) (args : List ℤ) (new : Graph) (within : ℕ) (moves : List Move) (lines : List HistoryLine) (v : World) : Type 0 where
   pub old : Graph
   pub is_old : IsGraphOf w.machine.config old
@@ -107,10 +109,12 @@ pub record ChangesTo (w : World) (name : List ℕ) (args : List ℤ) (new : Grap
   pub waits : waiting ≡ after_changes w (map Close closed)
   pub rounds : ℕ
   pub number : FirstAt (wait_ends waiting closed within) rounds
-  pub are : lines ≡ opening_lines name args old plan w.machine.config
-      ++ end_lines old new plan within closed (after_rounds false waiting rounds) (looks_after waiting closed rounds)
-  pub world : v ≡ after_changes (after_rounds false waiting rounds)
-      (end_events old new plan closed (after_rounds false waiting rounds) (looks_after waiting closed rounds))
+  pub at_end : World
+  pub end_is : at_end ≡ after_rounds false waiting rounds
+  pub found : Looks
+  pub found_is : found ≡ looks_after waiting closed rounds
+  pub are : lines ≡ opening_lines name args old plan w.machine.config ++ end_lines old new plan within closed at_end found
+  pub world : v ≡ after_changes at_end (end_events old new plan closed at_end found)
 
 pub record ShowsGraph (w : World) (lines : List HistoryLine) : Type 0 where
   pub graph : Graph

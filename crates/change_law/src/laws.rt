@@ -1,6 +1,6 @@
 //! Laws of lawful reports: what follows from being one run, and what from their lines.
 
-ghost use Rattle.std.specs.Prelude.{◌≡◌, ℕ, Bool, true, false, List, ◌∷◌, ◌++◌, length, Some, option_and_then, option_map};
+ghost use Rattle.std.specs.Prelude.{◌≡◌, ◌<◌, ℕ, Bool, true, false, List, [], ◌∷◌, ◌++◌, length, slice_get, All, Some, option_and_then, option_map};
 ghost use Rattle.std.specs.List.{list_any};
 ghost use Rattle.base.specs.Each.{Each};
 ghost use Rattle.change_plan.specs.Moves.{MayMoveAll};
@@ -20,11 +20,13 @@ ghost use Rattle.change_script.specs.declared.report.HistoryLine.TheVariants.{Cl
 ghost use Rattle.change_script.specs.declared.report.Report.{Report};
 ghost use Rattle.change_law.specs.Closings.{IsClosedFor};
 ghost use Rattle.change_law.specs.Follows.{Follows, lines_of};
-ghost use Rattle.change_law.specs.Found.{IsFound};
-ghost use Rattle.change_law.specs.Lawful.{IsDrainedAt, IsEndedOnce, IsLawfulBy, IsQuiescentAt, Lawful, Merge, Pace, described};
-ghost use Rattle.change_law.specs.Members.{Member, of_history, events, is_commit, lines};
-ghost use Rattle.change_law.specs.Opening.{fold_at, fold_of_node};
+ghost use Rattle.change_law.specs.Consistent.{Consistent};
+ghost use Rattle.change_law.specs.Found.{IsFound, is_ended_at, is_few_at, is_finish_at, is_run_at, passes_each};
+ghost use Rattle.change_law.specs.Lawful.{IsDrainedAt, IsEndedOnce, IsLawfulBy, IsOfItsKind, IsQuiescentAt, Lawful, LawfulInRounds, LawfulOnThreads, Merge, NumbersInRounds, NumbersOnThreads, StoodOpen, described};
+ghost use Rattle.change_law.specs.Members.{Member, of_history, events, is_commit, lines, without_roots};
+ghost use Rattle.change_law.specs.Opening.{fold_at, fold_of_node, fold_within};
 ghost use Rattle.change_law.specs.Planning.{can_be_planned, planned};
+ghost use Rattle.change_law.specs.Roots.{StoodSinceClose};
 ghost use Rattle.change_law.specs.Scene.{Seen};
 ghost use Rattle.change_law.specs.Serial.{Serial};
 ghost use Rattle.change_law.specs.Standing.{is_graph_of};
@@ -91,12 +93,14 @@ pub fn only_frozen_nodes_are_closed_before_the_stop()
 {}
 
 /// A node that was made from another begins with what that one kept at last, and with its own argument, whatever
-/// chain of nodes the state came through.
+/// chain of nodes the state came through; and no chain has more nodes than are allowed for.
 pub fn a_moved_state_is_the_last_one()
     ensures handed { (es : List Event) → IsRun es → (n k : ℕ) (m : Slot) → slot (state_after es).config n ≡ Some m
         → m.from ≡ Some k
         → fold_of_node es n ≡ option_and_then (fold_at m (done_by n es))
         (option_map (λ (s : NodeState). s.kept) (fold_of_node es k)) }
+    ensures ends { (es : List Event) → IsRun es → (n bound : ℕ) → n < bound
+        → fold_within es bound n ≡ fold_of_node es n }
 {}
 
 /// What a plan must be, that its moves may be made, and what the graph of a configuration is are found by tests that
@@ -109,12 +113,50 @@ pub fn plans_and_graphs_are_found_by_tests()
     ensures graph { (c : Configuration) (g : Graph) → is_graph_of c g ≡ true → IsGraphOf c g }
 {}
 
-/// A history follows a script, and a report is lawful at a pace, where tests find it so: each can be evaluated.
+/// A history follows a script, and a report is lawful, on threads or in rounds, where tests find it so: each can be
+/// evaluated.
 pub fn lawful_reports_are_found_by_tests()
     ensures follows { (statements : List Statement) (ts : List Told) (seen : List Seen)
         → can_follow statements ts seen ≡ true
         → Follows statements (history_told statements ts seen) }
     ensures lawful { (statements : List Statement) (ts : List Told) (seen : List Seen) (m : List Member)
-        (report : Report) (pace : Pace statements)
-        → IsFound statements pace ts seen m report → Lawful statements pace report }
+        (report : Report)
+        → IsFound statements ts seen m report → Lawful statements report }
+    ensures on_threads { (statements : List Statement) (ts : List Told) (seen : List Seen) (m : List Member)
+        (report : Report)
+        → IsFound statements ts seen m report → passes_each is_run_at [] m ≡ true
+        → passes_each is_finish_at [] m ≡ true → LawfulOnThreads statements report }
+    ensures in_rounds { (statements : List Statement) (ts : List Told) (seen : List Seen) (m : List Member)
+        (report : Report) (serial : Serial statements report)
+        → IsFound statements ts seen m report → passes_each is_ended_at [] m ≡ true
+        → passes_each is_few_at [] m ≡ true → events m ≡ serial.world.events
+        → LawfulInRounds statements report serial }
+{}
+
+/// What a report on threads must tell of numbers is no less than what is asked of them in rounds beside `Serial`. So a
+/// lawful report of either kind is consistent.
+pub fn lawful_reports_are_consistent()
+    ensures numbers { (m : List Member) → NumbersOnThreads m → NumbersInRounds m }
+    ensures on_threads { (statements : List Statement) (report : Report) → LawfulOnThreads statements report
+        → Consistent statements report }
+    ensures in_rounds { (statements : List Statement) (report : Report) (serial : Serial statements report)
+        → LawfulInRounds statements report serial → Consistent statements report }
+{}
+
+/// What is told in a report of rounds, the numbers of `run` and `finish` lines among it, stands at the same place in the
+/// report that the rounds give.
+pub fn rounds_have_each_line()
+    ensures same { (statements : List Statement) (rounds report : Report) → Serial statements rounds
+        → Serial statements report → (m before after : List Member) (l : HistoryLine) → Merge m report
+        → m ≡ before ++ of_history l ∷ after
+        → slice_get (without_roots rounds.history) (length (lines before)) ≡ Some l }
+{}
+
+/// A root that is told as open stood open from the last close of its port on: no root begins at a closed port. And one
+/// that stood so is what is asked for.
+pub fn open_roots_stood_since_the_close()
+    ensures since { (m : List Member) (before : List HistoryLine) (p k : ℕ) → All IsOfItsKind m → IsRun (events m)
+        → StoodOpen m before p k → StoodSinceClose m before p k }
+    ensures enough { (m : List Member) (before : List HistoryLine) (p k : ℕ) → IsRun (events m)
+        → StoodSinceClose m before p k → StoodOpen m before p k }
 {}

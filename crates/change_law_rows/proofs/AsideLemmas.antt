@@ -47,6 +47,10 @@ changes = record {
   waits = refl;
   rounds = 6;
   number = first_at (wait_ends closed (1 ∷ 3 ∷ []) 6) 6 refl refl;
+  at_end = waited;
+  end_is = refl;
+  found = looks_after closed (1 ∷ 3 ∷ []) 6;
+  found_is = refl;
   are = refl;
   world = refl;
 }

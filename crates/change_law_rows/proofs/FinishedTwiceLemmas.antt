@@ -17,7 +17,8 @@ use Rattle.turns.specs.Round.{after_rounds}
 use Rattle.turns.specs.World.{World}
 use Rattle.change_script.specs.declared.report.HistoryLine.{HistoryLine}
 use Rattle.change_script.specs.declared.report.HistoryLine.TheVariants as to
-use Rattle.change_law.specs.Lawful.{CameToRest, IsFinishAt, IsOfRounds, Merge, Pace, on_threads, in_rounds, is_done}
+use Rattle.change_script.specs.declared.report.Report.{Report}
+use Rattle.change_law.specs.Lawful.{CameToRest, IsFinishAt, Merge, is_done}
 use Rattle.change_law.specs.Members.{Member, of_history, lines, without_roots}
 use Rattle.change_law.specs.Serial.{Serial, after_changes, finish_ends, is_none_left}
 use Rattle.change_law.specs.Statements.{finish, start}
@@ -63,42 +64,34 @@ finished_twice = record {
 abbrev starts : List HistoryLine
 starts = take 10 report.history
 
-not_of_rounds : (pace : Pace script) (before : List Member) → lines before ≡ starts → IsOfRounds pace before (to.Finish 9 0) → ⊥
-not_of_rounds on_threads before are h = h
-not_of_rounds (in_rounds rounds serial) before are h =
-    let same = one_serial script rounds report serial finished_twice in
-    let made : 6 ≡ 0 = sym (λ i. rounds_in (slice_get (without_roots (same i).history) (length (are i)))) ∙ ap rounds_in h in omega (arith, made)
+pub not_at_once_in_rounds : Serial script finished_at_once → ⊥
+not_at_once_in_rounds serial =
+    let made : 0 ≡ 6 = ap (λ (r : Report). rounds_in (slice_get r.history 10)) (one_serial script finished_at_once report serial finished_twice) in omega (arith, made)
 
-pub not_finished_at_once : (pace : Pace script) (m : List Member) → Merge m finished_at_once → Each (IsFinishAt pace) m → ⊥
-not_finished_at_once pace m merge finishes =
+pub not_finished_at_once : (m : List Member) → Merge m finished_at_once → Each IsFinishAt m → ⊥
+not_finished_at_once m merge finishes =
     let line_ = to.Finish 9 0 in
     let w = at_line m starts line_ (drop 11 finished_at_once.history) merge.history in
-    let said : IsFinishAt pace w.before (of_history line_) = each_at (IsFinishAt pace) w.before w.after (of_history line_) (subst (Each (IsFinishAt pace)) w.parts finishes) in
+    let said : IsFinishAt w.before (of_history line_) = each_at IsFinishAt w.before w.after (of_history line_) (subst (Each IsFinishAt) w.parts finishes) in
     ⊎_elim (λ (all : 0 ≡ 9). absurd (omega (arith, all)))
-    (λ (early : (0 < 9) × (CameToRest w.before ⊎ IsOfRounds pace w.before line_)). ⊎_elim
-    (λ (rest : CameToRest w.before).
-    never_rests 0 first_source never_done starts refl refl m w.before w.after line_ w.parts merge.by_nodes (merge.logs 0 some_log (omega arith)) w.lines_before rest)
-    (λ (so : IsOfRounds pace w.before line_). not_of_rounds pace w.before w.lines_before so) early.1) said
+    (λ (early : (0 < 9) × CameToRest w.before).
+    never_rests 0 first_source never_done starts refl refl m w.before w.after line_ w.parts merge.by_nodes (merge.logs 0 some_log (omega arith)) w.lines_before early.1) said
 
 -- nor is the second finish one of three rounds
 
-later_rounds : (pace : Pace script) (before : List Member) → lines before ≡ starts ++ to.Finish 9 9 ∷ [] → IsOfRounds pace before (to.Finish 9 3) → ⊥
-later_rounds on_threads before are h = h
-later_rounds (in_rounds rounds serial) before are h =
-    let same = one_serial script rounds report serial finished_twice in
-    let made : 0 ≡ 3 = sym (λ i. rounds_in (slice_get (without_roots (same i).history) (length (are i)))) ∙ ap rounds_in h in omega (arith, made)
+pub not_later_in_rounds : Serial script finished_later → ⊥
+not_later_in_rounds serial =
+    let made : 3 ≡ 0 = ap (λ (r : Report). rounds_in (slice_get r.history 11)) (one_serial script finished_later report serial finished_twice) in omega (arith, made)
 
-pub not_finished_later : (pace : Pace script) (m : List Member) → Merge m finished_later → Each (IsFinishAt pace) m → ⊥
-not_finished_later pace m merge finishes =
+pub not_finished_later : (m : List Member) → Merge m finished_later → Each IsFinishAt m → ⊥
+not_finished_later m merge finishes =
     let line_ = to.Finish 9 3 in
     let front = starts ++ to.Finish 9 9 ∷ [] in
     let w = at_line m front line_ (drop 12 finished_later.history) merge.history in
-    let said : IsFinishAt pace w.before (of_history line_) = each_at (IsFinishAt pace) w.before w.after (of_history line_) (subst (Each (IsFinishAt pace)) w.parts finishes) in
+    let said : IsFinishAt w.before (of_history line_) = each_at IsFinishAt w.before w.after (of_history line_) (subst (Each IsFinishAt) w.parts finishes) in
     ⊎_elim (λ (all : 3 ≡ 9). absurd (omega (arith, all)))
-    (λ (early : (3 < 9) × (CameToRest w.before ⊎ IsOfRounds pace w.before line_)). ⊎_elim
-    (λ (rest : CameToRest w.before).
-    never_rests 0 first_source never_done front refl refl m w.before w.after line_ w.parts merge.by_nodes (merge.logs 0 some_log (omega arith)) w.lines_before rest)
-    (λ (so : IsOfRounds pace w.before line_). later_rounds pace w.before w.lines_before so) early.1) said
+    (λ (early : (3 < 9) × CameToRest w.before).
+    never_rests 0 first_source never_done front refl refl m w.before w.after line_ w.parts merge.by_nodes (merge.logs 0 some_log (omega arith)) w.lines_before early.1) said
 
 -- a source doesn't rest, though the map before it does
 
@@ -108,20 +101,16 @@ second_source = record { node = source_at (codes "s") 3; first_port = 1; from = 
 source_undone : (es : List Event) → slot (state_after es).config 1 ≡ Some second_source → done_by 1 es ≡ [] → is_done es 1 ≡ false
 source_undone es there did = ap (λ (o : Option NodeState). option_map_or moves.is_done o false) (folds_so es 1 1 second_source [] (opening kind.Source 3) there did refl)
 
-no_round : (pace : Pace ran.script) (before : List Member) → lines before ≡ take 9 ran.history → IsOfRounds pace before (to.Finish 100 0) → ⊥
-no_round on_threads before are h = h
-no_round (in_rounds rounds serial) before are h =
-    let same = one_serial ran.script rounds ran.report serial ran_is_serial in
-    let made : 18 ≡ 0 = sym (λ i. rounds_in (slice_get (without_roots (same i).history) (length (are i)))) ∙ ap rounds_in h in omega (arith, made)
+pub not_partly_in_rounds : Serial ran.script rested_partly → ⊥
+not_partly_in_rounds serial =
+    let made : 0 ≡ 18 = ap (λ (r : Report). rounds_in (slice_get r.history 9)) (one_serial ran.script rested_partly ran.report serial ran_is_serial) in omega (arith, made)
 
-pub not_rested_partly : (pace : Pace ran.script) (m : List Member) → Merge m rested_partly → Each (IsFinishAt pace) m → ⊥
-not_rested_partly pace m merge finishes =
+pub not_rested_partly : (m : List Member) → Merge m rested_partly → Each IsFinishAt m → ⊥
+not_rested_partly m merge finishes =
     let line_ = to.Finish 100 0 in
     let front = take 9 ran.history in
     let w = at_line m front line_ (drop 10 rested_partly.history) merge.history in
-    let said : IsFinishAt pace w.before (of_history line_) = each_at (IsFinishAt pace) w.before w.after (of_history line_) (subst (Each (IsFinishAt pace)) w.parts finishes) in
+    let said : IsFinishAt w.before (of_history line_) = each_at IsFinishAt w.before w.after (of_history line_) (subst (Each IsFinishAt) w.parts finishes) in
     ⊎_elim (λ (all : 0 ≡ 100). absurd (omega (arith, all)))
-    (λ (early : (0 < 100) × (CameToRest w.before ⊎ IsOfRounds pace w.before line_)). ⊎_elim
-    (λ (rest : CameToRest w.before).
-    never_rests 1 second_source source_undone front refl refl m w.before w.after line_ w.parts merge.by_nodes (merge.logs 1 some_log (omega arith)) w.lines_before rest)
-    (λ (so : IsOfRounds pace w.before line_). no_round pace w.before w.lines_before so) early.1) said
+    (λ (early : (0 < 100) × CameToRest w.before).
+    never_rests 1 second_source source_undone front refl refl m w.before w.after line_ w.parts merge.by_nodes (merge.logs 1 some_log (omega arith)) w.lines_before early.1) said

@@ -1,5 +1,5 @@
 -- More reports that are those of rounds: runs that end where a round moves nothing, and a change that is given up after rounds.
-use Rattle.std.proofs.Common.{true, false, [], ◌∷◌, drop, map, take, refl}
+use Rattle.std.proofs.Common.{◌≡◌, true, false, [], ◌∷◌, drop, map, take, refl}
 use Rattle.std.specs.Prelude.{codes, fold, pos}
 use Rattle.std.specs.List.{list_any}
 use Rattle.std.proofs.lemmas.Bool.{both_ways}
@@ -21,13 +21,13 @@ use Rattle.change_law_rows.proofs.SerialLemmas.{first_at}
 
 -- a source that leads nowhere
 
-abbrev lone_started : World
+abbrev pub lone_started : World
 lone_started = fold with_event nowhere (start_of lone)
 
-abbrev lone_ran : World
+abbrev pub lone_ran : World
 lone_ran = after_rounds true lone_started 1
 
-abbrev lone_closed : World
+abbrev pub lone_closed : World
 lone_closed = after_changes lone_ran (map Close (0 ∷ []))
 
 pub stuck_is_serial : Serial stuck.script stuck.report
@@ -41,6 +41,10 @@ stuck_is_serial = record {
   stops = record { waiting = lone_closed; waits = refl; rounds = 0; number = first_at (is_none_left lone_closed (0 ∷ [])) 0 refl refl; world = refl; are = refl };
   report_is = refl;
 }
+
+pub stuck_world : stuck_is_serial.world ≡ lone_closed
+unfolding stuck_is_serial
+stuck_world = refl
 
 -- two sources, of which each ends a transaction in the third round and one in the sixth; the seventh moves nothing
 
@@ -139,6 +143,10 @@ gives_up_later = record {
   waits = refl;
   rounds = 3;
   number = first_at (wait_ends three_closed (0 ∷ 1 ∷ 2 ∷ []) 3) 3 refl refl;
+  at_end = three_waited;
+  end_is = refl;
+  found = looks_after three_closed (0 ∷ 1 ∷ 2 ∷ []) 3;
+  found_is = refl;
   are = refl;
   world = refl;
 }

@@ -37,5 +37,6 @@ mod WrongClosingLemmas
 mod WrongEndLemmas
 mod FinishedTwiceLemmas
 mod WrongCloseLemmas
+mod ThreadsAloneLemmas
 mod UndoneLemmas
 mod AsideLemmas

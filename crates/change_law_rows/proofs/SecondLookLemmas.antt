@@ -2,11 +2,11 @@
 use Rattle.std.proofs.Common.{[], refl}
 use Rattle.quiesce_core.specs.Reach.{has_no_cycle, reaches}
 use Rattle.change_law.specs.Found.{IsFound}
-use Rattle.change_law.specs.Lawful.{Lawful, on_threads}
-use Rattle.change_law.proofs.FoundLaws.{found_lawful, none_open}
+use Rattle.change_law.specs.Lawful.{LawfulOnThreads}
+use Rattle.change_law.proofs.FoundLaws.{found_on_threads, none_open}
 use Rattle.change_law_rows.specs.SecondLook.{history, members, report, script, stopped, tells}
 
-is_found : IsFound script on_threads tells stopped members report
+is_found : IsFound script tells stopped members report
 unfolding reaches has_no_cycle
 is_found = record {
   follows = refl;
@@ -22,9 +22,7 @@ is_found = record {
   graphs = refl;
   unfinished = refl;
   status = refl;
-  runs_end = refl;
-  finishes_end = refl;
 }
 
-pub lawful : Lawful script on_threads report
-lawful = found_lawful script on_threads tells stopped members report is_found
+pub lawful : LawfulOnThreads script report
+lawful = found_on_threads script tells stopped members report is_found refl refl

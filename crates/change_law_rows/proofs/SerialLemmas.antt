@@ -65,6 +65,10 @@ waits = record {
   waits = refl;
   rounds = 1;
   number = first_at (wait_ends closed (0 ∷ 1 ∷ []) 2) 1 refl refl;
+  at_end = round_later;
+  end_is = refl;
+  found = looks_after closed (0 ∷ 1 ∷ []) 1;
+  found_is = refl;
   are = refl;
   world = refl;
 }
@@ -116,6 +120,10 @@ gives_up = record {
   waits = refl;
   rounds = 0;
   number = first_at (wait_ends closed (0 ∷ 1 ∷ []) 0) 0 refl refl;
+  at_end = closed;
+  end_is = refl;
+  found = looks_after closed (0 ∷ 1 ∷ []) 0;
+  found_is = refl;
   are = refl;
   world = refl;
 }
@@ -178,13 +186,13 @@ ran_is_serial = record {
   report_is = refl;
 }
 
-abbrev lone_world : World
+abbrev pub lone_world : World
 lone_world = fold with_event nowhere (start_of lone)
 
-abbrev lone_round : World
+abbrev pub lone_round : World
 lone_round = after_rounds true lone_world 1
 
-abbrev lone_closed : World
+abbrev pub lone_closed : World
 lone_closed = after_changes lone_round (map Close (0 ∷ []))
 
 pub alone_is_serial : Serial alone.script alone.report
@@ -198,6 +206,10 @@ alone_is_serial = record {
   stops = record { waiting = lone_closed; waits = refl; rounds = 0; number = first_at (is_none_left lone_closed (0 ∷ [])) 0 refl refl; world = refl; are = refl };
   report_is = refl;
 }
+
+pub alone_world : alone_is_serial.world ≡ lone_closed
+unfolding alone_is_serial
+alone_world = refl
 
 abbrev sums_world : World
 sums_world = fold with_event nowhere (start_of sums)

@@ -1,15 +1,18 @@
 -- The report of the rounds of a source that leads nowhere is lawful, where a run ends with its first round.
-use Rattle.std.proofs.Common.{[], refl}
+use Rattle.std.proofs.Common.{◌≡◌, ◌∙◌, [], refl, sym, ap}
 use Rattle.quiesce_core.specs.Reach.{has_no_cycle, reaches}
 use Rattle.change_law.specs.Found.{IsFound}
-use Rattle.change_law.specs.Lawful.{Lawful, in_rounds}
+use Rattle.change_law.specs.Lawful.{LawfulInRounds}
+use Rattle.change_law.specs.Members.{events}
 use Rattle.change_law.specs.Serial.{Serial}
-use Rattle.change_law.proofs.FoundLaws.{found_lawful, none_open}
+use Rattle.turns.specs.World.{World}
+use Rattle.change_law.proofs.FoundLaws.{found_in_rounds, none_open}
+use Rattle.change_law_rows.proofs.LaterSerialLemmas.{lone_closed, stuck_is_serial, stuck_world}
 use Rattle.change_law_rows.specs.Stuck.{history, members, report, script, stopped, tells}
 
-is_found : (serial : Serial script report) → IsFound script (in_rounds report serial) tells stopped members report
+is_found : IsFound script tells stopped members report
 unfolding reaches has_no_cycle
-is_found serial = record {
+is_found = record {
   follows = refl;
   history = refl;
   slots = refl;
@@ -23,9 +26,11 @@ is_found serial = record {
   graphs = refl;
   unfinished = refl;
   status = refl;
-  runs_end = refl;
-  finishes_end = refl;
 }
 
-pub lawful : (serial : Serial script report) → Lawful script (in_rounds report serial) report
-lawful serial = found_lawful script (in_rounds report serial) tells stopped members report (is_found serial)
+in_order : events members ≡ stuck_is_serial.world.events
+in_order =
+    let here : events members ≡ lone_closed.events = refl in here ∙ ap (λ (w : World). w.events) (sym stuck_world)
+
+pub lawful : (serial : Serial script report) × LawfulInRounds script report serial
+lawful = (stuck_is_serial, found_in_rounds script tells stopped members report is_found stuck_is_serial refl refl in_order)

@@ -18,12 +18,12 @@ use Rattle.quiescence_laws.specs.Roots.{has_root, is_open_root_after}
 use Rattle.quiescence_laws.proofs.OrderLaws.{begun_count, in_order, was_begun}
 use Rattle.turns.specs.Round.{is_end}
 use Rattle.change_script.specs.declared.report.HistoryLine.TheVariants as to
-use Rattle.change_law.specs.Lawful.{EndedSince, IsDrainedAt, IsRunAt, Merge, Pace}
+use Rattle.change_law.specs.Lawful.{EndedSince, IsDrainedAt, IsEndedAt, Merge}
 use Rattle.change_law.specs.Members.{Member, of_history, event_of, events, lines, without_roots}
 use Rattle.change_law.proofs.MemberLaws.{at_line, events_parts, lines_parts}
 use Rattle.commit_laws.proofs.MemberLaws.{any_if, any_of}
 use Rattle.change_law.proofs.TestLaws.{some_counted}
-use Rattle.change_law_rows.specs.WrongLooks.{hasty, looking_hastily}
+use Rattle.change_law_rows.specs.WrongLooks.{hasty}
 use Rattle.change_law_rows.proofs.PlaceLemmas.{passes_there}
 use Rattle.change_law_rows.proofs.WrongLogLemmas.{AreFew, ends_by_sources, few_behind, some_log}
 use Rattle.change_law_rows.proofs.WrongLookLemmas.{drained_passed}
@@ -61,8 +61,8 @@ begun_and_open es rest run did serial none =
 abbrev OpenRootsAreSeen : Type 0
 OpenRootsAreSeen = (es : List Event) (p k : ℕ) → IsRun es → is_open_root_after es p k ≡ has_root (state_after es) p k
 
-pub not_hasty : OpenRootsAreSeen → (pace : Pace looking_hastily) (m : List Member) → Merge m hasty → IsRun (events m) → Each (IsRunAt pace) m → Each IsDrainedAt m → ⊥
-not_hasty seen pace m merge run runs drained =
+pub not_hasty : OpenRootsAreSeen → (m : List Member) → Merge m hasty → IsRun (events m) → Each IsEndedAt m → Each IsDrainedAt m → ⊥
+not_hasty seen m merge run runs drained =
     let told = without_roots hasty.history in
     let sight = of_history (to.Drained 0 1) in
     let running = of_history (to.Run 2 2) in
@@ -75,7 +75,7 @@ not_hasty seen pace m merge run runs drained =
     let front = w.before ++ sight ∷ v.before in
     let whole : m ≡ front ++ running ∷ v.after =
     w.parts ∙ ap (λ k. w.before ++ sight ∷ k) v.parts ∙ sym (append_assoc w.before (sight ∷ v.before) (running ∷ v.after)) in
-    let ended : EndedSince front 2 = (each_at (IsRunAt pace) front v.after running (subst (Each (IsRunAt pace)) whole runs)).0 in
+    let ended : EndedSince front 2 = each_at IsEndedAt front v.after running (subst (Each IsEndedAt) whole runs) in
     let behind = behind_line w.before v.before ended.front (to.Drained 0 1) ended.later ended.parts in
     let es = events w.before in
     let rest = events w.after in

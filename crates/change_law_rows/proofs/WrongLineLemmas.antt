@@ -1,5 +1,5 @@
 -- Wrong lines of starts, runs and stops, each refuted by one clause alone.
-use Rattle.std.proofs.Common.{◌≡◌, ◌∙◌, ℕ, ◌<◌, Bool, true, false, cond, List, [], ◌∷◌, ◌++◌, append_assoc, length, map, Option, Some, None, refl, sym, ap, subst, ⊎_elim, arith}
+use Rattle.std.proofs.Common.{◌≡◌, ◌∙◌, ℕ, ◌<◌, ◌≤◌, Bool, true, false, cond, List, [], ◌∷◌, ◌++◌, append_assoc, length, map, Option, Some, None, refl, sym, ap, subst, ⊎_elim, arith}
 use Rattle.std.specs.Prelude.{◌==◌, ◌⊎◌, codes, drop, find, not, is_none, pos, slice_get, take, if◌then◌else◌, All}
 use Rattle.std.specs.List.{list_any, range_with_len}
 use Rattle.std.specs.Option.{option_map_or}
@@ -24,10 +24,12 @@ use Rattle.quiesce_core.specs.Runs.{done_by, done_from, is_doer, state_after}
 use Rattle.quiesce_core.specs.State.{Configuration, State, empty, is_live, slot}
 use Rattle.change_script.specs.declared.report.HistoryLine.{HistoryLine}
 use Rattle.change_script.specs.declared.report.HistoryLine.TheVariants as to
+use Rattle.change_script.specs.declared.report.Report.{Report}
 use Rattle.change_law.specs.Follows.{AreRight, Follows, IsFinishLine, IsRight, IsStop, Part, lines_of, start_lines}
-use Rattle.change_law.specs.Lawful.{CameToRest, IsFinishAt, IsGraphAt, IsLogIn, IsOfItsKind, IsOfRounds, Merge, Pace, on_threads, in_rounds, is_done, is_unfinished, unfinished_of}
-use Rattle.change_law.specs.Members.{Member, by_node, of_history, events, lines, state_at, without_roots}
+use Rattle.change_law.specs.Lawful.{CameToRest, IsFewAt, IsFinishAt, IsGraphAt, IsLogIn, IsOfItsKind, Merge, is_done, is_unfinished, unfinished_of}
+use Rattle.change_law.specs.Members.{Member, by_node, of_history, events, lines, state_at}
 use Rattle.change_law.specs.Scene.{Seen, config_after, drained_line}
+use Rattle.change_law.specs.Serial.{Serial}
 use Rattle.change_law.specs.Statements.{Statement, finish, start}
 use Rattle.change_law.proofs.SerialLaws.{one_serial}
 use Rattle.change_law.proofs.MemberLaws.{all_parts, at_line, config_of_lines, events_parts, lines_of_nodes, lines_parts}
@@ -141,29 +143,25 @@ abbrev pub rounds_in : Option HistoryLine → ℕ
 rounds_in (Some (to.Finish n r)) = r
 rounds_in _ = 0
 
-not_of_rounds : (pace : Pace script) (before : List Member) → lines before ≡ lone_starts → IsOfRounds pace before (to.Finish 5 3) → ⊥
-not_of_rounds on_threads before are h = h
-not_of_rounds (in_rounds rounds serial) before are h =
-    let same : rounds ≡ report = one_serial script rounds report serial alone_is_serial in
-    let made : 1 ≡ 3 = sym (λ i. rounds_in (slice_get (without_roots (same i).history) (length (are i)))) ∙ ap rounds_in h in omega (arith, made)
+pub not_early_in_rounds : Serial script (report_of 3 (Some 0) 8) → ⊥
+not_early_in_rounds serial =
+    let made : 3 ≡ 1 = ap (λ (r : Report). rounds_in (slice_get r.history 4)) (one_serial script (report_of 3 (Some 0) 8) report serial alone_is_serial) in omega (arith, made)
 
--- it never comes to rest, so all rounds were made, or one, and not three
-pub not_given_up_early : (pace : Pace script) (m : List Member) → Merge m (report_of 3 (Some 0) 8) → Each (IsFinishAt pace) m → ⊥
-not_given_up_early pace m merge finishes =
+-- it never comes to rest, so all rounds were made, and not three
+pub not_given_up_early : (m : List Member) → Merge m (report_of 3 (Some 0) 8) → Each IsFinishAt m → ⊥
+not_given_up_early m merge finishes =
     let w = at_line m lone_starts (to.Finish 5 3) lone_stops merge.history in
-    let said : IsFinishAt pace w.before (of_history (to.Finish 5 3)) = each_at (IsFinishAt pace) w.before w.after (of_history (to.Finish 5 3)) (subst (Each (IsFinishAt pace)) w.parts finishes) in
+    let said : IsFinishAt w.before (of_history (to.Finish 5 3)) = each_at IsFinishAt w.before w.after (of_history (to.Finish 5 3)) (subst (Each IsFinishAt) w.parts finishes) in
     ⊎_elim (λ (all : 3 ≡ 5). absurd (omega (arith, all)))
-    (λ (early : (3 < 5) × (CameToRest w.before ⊎ IsOfRounds pace w.before (to.Finish 5 3))). ⊎_elim
-    (λ (rest : CameToRest w.before). never_rests 0 lone_slot never_done lone_starts refl refl m w.before w.after (to.Finish 5 3) w.parts merge.by_nodes (All-head (IsLogIn m) log_0 [] merge.logs) w.lines_before rest)
-    (λ (so : IsOfRounds pace w.before (to.Finish 5 3)). not_of_rounds pace w.before w.lines_before so) early.1) said
+    (λ (early : (3 < 5) × CameToRest w.before).
+    never_rests 0 lone_slot never_done lone_starts refl refl m w.before w.after (to.Finish 5 3) w.parts merge.by_nodes (All-head (IsLogIn m) log_0 [] merge.logs) w.lines_before early.1) said
 
 -- more rounds were made than were allowed
-pub not_outrun : (pace : Pace finishing_two) (m : List Member) → Merge m outrun → Each (IsFinishAt pace) m → ⊥
-not_outrun pace m merge finishes =
+pub not_outrun : (m : List Member) → Merge m outrun → Each IsFewAt m → ⊥
+not_outrun m merge finishes =
     let w = at_line m (take 10 hurried.history) (to.Finish 9 10) (drop 11 hurried.history) merge.history in
-    let said : IsFinishAt pace w.before (of_history (to.Finish 9 10)) = each_at (IsFinishAt pace) w.before w.after (of_history (to.Finish 9 10)) (subst (Each (IsFinishAt pace)) w.parts finishes) in
-    ⊎_elim (λ (all : 10 ≡ 9). absurd (omega (arith, all)))
-    (λ (early : (10 < 9) × (CameToRest w.before ⊎ IsOfRounds pace w.before (to.Finish 9 10))). let low = early.0 in absurd (omega (arith, low))) said
+    let few : 10 ≤ 9 = each_at IsFewAt w.before w.after (of_history (to.Finish 9 10)) (subst (Each IsFewAt) w.parts finishes) in
+    omega (arith, few)
 
 -- a port was closed by the stop, and not found drained
 

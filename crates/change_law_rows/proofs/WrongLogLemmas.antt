@@ -30,7 +30,7 @@ use Rattle.turns.specs.Round.{is_end}
 use Rattle.change_script.specs.declared.report.HistoryLine.TheVariants as to
 use Rattle.change_script.specs.declared.report.Last.TheVariants as last
 use Rattle.change_script.specs.declared.report.NodeLog.{NodeLog}
-use Rattle.change_law.specs.Lawful.{EndedSince, IsRunAt, Merge, Pace}
+use Rattle.change_law.specs.Lawful.{EndedSince, IsEndedAt, Merge}
 use Rattle.change_law.specs.Members.{Member, by_node, of_history, event_of, events}
 use Rattle.change_law.proofs.MemberLaws.{at_line, events_of_nodes, events_parts, parted_at}
 use Rattle.change_law.proofs.TestLaws.{counted_some, some_counted}
@@ -176,10 +176,10 @@ few_behind whole run there xs (e ∷ es) is few =
     (few_behind whole run there (xs ++ e ∷ []) es (is ∙ sym (append_assoc xs (e ∷ []) es))
     (few_more xs e (λ ends. done_by_one (state_after xs) e (there xs (e ∷ es) is) here.legal ends) few))
 
-pub not_hurried : (pace : Pace running_two) (m : List Member) → Merge m hurried → IsRun (events m) → Each (IsRunAt pace) m → ⊥
-not_hurried pace m merge run each =
+pub not_hurried : (m : List Member) → Merge m hurried → IsRun (events m) → Each IsEndedAt m → ⊥
+not_hurried m merge run each =
     let w = at_line m (take 10 hurried.history) (to.Run 1 3) (to.Stop ∷ to.Close 0 ∷ to.Close 1 ∷ to.Drained 0 1 ∷ to.Drained 1 1 ∷ []) merge.history in
-    let said : EndedSince w.before 3 = (each_at (IsRunAt pace) w.before w.after (of_history (to.Run 1 3)) (subst (Each (IsRunAt pace)) w.parts each)).0 in
+    let said : EndedSince w.before 3 = each_at IsEndedAt w.before w.after (of_history (to.Run 1 3)) (subst (Each IsEndedAt) w.parts each) in
     let few : AreFew (events m) = few_behind (events m) run
     (λ before after is. passes_there ends_by_sources (filter_map event_of hurried.history) refl m merge.by_nodes (ap (filter_map event_of) merge.history) before after is)
     [] (events m) refl (omega arith) in

@@ -29,8 +29,10 @@ use Rattle.quiesce_core.proofs.PortEventLaws.{next_serial}
 use Rattle.quiescence_laws.proofs.RootLaws.{closed_stays, has_no_root}
 use Rattle.change_script.specs.declared.report.HistoryLine.{HistoryLine}
 use Rattle.change_script.specs.declared.report.HistoryLine.TheVariants as to
-use Rattle.change_law.specs.Lawful.{IsDrainedAt, IsOfItsKind, Merge, StoodOpen, StoodOpenWhereSaid}
+use Rattle.change_law.specs.Lawful.{IsDrainedAt, IsOfItsKind, Merge, StoodOpenWhereSaid}
 use Rattle.change_law.specs.Members.{Member, of_history, event_of, events, is_close, lines, state_at}
+use Rattle.change_law.specs.Roots.{StoodSinceClose}
+use Rattle.change_law.proofs.StoodLaws.{stood_since}
 use Rattle.change_law.proofs.MemberLaws.{all_parts, at_line, events_parts, line_there, lines_parts, none_happens, parted_at}
 use Rattle.change_law_rows.specs.WrongLooks.{early, outdated}
 use Rattle.change_law_rows.proofs.PlaceLemmas.{done_at}
@@ -166,7 +168,7 @@ then_so false b h e = absurd (both_ways false refl e)
 abbrev is_reopened : ℕ → Bool
 is_reopened j = list_any is_close (drop j (drop 13 told)) || list_any reopens_1 (take j (drop 13 told))
 
-stood_outdated : (m : List Member) → Merge m outdated → IsRun (events m) → Each IsDrainedAt m → StoodOpen m told 1 1 → ⊥
+stood_outdated : (m : List Member) → Merge m outdated → IsRun (events m) → Each IsDrainedAt m → StoodSinceClose m told 1 1 → ⊥
 stood_outdated m merge run drained s =
     let f = lines s.front in
     let since = lines s.since in
@@ -217,4 +219,4 @@ stood_outdated m merge run drained s =
 
 pub not_outdated : (m : List Member) → Merge m outdated → IsRun (events m) → Each IsDrainedAt m → Each (StoodOpenWhereSaid m) outdated.history → ⊥
 not_outdated m merge run drained stood =
-    stood_outdated m merge run drained (each_at (StoodOpenWhereSaid m) told (drop 30 outdated.history) (to.Root 1 1) stood)
+    stood_outdated m merge run drained (stood_since m told 1 1 run merge.by_nodes (each_at (StoodOpenWhereSaid m) told (drop 30 outdated.history) (to.Root 1 1) stood))

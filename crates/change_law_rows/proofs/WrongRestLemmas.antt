@@ -27,7 +27,7 @@ use Rattle.quiescence_laws.proofs.OrderLaws.{in_order}
 use Rattle.turns.specs.Round.{is_end}
 use Rattle.change_script.specs.declared.report.HistoryLine.{HistoryLine}
 use Rattle.change_script.specs.declared.report.HistoryLine.TheVariants as to
-use Rattle.change_law.specs.Lawful.{CameToRest, EndedSince, IsFinishAt, IsOfItsKind, IsRunAt, Merge, on_threads, is_done}
+use Rattle.change_law.specs.Lawful.{CameToRest, EndedSince, IsFinishAt, IsOfItsKind, IsRunAt, Merge, is_done}
 use Rattle.change_law.specs.Members.{Member, by_node, of_history, event_of, events, lines, state_at}
 use Rattle.change_law.specs.Opening.{fold_at}
 use Rattle.change_law.specs.Scene.{config_after}
@@ -122,14 +122,14 @@ undone_behind es more_ rest did w there =
 abbrev until_run : List HistoryLine
 until_run = take 10 rested_before.history
 
-pub not_rested_before : (m : List Member) → Merge m rested_before → IsRun (events m) → Each (IsRunAt {statements = resting_small} on_threads) m → Each (IsFinishAt {statements = resting_small} on_threads) m → ⊥
+pub not_rested_before : (m : List Member) → Merge m rested_before → IsRun (events m) → Each IsRunAt m → Each IsFinishAt m → ⊥
 not_rested_before m merge run runs finishes =
     let line_ = to.Finish 10 0 in
     let w = at_line m until_run line_ (drop 11 rested_before.history) merge.history in
-    let said : IsFinishAt {statements = resting_small} on_threads w.before (of_history line_) =
-    each_at (IsFinishAt {statements = resting_small} on_threads) w.before w.after (of_history line_) (subst (Each (IsFinishAt {statements = resting_small} on_threads)) w.parts finishes) in
+    let said : IsFinishAt w.before (of_history line_) =
+    each_at IsFinishAt w.before w.after (of_history line_) (subst (Each IsFinishAt) w.parts finishes) in
     ⊎_elim (λ (all : 0 ≡ 10). absurd (omega (arith, all)))
-    (λ (early : (0 < 10) × (CameToRest w.before ⊎ ⊥)). ⊎_elim (λ (rest : CameToRest w.before). by w rest) (λ (never : ⊥). never) early.1) said
+    (λ (early : (0 < 10) × CameToRest w.before). by w early.1) said
   where
     by : (w : AtLine m until_run (to.Finish 10 0)) → CameToRest w.before → ⊥
     by w rest =
@@ -144,7 +144,7 @@ not_rested_before m merge run runs finishes =
         let whole : m ≡ v.before ++ running ∷ (v.after ++ finishing ∷ w.after) =
         w.parts ∙ ap (λ k. k ++ finishing ∷ w.after) v.parts ∙ append_assoc v.before (running ∷ v.after) (finishing ∷ w.after) in
         let ended : EndedSince v.before 1 =
-        (each_at (IsRunAt {statements = resting_small} on_threads) v.before (v.after ++ finishing ∷ w.after) running (subst (Each (IsRunAt {statements = resting_small} on_threads)) whole runs)).0 in
+        (each_at IsRunAt v.before (v.after ++ finishing ∷ w.after) running (subst (Each IsRunAt) whole runs)).0 in
         let es = events v.before in
         let tail = events (v.after ++ finishing ∷ w.after) in
         let all : events m ≡ es ++ tail = ap events whole ∙ events_parts v.before (running ∷ (v.after ++ finishing ∷ w.after)) in

@@ -19,9 +19,11 @@ use Rattle.turns.specs.Round.{is_end}
 use Rattle.change_script.specs.declared.report.HistoryLine.{HistoryLine}
 use Rattle.change_script.specs.declared.report.HistoryLine.TheVariants as to
 use Rattle.change_script.specs.declared.report.Last.TheVariants as last
-use Rattle.change_law.specs.Lawful.{CameToRest, EndedSince, EndsAs, IsFolded, IsOfRounds, IsRunAt, Merge, Pace, on_threads, in_rounds, is_done}
-use Rattle.change_law.specs.Members.{Member, by_node, of_history, event_of, events, lines, without_roots}
+use Rattle.change_script.specs.declared.report.Report.{Report}
+use Rattle.change_law.specs.Lawful.{CameToRest, EndedSince, EndsAs, IsEndedAt, IsFolded, IsRunAt, Merge, is_done}
+use Rattle.change_law.specs.Members.{Member, by_node, of_history, event_of, events, lines}
 use Rattle.change_law.specs.Opening.{fold_of_node}
+use Rattle.change_law.specs.Serial.{Serial}
 use Rattle.change_law.proofs.MemberLaws.{at_line, events_of_nodes, events_parts, parted_at}
 use Rattle.change_law.proofs.SerialLaws.{one_serial}
 use Rattle.change_law_rows.specs.RunOut.{history, report, script}
@@ -48,22 +50,19 @@ abbrev ended_in : Option HistoryLine → ℕ
 ended_in (Some (to.Run k n)) = n
 ended_in _ = 0
 
-not_of_rounds : (pace : Pace script) (before : List Member) → lines before ≡ starts → IsOfRounds pace before (to.Run 1 0) → ⊥
-not_of_rounds on_threads before are h = h
-not_of_rounds (in_rounds rounds serial) before are h =
-    let same = one_serial script rounds report serial run_out_is_serial in
-    let ended : 2 ≡ 0 = sym (λ i. ended_in (slice_get (without_roots (same i).history) (length (are i)))) ∙ ap ended_in h in omega (arith, ended)
+-- the rounds end with two
+pub not_idle_in_rounds : Serial script ended_idly → ⊥
+not_idle_in_rounds serial =
+    let ended : 0 ≡ 2 = ap (λ (r : Report). ended_in (slice_get r.history 10)) (one_serial script ended_idly report serial run_out_is_serial) in omega (arith, ended)
 
-pub not_ended_idly : (pace : Pace script) (m : List Member) → Merge m ended_idly → Each (IsRunAt pace) m → ⊥
-not_ended_idly pace m merge runs =
+pub not_ended_idly : (m : List Member) → Merge m ended_idly → Each IsRunAt m → ⊥
+not_ended_idly m merge runs =
     let line_ = to.Run 1 0 in
     let w = at_line m starts line_ (drop 11 ended_idly.history) merge.history in
-    let said = (each_at (IsRunAt pace) w.before w.after (of_history line_) (subst (Each (IsRunAt pace)) w.parts runs)).1 in
+    let said = (each_at IsRunAt w.before w.after (of_history line_) (subst (Each IsRunAt) w.parts runs)).1 in
     ⊎_elim (λ (all : 1 ≤ 0). omega (arith, all))
-    (λ (early : CameToRest w.before ⊎ IsOfRounds pace w.before line_). ⊎_elim
     (λ (rest : CameToRest w.before).
-    never_rests 0 first_source never_done starts refl refl m w.before w.after line_ w.parts merge.by_nodes (merge.logs 0 some_log (omega arith)) w.lines_before rest)
-    (λ (so : IsOfRounds pace w.before line_). not_of_rounds pace w.before w.lines_before so) early) said
+    never_rests 0 first_source never_done starts refl refl m w.before w.after line_ w.parts merge.by_nodes (merge.logs 0 some_log (omega arith)) w.lines_before rest) said
 
 -- what ended before a line isn't counted behind it
 
@@ -87,15 +86,15 @@ ends_in before n s =
     let enough = s.enough in
     omega (arith, all, enough)
 
-pub not_counted_twice : (pace : Pace script) (m : List Member) → Merge m counted_twice → IsRun (events m) → Each (IsRunAt pace) m → ⊥
-not_counted_twice pace m merge run runs =
+pub not_counted_twice : (m : List Member) → Merge m counted_twice → IsRun (events m) → Each IsEndedAt m → ⊥
+not_counted_twice m merge run runs =
     let w = at_line m (take 11 history) (to.Run 9 4) (drop 12 history) merge.history in
-    let second : EndedSince w.before 4 = (each_at (IsRunAt pace) w.before w.after (of_history (to.Run 9 4)) (subst (Each (IsRunAt pace)) w.parts runs)).0 in
+    let second : EndedSince w.before 4 = each_at IsEndedAt w.before w.after (of_history (to.Run 9 4)) (subst (Each IsEndedAt) w.parts runs) in
     let v = at_line w.before starts (to.Run 1 2) [] w.lines_before in
     let whole : m ≡ v.before ++ of_history (to.Run 1 2) ∷ (v.after ++ of_history (to.Run 9 4) ∷ w.after) =
     w.parts ∙ ap (λ k. k ++ of_history (to.Run 9 4) ∷ w.after) v.parts ∙ append_assoc v.before (of_history (to.Run 1 2) ∷ v.after) (of_history (to.Run 9 4) ∷ w.after) in
     let first : EndedSince v.before 2 =
-    (each_at (IsRunAt pace) v.before (v.after ++ of_history (to.Run 9 4) ∷ w.after) (of_history (to.Run 1 2)) (subst (Each (IsRunAt pace)) whole runs)).0 in
+    each_at IsEndedAt v.before (v.after ++ of_history (to.Run 9 4) ∷ w.after) (of_history (to.Run 1 2)) (subst (Each IsEndedAt) whole runs) in
     let front = behind_line v.before v.after second.front (to.Run 1 2) second.later (sym v.parts ∙ second.parts) in
     let in_front = ap (count_by is_end) (ap events front.1 ∙ events_parts v.before (of_history (to.Run 1 2) ∷ front.0)) ∙ count_by-append is_end (events v.before) (events front.0) in
     let few : AreFew (events m) = few_behind (events m) run

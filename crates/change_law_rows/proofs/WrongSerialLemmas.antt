@@ -23,8 +23,10 @@ use Rattle.quiescence_laws.specs.Roots.{has_root}
 use Rattle.quiescence_laws.proofs.OrderLaws.{begun_count, ended_count, in_order, was_begun}
 use Rattle.change_script.specs.declared.report.HistoryLine.{HistoryLine}
 use Rattle.change_script.specs.declared.report.HistoryLine.TheVariants as to
-use Rattle.change_law.specs.Lawful.{IsDrainedAt, Merge, StoodOpen, StoodOpenWhereSaid}
+use Rattle.change_law.specs.Lawful.{IsDrainedAt, Merge, StoodOpenWhereSaid}
 use Rattle.change_law.specs.Members.{Member, of_history, events, is_close, lines, state_at, without_roots}
+use Rattle.change_law.specs.Roots.{StoodSinceClose}
+use Rattle.change_law.proofs.StoodLaws.{stood_since}
 use Rattle.change_law.proofs.MemberLaws.{at_line, events_parts, lines_parts, parted_at}
 use Rattle.change_law.proofs.TestLaws.{some_counted}
 use Rattle.change_law_rows.specs.WrongSerials.{ahead, between, late, log_of_a}
@@ -75,12 +77,12 @@ busy_with k x h =
     not-true (is_idle x.phase) (and_parts (not (is_idle x.phase)) (not (is_some x.within)) (and_parts (not (is_idle x.phase) && not (is_some x.within)) (x.serial == k) h).0).0
 
 -- the parts of a list of members about a close that a root stood open from
-since_close : (m : List Member) (before : List HistoryLine) (p k : ℕ) (s : StoodOpen m before p k) → m ≡ (s.front ++ of_history (to.Close p) ∷ []) ++ (s.since ++ s.rest)
+since_close : (m : List Member) (before : List HistoryLine) (p k : ℕ) (s : StoodSinceClose m before p k) → m ≡ (s.front ++ of_history (to.Close p) ∷ []) ++ (s.since ++ s.rest)
 since_close m before p k s =
     s.parts ∙ append_assoc s.front (of_history (to.Close p) ∷ s.since) s.rest ∙ sym (append_assoc s.front (of_history (to.Close p) ∷ []) (s.since ++ s.rest))
 
 -- and the lines up to where it is told
-lines_since : (m : List Member) (before : List HistoryLine) (p k : ℕ) (s : StoodOpen m before p k)
+lines_since : (m : List Member) (before : List HistoryLine) (p k : ℕ) (s : StoodSinceClose m before p k)
     → (lines (s.front ++ of_history (to.Close p) ∷ []) ++ lines s.since) ++ s.later ≡ without_roots before
 lines_since m before p k s =
     ap (λ ls. ls ++ s.later) (sym (lines_parts (s.front ++ of_history (to.Close p) ∷ []) s.since) ∙ ap lines (append_assoc s.front (of_history (to.Close p) ∷ []) s.since)) ∙ s.place
@@ -91,7 +93,7 @@ abbrev is_sight : HistoryLine → Bool
 is_sight (to.Drained p k) = true
 is_sight _ = false
 
-stood_ahead : (m : List Member) → Merge m ahead → IsRun (events m) → Each IsDrainedAt m → StoodOpen m (take 15 ahead.history) 0 2 → ⊥
+stood_ahead : (m : List Member) → Merge m ahead → IsRun (events m) → Each IsDrainedAt m → StoodSinceClose m (take 15 ahead.history) 0 2 → ⊥
 stood_ahead m merge run drained s =
     let told = take 15 ahead.history in
     let front = s.front ++ of_history (to.Close 0) ∷ [] in
@@ -114,7 +116,7 @@ stood_ahead m merge run drained s =
 
 pub not_ahead : (m : List Member) → Merge m ahead → IsRun (events m) → Each IsDrainedAt m → Each (StoodOpenWhereSaid m) ahead.history → ⊥
 not_ahead m merge run drained stood =
-    stood_ahead m merge run drained (each_at (StoodOpenWhereSaid m) (take 15 ahead.history) (drop 16 ahead.history) (to.Root 0 2) stood)
+    stood_ahead m merge run drained (stood_since m (take 15 ahead.history) 0 2 run merge.by_nodes (each_at (StoodOpenWhereSaid m) (take 15 ahead.history) (drop 16 ahead.history) (to.Root 0 2) stood))
 
 -- a root that ended before the last port was closed
 
@@ -186,7 +188,7 @@ closed_in a b whole none =
     (λ (e : list_any is_last_close (take (length a) told) ≡ true). ap (list_any is_last_close) (sym sooner) ∙ e)
     (or_cases (list_any is_close (drop (length a) told)) (list_any is_last_close (take (length a) told)) (all_in_range is_behind 0 15 (length a) refl (omega arith) (omega (arith, n))))
 
-stood_between : (m : List Member) → Merge m between → IsRun (events m) → StoodOpen m told 0 1 → StoodOpen m (take 15 between.history) 1 3 → ⊥
+stood_between : (m : List Member) → Merge m between → IsRun (events m) → StoodSinceClose m told 0 1 → StoodSinceClose m (take 15 between.history) 1 3 → ⊥
 stood_between m merge run s t =
     let close = of_history (to.Close 1) in
     let front = s.front ++ of_history (to.Close 0) ∷ s.since in
@@ -228,5 +230,5 @@ stood_between m merge run s t =
 
 pub not_between : (m : List Member) → Merge m between → IsRun (events m) → Each (StoodOpenWhereSaid m) between.history → ⊥
 not_between m merge run stood =
-    stood_between m merge run (each_at (StoodOpenWhereSaid m) told (drop 15 between.history) (to.Root 0 1) stood)
-    (each_at (StoodOpenWhereSaid m) (take 15 between.history) (drop 16 between.history) (to.Root 1 3) stood)
+    stood_between m merge run (stood_since m told 0 1 run merge.by_nodes (each_at (StoodOpenWhereSaid m) told (drop 15 between.history) (to.Root 0 1) stood))
+    (stood_since m (take 15 between.history) 1 3 run merge.by_nodes (each_at (StoodOpenWhereSaid m) (take 15 between.history) (drop 16 between.history) (to.Root 1 3) stood))

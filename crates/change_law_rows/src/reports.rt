@@ -1,6 +1,6 @@
 //! Reports that are lawful.
 
-ghost use Rattle.change_law.specs.Lawful.{Lawful, in_rounds, on_threads};
+ghost use Rattle.change_law.specs.Lawful.{LawfulInRounds, LawfulOnThreads};
 ghost use Rattle.change_law.specs.Scripts.{StatementsOf};
 ghost use Rattle.change_law.specs.Serial.{Serial};
 ghost use Rattle.change_law_rows.specs.Alone as alone;
@@ -29,36 +29,32 @@ ghost use Rattle.change_law_rows.specs.Waited as waited;
 
 /// One sink that is started and shown has this report. This is the report of rounds too.
 pub fn a_shown_sink_is_lawful()
-    ensures lawful { Lawful shown.script on_threads shown.report }
+    ensures lawful { LawfulOnThreads shown.script shown.report }
     ensures serial { Serial shown.script shown.report }
 {}
 
 /// A source of three items that leads through a map to a sink comes to rest, and has this report.
 /// This is the report of rounds too.
 pub fn a_line_that_comes_to_rest_is_lawful()
-    ensures lawful { Lawful ran.script on_threads ran.report }
+    ensures lawful { LawfulOnThreads ran.script ran.report }
     ensures serial { Serial ran.script ran.report }
 {}
 
 /// A source that leads nowhere isn't done, and its first round moves nothing: the finish ends there, and the source is
-/// named. This is the report of rounds, and lawful as such.
+/// named. This is the report of rounds, and lawful in their order.
 pub fn a_lone_source_ends_after_one_round()
-    ensures lawful { (serial : Serial alone.script alone.report)
-        → Lawful alone.script (in_rounds alone.report serial) alone.report }
-    ensures serial { Serial alone.script alone.report }
+    ensures lawful { (serial : Serial alone.script alone.report) × LawfulInRounds alone.script alone.report serial }
 {}
 
-/// So does a run of such a source: it is lawful as the report of rounds, though nothing came to rest.
+/// So does a run of such a source: it is lawful in rounds, though nothing came to rest.
 pub fn a_run_of_a_lone_source_ends_after_one_round()
-    ensures lawful { (serial : Serial stuck.script stuck.report)
-        → Lawful stuck.script (in_rounds stuck.report serial) stuck.report }
-    ensures serial { Serial stuck.script stuck.report }
+    ensures lawful { (serial : Serial stuck.script stuck.report) × LawfulInRounds stuck.script stuck.report serial }
 {}
 
 /// More transactions may end in a run than were asked for; and where all came to rest, it ends with fewer.
 /// This is the report of rounds too.
 pub fn a_run_may_end_with_more_or_fewer()
-    ensures lawful { Lawful run_out.script on_threads run_out.report }
+    ensures lawful { LawfulOnThreads run_out.script run_out.report }
     ensures serial { Serial run_out.script run_out.report }
 {}
 
@@ -75,31 +71,32 @@ pub fn a_second_finish_makes_no_round()
 
 /// A change to the same graph closes nothing, and commits at once.
 pub fn a_change_that_changes_nothing_is_lawful()
-    ensures lawful { Lawful kept.script on_threads kept.report }
+    ensures lawful { LawfulOnThreads kept.script kept.report }
 {}
 
 /// A node that was removed before it was done isn't named: of two sources the live one is.
 pub fn a_removed_node_is_not_named()
-    ensures lawful { Lawful undone.script on_threads undone.report }
+    ensures lawful { LawfulOnThreads undone.script undone.report }
 {}
 
 /// An asker asks an adder for one sum, which takes an intermediate reply and a further message: the report of a run
 /// of one transaction. This is the report of rounds too.
 pub fn a_sum_with_a_further_message_is_lawful()
-    ensures lawful { Lawful summed.script on_threads summed.report }
+    ensures lawful { LawfulOnThreads summed.script summed.report }
     ensures serial { Serial summed.script summed.report }
 {}
 
 /// On threads a finish may see each node done at a place of its own, and a buffer that was empty then may have an
-/// item in the end: it is named as unfinished.
+/// item in the end: it is named as unfinished. No rounds have this report.
 pub fn rest_may_be_seen_at_different_places()
-    ensures lawful { Lawful filled.script on_threads filled.report }
+    ensures lawful { LawfulOnThreads filled.script filled.report }
+    ensures not_in_rounds { Serial filled.script filled.report → ⊥ }
 {}
 
 /// A change that may make no round is given up: the root that the source began is still open.
 /// This is the report of rounds too.
 pub fn a_change_may_be_given_up()
-    ensures lawful { Lawful given_up.script on_threads given_up.report }
+    ensures lawful { LawfulOnThreads given_up.script given_up.report }
     ensures serial { Serial given_up.script given_up.report }
 {}
 
@@ -107,7 +104,7 @@ pub fn a_change_may_be_given_up()
 /// the nodes that aren't done is named, and the status is that of a change that was given up.
 /// This is the report of rounds too.
 pub fn a_change_may_be_given_up_after_rounds()
-    ensures lawful { Lawful given_up_later.script on_threads given_up_later.report }
+    ensures lawful { LawfulOnThreads given_up_later.script given_up_later.report }
     ensures serial { Serial given_up_later.script given_up_later.report }
 {}
 
@@ -119,7 +116,7 @@ pub fn what_is_not_frozen_begins_nothing_in_a_wait()
 /// A change waits for one round, in which that root ends, and commits.
 /// This is the report of rounds too.
 pub fn a_change_may_wait()
-    ensures lawful { Lawful waited.script on_threads waited.report }
+    ensures lawful { LawfulOnThreads waited.script waited.report }
     ensures serial { Serial waited.script waited.report }
 {}
 
@@ -130,40 +127,40 @@ pub fn a_script_says_its_statements()
 
 /// After a change that was given up the next one is skipped.
 pub fn a_change_after_one_that_was_given_up_is_skipped()
-    ensures lawful { Lawful skipped.script on_threads skipped.report }
+    ensures lawful { LawfulOnThreads skipped.script skipped.report }
 {}
 
 /// An account is replaced by one that goes on with its balance.
 pub fn a_balance_goes_on()
-    ensures lawful { Lawful moved.script on_threads moved.report }
+    ensures lawful { LawfulOnThreads moved.script moved.report }
 {}
 
 /// An account is replaced twice, and its balance goes on through both.
 pub fn a_balance_goes_on_twice()
-    ensures lawful { Lawful moved_twice.script on_threads moved_twice.report }
+    ensures lawful { LawfulOnThreads moved_twice.script moved_twice.report }
 {}
 
 /// A buffer that leads to itself is replaced by one that goes on with what it holds.
 pub fn what_a_looped_buffer_holds_goes_on()
-    ensures lawful { Lawful looped.script on_threads looped.report }
+    ensures lawful { LawfulOnThreads looped.script looped.report }
 {}
 
 /// A system may have no node, and be changed to one with a node and back.
 pub fn a_system_may_be_empty()
-    ensures lawful { Lawful emptied.script on_threads emptied.report }
+    ensures lawful { LawfulOnThreads emptied.script emptied.report }
 {}
 
 /// On threads what is still open may be named in any order.
 pub fn what_is_open_may_be_named_in_any_order()
-    ensures lawful { Lawful open_unordered.script on_threads open_unordered.report }
+    ensures lawful { LawfulOnThreads open_unordered.script open_unordered.report }
 {}
 
 /// On threads a root may end between the look that saw it open and the line that says so.
 pub fn a_root_may_end_before_it_is_said_to_be_open()
-    ensures lawful { Lawful ended_early.script on_threads ended_early.report }
+    ensures lawful { LawfulOnThreads ended_early.script ended_early.report }
 {}
 
 /// On threads a second look may find a port drained that is lower than one that the first found.
 pub fn a_second_look_may_find_a_lower_port()
-    ensures lawful { Lawful second_look.script on_threads second_look.report }
+    ensures lawful { LawfulOnThreads second_look.script second_look.report }
 {}

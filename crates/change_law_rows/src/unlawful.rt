@@ -1,7 +1,7 @@
 //! Reports that aren't lawful, one for each part of what a report must be that doesn't follow from the others.
 
 ghost use Rattle.std.specs.Prelude.{None, Some};
-ghost use Rattle.change_law.specs.Lawful.{Lawful, Pace};
+ghost use Rattle.change_law.specs.Lawful.{Lawful, LawfulOnThreads};
 ghost use Rattle.change_law_rows.specs.Alone as alone;
 ghost use Rattle.change_law_rows.specs.Moved as moved;
 ghost use Rattle.change_law_rows.specs.Ran as ran;
@@ -13,20 +13,20 @@ ghost use Rattle.change_law_rows.specs.WrongLogs as logs;
 ghost use Rattle.change_law_rows.specs.WrongLooks as looks;
 ghost use Rattle.change_law_rows.specs.WrongRuns as runs;
 
-/// None of these reports is lawful, at whatever pace. Each is refuted by one part of what `Lawful` asks: that the
-/// history follows the script, that it and the logs are parts of one list, that this list is a run, that the states
-/// are folds, that what is said to be drained is so, that what is said to be open stood so, that the graph is the one
-/// shown, that the first node that isn't done is named, the status, and the numbers of runs and finishes.
+/// None of these reports is lawful. Each is refuted by one part of what `Lawful` asks: that the history follows the
+/// script, that it and the logs are parts of one list, that this list is a run, that the states are folds, that what is
+/// said to be drained is so, that what is said to be open stood so, that the graph is the one shown, that the first node
+/// that isn't done is named, the status; and, on threads, the numbers of runs and finishes.
 pub fn wrong_reports_are_not_lawful()
-    ensures lines { (pace : Pace ran.script) → Lawful ran.script pace ends.unseen → ⊥ }
-    ensures logs { (pace : Pace wrong_lines.finishing_two) → Lawful wrong_lines.finishing_two pace logs.swapped → ⊥ }
-    ensures run { (pace : Pace ran.script) → Lawful ran.script pace logs.altered → ⊥ }
-    ensures states { (pace : Pace moved.script) → Lawful moved.script pace logs.forgetting → ⊥ }
-    ensures drained { (pace : Pace ran.script) → Lawful ran.script pace looks.early → ⊥ }
-    ensures stood { (pace : Pace ends.outdating) → Lawful ends.outdating pace looks.outdated → ⊥ }
-    ensures shown { (pace : Pace shown.script) → Lawful shown.script pace wrong_lines.shown_wrongly → ⊥ }
-    ensures unfinished { (pace : Pace alone.script) → Lawful alone.script pace (alone.report_of 5 None 0) → ⊥ }
-    ensures status { (pace : Pace alone.script) → Lawful alone.script pace (alone.report_of 5 (Some 0) 0) → ⊥ }
-    ensures ended { (pace : Pace run_out.script) → Lawful run_out.script pace runs.ended_idly → ⊥ }
-    ensures rounds { (pace : Pace alone.script) → Lawful alone.script pace (alone.report_of 3 (Some 0) 8) → ⊥ }
+    ensures lines { Lawful ran.script ends.unseen → ⊥ }
+    ensures logs { Lawful wrong_lines.finishing_two logs.swapped → ⊥ }
+    ensures run { Lawful ran.script logs.altered → ⊥ }
+    ensures states { Lawful moved.script logs.forgetting → ⊥ }
+    ensures drained { Lawful ran.script looks.early → ⊥ }
+    ensures stood { Lawful ends.outdating looks.outdated → ⊥ }
+    ensures shown { Lawful shown.script wrong_lines.shown_wrongly → ⊥ }
+    ensures unfinished { Lawful alone.script (alone.report_of 5 None 0) → ⊥ }
+    ensures status { Lawful alone.script (alone.report_of 5 (Some 0) 0) → ⊥ }
+    ensures ended { LawfulOnThreads run_out.script runs.ended_idly → ⊥ }
+    ensures rounds { LawfulOnThreads alone.script (alone.report_of 3 (Some 0) 8) → ⊥ }
 {}

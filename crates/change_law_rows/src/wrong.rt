@@ -6,8 +6,9 @@ ghost use Rattle.quiesce_core.specs.Runs.{IsRun};
 ghost use Rattle.change_script.specs.declared.report.HistoryLine.{HistoryLine};
 ghost use Rattle.change_law.specs.Closings.{IsClosedFor};
 ghost use Rattle.change_law.specs.Follows.{Follows};
-ghost use Rattle.change_law.specs.Lawful.{IsDrainedAt, IsFinishAt, IsFolded, IsGraphAt, IsRunAt, Merge, Pace, StoodOpenWhereSaid, on_threads, unfinished_of};
+ghost use Rattle.change_law.specs.Lawful.{IsDrainedAt, IsEndedAt, IsFewAt, IsFinishAt, IsFolded, IsGraphAt, IsRunAt, Merge, StoodOpenWhereSaid, unfinished_of};
 ghost use Rattle.change_law.specs.Members.{Member, events};
+ghost use Rattle.change_law.specs.Serial.{Serial};
 ghost use Rattle.change_law_rows.specs.Alone as alone;
 ghost use Rattle.change_law_rows.specs.FinishedTwice as finished_twice;
 ghost use Rattle.change_law_rows.specs.Ran as ran;
@@ -33,10 +34,9 @@ pub fn wrong_lines_are_refuted()
     ensures reopened { Follows wrong_lines.starting wrong_lines.never_reopened → ⊥ }
     ensures drained { Follows ran.script wrong_lines.unseen → ⊥ }
     ensures shown { (m : List Member) → Merge m wrong_lines.shown_wrongly → Each (IsGraphAt shown.script) m → ⊥ }
-    ensures finished { (pace : Pace alone.script) (m : List Member) → Merge m (alone.report_of 3 (Some 0) 8)
-        → Each (IsFinishAt pace) m → ⊥ }
-    ensures outrun { (pace : Pace wrong_lines.finishing_two) (m : List Member) → Merge m wrong_lines.outrun
-        → Each (IsFinishAt pace) m → ⊥ }
+    ensures finished { (m : List Member) → Merge m (alone.report_of 3 (Some 0) 8) → Each IsFinishAt m → ⊥ }
+    ensures finished_in_rounds { Serial alone.script (alone.report_of 3 (Some 0) 8) → ⊥ }
+    ensures outrun { (m : List Member) → Merge m wrong_lines.outrun → Each IsFewAt m → ⊥ }
     ensures unfinished { (m : List Member) → Merge m (alone.report_of 5 None 0)
         → None ≡ unfinished_of alone.script (events m) → ⊥ }
 {}
@@ -82,19 +82,17 @@ pub fn wrong_tellings_are_refuted()
 /// ended before the line before it; and a finish that ends early, for a rest that was before that line or that not all
 /// nodes have, or as the rounds end another finish; so for a second one.
 pub fn wrong_runs_are_refuted()
-    ensures idle { (pace : Pace run_out.script) (m : List Member) → Merge m runs.ended_idly → Each (IsRunAt pace) m
-        → ⊥ }
-    ensures rested_before { (m : List Member) → Merge m runs.rested_before → IsRun (events m)
-        → Each (IsRunAt {statements = runs.resting_small} on_threads) m
-        → Each (IsFinishAt {statements = runs.resting_small} on_threads) m → ⊥ }
-    ensures partly { (pace : Pace ran.script) (m : List Member) → Merge m runs.rested_partly → Each (IsFinishAt pace) m
-        → ⊥ }
-    ensures later { (pace : Pace finished_twice.script) (m : List Member) → Merge m finished_twice.finished_later
-        → Each (IsFinishAt pace) m → ⊥ }
-    ensures sooner { (pace : Pace finished_twice.script) (m : List Member) → Merge m finished_twice.finished_at_once
-        → Each (IsFinishAt pace) m → ⊥ }
-    ensures twice { (pace : Pace run_out.script) (m : List Member) → Merge m runs.counted_twice → IsRun (events m)
-        → Each (IsRunAt pace) m → ⊥ }
+    ensures idle { (m : List Member) → Merge m runs.ended_idly → Each IsRunAt m → ⊥ }
+    ensures idle_in_rounds { Serial run_out.script runs.ended_idly → ⊥ }
+    ensures rested_before { (m : List Member) → Merge m runs.rested_before → IsRun (events m) → Each IsRunAt m
+        → Each IsFinishAt m → ⊥ }
+    ensures partly { (m : List Member) → Merge m runs.rested_partly → Each IsFinishAt m → ⊥ }
+    ensures partly_in_rounds { Serial ran.script runs.rested_partly → ⊥ }
+    ensures later { (m : List Member) → Merge m finished_twice.finished_later → Each IsFinishAt m → ⊥ }
+    ensures later_in_rounds { Serial finished_twice.script finished_twice.finished_later → ⊥ }
+    ensures sooner { (m : List Member) → Merge m finished_twice.finished_at_once → Each IsFinishAt m → ⊥ }
+    ensures sooner_in_rounds { Serial finished_twice.script finished_twice.finished_at_once → ⊥ }
+    ensures twice { (m : List Member) → Merge m runs.counted_twice → IsRun (events m) → Each IsEndedAt m → ⊥ }
 {}
 
 /// Logs of two nodes with each other's events are part of no list with the history; nor is a report in which a node has
@@ -105,8 +103,7 @@ pub fn wrong_logs_are_refuted()
     ensures unlogged { (m : List Member) → Merge m runs.unlogged → ⊥ }
     ensures logged_twice { (m : List Member) → Merge m runs.logged_twice → ⊥ }
     ensures altered { (m : List Member) → Merge m logs.altered → IsRun (events m) → ⊥ }
-    ensures hurried { (pace : Pace logs.running_two) (m : List Member) → Merge m logs.hurried → IsRun (events m)
-        → Each (IsRunAt pace) m → ⊥ }
+    ensures hurried { (m : List Member) → Merge m logs.hurried → IsRun (events m) → Each IsEndedAt m → ⊥ }
 {}
 
 /// An account that was replaced has moved its state: the one that replaces it doesn't begin with 100 again, and it
@@ -127,8 +124,8 @@ pub fn wrong_states_are_refuted()
 /// change before isn't open.
 pub fn wrong_looks_are_refuted()
     ensures early { (m : List Member) → Merge m looks.early → IsRun (events m) → Each IsDrainedAt m → ⊥ }
-    ensures hasty { (pace : Pace looks.looking_hastily) (m : List Member) → Merge m looks.hasty → IsRun (events m)
-        → Each (IsRunAt pace) m → Each IsDrainedAt m → ⊥ }
+    ensures hasty { (m : List Member) → Merge m looks.hasty → IsRun (events m) → Each IsEndedAt m
+        → Each IsDrainedAt m → ⊥ }
     ensures outdated { (m : List Member) → Merge m looks.outdated → IsRun (events m) → Each IsDrainedAt m
         → Each (StoodOpenWhereSaid m) looks.outdated.history → ⊥ }
 {

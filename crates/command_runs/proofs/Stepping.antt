@@ -56,7 +56,7 @@ pub ends_by_report :
     → ((own ≡ status.Pending) ↔ (list_any is_pending r.report.history ≡ true))
     × ((own ≡ status.Unfinished) ↔ ((list_any is_pending r.report.history ≡ false) × (is_some r.report.unfinished ≡ true)))
 ends_by_report show files name own taken taken' r =
-    ends_with own (list_any is_pending r.report.history) (is_some r.report.unfinished) (r.ended ∙ ap run_status r.is_report.lawful.by_them.status)
+    ends_with own (list_any is_pending r.report.history) (is_some r.report.unfinished) (r.ended ∙ ap run_status r.is_report.lawful.lawful.by_them.status)
 
 -- ---- what a file holds
 

@@ -3,7 +3,7 @@ use Rattle.std.proofs.Common.{◌≡◌, ◌∙◌, ℕ, Bool, true, false, if�
 use Rattle.std.specs.Prelude.{◌==◌}
 use Rattle.std.specs.Global.{Vec}
 use Rattle.cfg_io.specs.Shelf.{Files}
-use Rattle.change_law.specs.Lawful.{Lawful, in_rounds}
+use Rattle.change_law.specs.Lawful.{LawfulInRounds}
 use Rattle.change_law.specs.Serial.{Serial}
 use Rattle.change_law.specs.Statements.{Statement}
 use Rattle.change_script.specs.Reports.{report_text}
@@ -38,7 +38,7 @@ module _ {E : Type 0} where
 module _ {E : Type 0} where
   -- a report of rounds that is lawful too
   pub reported : (statements : List Statement) (r : Result Report E) → IfOk r (λ report. Serial statements report)
-      → ((report : Report) (serial : Serial statements report) → Lawful statements (in_rounds report serial) report) → IfOk r (λ report. IsReportOf statements report)
+      → ((report : Report) (serial : Serial statements report) → LawfulInRounds statements report serial) → IfOk r (λ report. IsReportOf statements report)
   reported statements (Ok report) serial lawful = record { serial = serial; lawful = lawful report serial }
   reported statements (Err e) serial lawful = tt
 

@@ -170,7 +170,7 @@ each_both P Q before (x ∷ xs) p q = ((p.0, q.0), each_both P Q (before ++ x �
 abbrev pub AreFairTo : List Joint → Joint → Type 0
 AreFairTo before j = AreFair (items_in before) × AreFair (items_in (j ∷ []))
 
-fair_front : (t u : List Item) → AreFair (t ++ u) → AreFair t
+pub fair_front : (t u : List Item) → AreFair (t ++ u) → AreFair t
 fair_front [] u f = tt
 fair_front (x ∷ t) u f = (f.0, fair_front t u f.1)
 
@@ -202,7 +202,7 @@ each_front before (j ∷ js) run =
     )
 
 -- items and moments have the same entries
-both_entries : (js : List Joint) → transcripts.entries (items_in js) ≡ records.entries (moments_in js)
+pub both_entries : (js : List Joint) → transcripts.entries (items_in js) ≡ records.entries (moments_in js)
 both_entries [] = refl
 both_entries (of_node e ∷ js) = both_entries js
 both_entries (of_line l ∷ js) = both_entries js

@@ -17,6 +17,15 @@ pub mod MergeLaws
 pub mod NumberLaws
 pub mod OpenLaws
 pub mod PendingLaws
-pub mod PortLaws
 pub mod RootLaws
 pub mod RoomLaws
+mod Doers
+mod Still
+mod Shown
+mod SeenFolds
+mod AtOnce
+mod RestCore
+mod RestLaws
+mod Resting
+mod StaysLaws
+mod EndFolds

@@ -23,7 +23,7 @@ use Rattle.quiesce_core.specs.declared.event.Event.TheVariants as event
 use Rattle.quiesce_core.proofs.RunLaws.{fronts_are_runs}
 use Rattle.change_script.specs.declared.report.HistoryLine.{HistoryLine}
 use Rattle.change_script.specs.declared.report.HistoryLine.TheVariants as to
-use Rattle.change_law.specs.Lawful.{EndedSince}
+use Rattle.change_law.specs.Lawful.{EndedSince, IsEndedAt}
 use Rattle.change_law.specs.Members.{Member, by_node, of_history, is_pending, line_of}
 use Rattle.change_law.specs.Statements.{Statement, start, change, run, finish, show}
 use Rattle.gate_records.specs.declared.entry.Entry.{Entry}
@@ -39,7 +39,6 @@ use Rattle.change_engine.specs.Finishing.{IsScanIn, ScanSeen, all_entries, round
 use Rattle.change_engine.specs.Passivating.{left_after, silent_items}
 use Rattle.change_engine.specs.Running.{ended_since}
 use Rattle.headline_laws.specs.Joining.{AreJoined, Joint, of_node, of_line, of_entry, item_of, items_in, member_of, members_in, moment_of, moments_in}
-use Rattle.headline_laws.specs.Numbers.{IsEndedAt}
 use Rattle.change_engine.specs.Draining.{pending_items}
 use Rattle.headline_laws.specs.Pieces.{AreCommitItems, IsDone, AreAbandonItems, IsTranscript, AreChangeItems, Piece, config_at, items_of, opening_items}
 use Rattle.headline_laws.proofs.ConfigLaws.{scans_config}
@@ -55,12 +54,12 @@ use Rattle.change_engine.specs.Stopping.{stop_items}
 
 -- ---- joints by their items
 
-record SplitItems (js : List Joint) (xs ys : List Item) : Type 0 where
-  front : List Joint
-  back : List Joint
-  parts : js ≡ front ++ back
-  front_items : items_in front ≡ xs
-  back_items : items_in back ≡ ys
+pub record SplitItems (js : List Joint) (xs ys : List Item) : Type 0 where
+  pub front : List Joint
+  pub back : List Joint
+  pub parts : js ≡ front ++ back
+  pub front_items : items_in front ≡ xs
+  pub back_items : items_in back ≡ ys
 
 split_more : (j : Joint) (js : List Joint) (y x : Item) (xs ys : List Item) → item_of j ≡ Some y → y ∷ items_in js ≡ x ∷ xs ++ ys → (items_in js ≡ xs ++ ys → SplitItems js xs ys) → SplitItems (j ∷ js) (x ∷ xs) ys
 split_more j js y x xs ys is h later =
@@ -73,7 +72,7 @@ split_more j js y x xs ys is h later =
       back_items = w.back_items;
     }
 
-split_items : (js : List Joint) (xs ys : List Item) → items_in js ≡ xs ++ ys → SplitItems js xs ys
+pub split_items : (js : List Joint) (xs ys : List Item) → items_in js ≡ xs ++ ys → SplitItems js xs ys
 split_items js [] ys h = record { front = []; back = js; parts = refl; front_items = refl; back_items = h }
 split_items [] (x ∷ xs) ys h = absurd (cc h)
 split_items (of_node e ∷ js) (x ∷ xs) ys h =
@@ -140,7 +139,7 @@ module _ (front back : List Joint) (es : List Entry) (are : items_in back ≡ si
       here (Scanned b m) parts = tt
 
   -- the members there are events of nodes
-  nodes_alone : (rest : List Joint) (fs : List Entry) → items_in rest ≡ silent_items fs → AreFair (items_in rest) → members_in rest ≡ map by_node (records.events (moments_in rest))
+  pub nodes_alone : (rest : List Joint) (fs : List Entry) → items_in rest ≡ silent_items fs → AreFair (items_in rest) → members_in rest ≡ map by_node (records.events (moments_in rest))
   nodes_alone [] fs h f = refl
   nodes_alone (of_node e ∷ rest) fs h f = ap (λ k. by_node e ∷ k) (nodes_alone rest fs h f)
   nodes_alone (of_line l ∷ rest) [] h f = absurd (cc h)
@@ -193,7 +192,7 @@ pub record RunTold (before : List Item) (n : ℕ) : Type 0 where
   ended_is : n ≡ ended_since (ended_in looks) scans
 
 -- a line of a run or a finish
-abbrev is_number_line : HistoryLine → Bool
+abbrev pub is_number_line : HistoryLine → Bool
 is_number_line (to.Run k n) = true
 is_number_line (to.Finish n k) = true
 is_number_line _ = false
@@ -203,12 +202,12 @@ IsNumberTold before (said (to.Run k n)) = RunTold before n
 IsNumberTold before (said (to.Finish n k)) = WereLookedAt before k
 IsNumberTold before _ = ⊤
 
-none_aside : (l : HistoryLine) → is_aside l ≡ false → is_number_line l ≡ false
+pub none_aside : (l : HistoryLine) → is_aside l ≡ false → is_number_line l ≡ false
 none_aside (to.Run k n) h = absurd (both_ways true h refl)
 none_aside (to.Finish n k) h = absurd (both_ways true h refl)
 none_aside _ h = refl
 
-abbrev line_test : Item → Bool
+abbrev pub line_test : Item → Bool
 line_test x = option_map_or is_number_line (line_in x) false
 
 none_here : (before : List Item) (x : Item) → line_test x ≡ false → IsNumberTold before x
@@ -216,7 +215,7 @@ none_here before (said (to.Run k n)) h = absurd (both_ways true h refl)
 none_here before (said (to.Finish n k)) h = absurd (both_ways true h refl)
 none_here before _ h = tt
 
-first_line : (x : Item) (u : List Item) → any_line is_number_line (x ∷ u) ≡ (line_test x || any_line is_number_line u)
+pub first_line : (x : Item) (u : List Item) → any_line is_number_line (x ∷ u) ≡ (line_test x || any_line is_number_line u)
 first_line (silent y) u = refl
 first_line (told y l) u = refl
 first_line (said l) u = refl
@@ -240,7 +239,7 @@ looked_since alone before scans are =
           omega (arith, few_rounds scans, often, ap (count_by (looks_at p)) (silent_entries es));
     }
 
-tried_none : (before : List Item) (name : List ℕ) (args : List ℤ) (new : Graph) (within : ℕ) (moves : List Move) (u : List Item) → AreChangeItems before name args new within moves u → any_line is_number_line u ≡ false
+pub tried_none : (before : List Item) (name : List ℕ) (args : List ℤ) (new : Graph) (within : ℕ) (moves : List Move) (u : List Item) → AreChangeItems before name args new within moves u → any_line is_number_line u ≡ false
 tried_none before name args new within moves u x =
     let opened = opening_items name args x.closed x.how in
     let left = left_after x.how.first x.how.rounds in
@@ -304,7 +303,7 @@ no_number_look : (p w : ℕ) (l : HistoryLine) (b : Bool) → cond b (Some (to.D
 no_number_look p w l true h = sym (ap is_number_line (same_Some (to.Drained p (serial_of w)) l h))
 no_number_look p w l false h = absurd (none-some l h)
 
-no_number_entry : (y : Entry) (l : HistoryLine) → tells y ≡ Some l → is_number_line l ≡ false
+pub no_number_entry : (y : Entry) (l : HistoryLine) → tells y ≡ Some l → is_number_line l ≡ false
 no_number_entry (Did e) l h = no_number_event e l h
 no_number_entry (Looked p w) l h = no_number_look p w l (is_drained_word w) h
 no_number_entry (Sighted n es) l h = absurd (none-some l h)

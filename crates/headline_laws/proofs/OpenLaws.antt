@@ -353,13 +353,12 @@ module _ (t : List Item) (m : List Moment) (ms : List Member) (fair : AreFair t)
 
     pub stood : StoodOpen ms told_lines p (serial_of w)
     stood = record {
-      front = front_members;
-      since = since;
+      front = front_members ++ of_history (to.Close p) ∷ since;
       rest = members_in second.after;
       later = without_roots (lines zs);
       parts = members_are;
       place = placed;
       behind_closes = none_kept is_close (lines zs) behind;
-      not_reopened = not_reopened;
-      stood = stood_since;
+      open_there = ap (λ es. has_root (state_after es) p (serial_of w)) events_there ∙ root_there;
+      closed_there = ap (λ es. (gate (state_after es).config p).closed) events_there ∙ shut;
     }

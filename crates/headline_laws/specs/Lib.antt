@@ -1,4 +1,4 @@
 pub mod Pieces
 pub mod Joining
 pub mod Reports
-pub mod Numbers
+pub mod Rests

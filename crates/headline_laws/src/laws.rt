@@ -1,21 +1,29 @@
 //! Laws of transcripts: what was done and told of each statement of a script makes a lawful report.
 
-ghost use Rattle.std.specs.Prelude.{◌≡◌, ℕ, Bool, List, All};
+ghost use Rattle.std.specs.Prelude.{◌≡◌, ℕ, Bool, false, List, ◌∷◌, ◌++◌, map, length, All, None};
+ghost use Rattle.std.specs.List.{range_with_len};
 ghost use Rattle.base.specs.Each.{Each};
-ghost use Rattle.gate_records.specs.Records.{IsRecordOf, Moment};
+ghost use Rattle.gate_records.specs.Records as records;
+ghost use Rattle.gate_records.specs.Records.{IsRecordOf, IsSo, Moment};
+ghost use Rattle.gate_records.specs.declared.entry.Entry.{Entry};
+ghost use Rattle.gate_records.specs.declared.entry.Entry.TheVariants.{Scanned};
 ghost use Rattle.change_board.specs.Bearing.{Bears};
+ghost use Rattle.change_board.specs.Sights.{Sight, sight_entry};
 ghost use Rattle.change_board.specs.Transcripts.{Item, entries, lines};
 ghost use Rattle.change_law.specs.Endings.{status_of};
 ghost use Rattle.change_law.specs.Follows.{Follows};
-ghost use Rattle.change_law.specs.Lawful.{IsDrainedAt, IsEndedOnce, IsFolded, IsGraphAt, IsLawfulBy, IsQuiescentAt, Merge, StoodOpenWhereSaid, unfinished_of};
+ghost use Rattle.change_law.specs.Lawful.{CameToRest, IsDrainedAt, IsEndedAt, IsEndedOnce, IsFolded, IsGraphAt, IsLawfulBy, IsQuiescentAt, LawfulOnThreads, Merge, NumbersOnThreads, StoodOpenWhereSaid, unfinished_of};
 ghost use Rattle.change_law.specs.Members.{Member, events};
 ghost use Rattle.change_law.specs.Statements.{Statement};
+ghost use Rattle.change_script.specs.declared.report.HistoryLine.{HistoryLine};
+ghost use Rattle.change_script.specs.declared.report.NodeLog.{NodeLog};
 ghost use Rattle.change_script.specs.declared.report.Report.{Report};
-ghost use Rattle.quiesce_core.specs.Runs.{IsRun};
+ghost use Rattle.quiesce_core.specs.declared.event.Event.{Event};
+ghost use Rattle.quiesce_core.specs.Runs.{IsRun, state_after};
 ghost use Rattle.headline_laws.specs.Joining.{AreJoined};
-ghost use Rattle.headline_laws.specs.Numbers.{IsEndedAt};
 ghost use Rattle.headline_laws.specs.Pieces.{IsTranscript};
 ghost use Rattle.headline_laws.specs.Reports.{IsReport};
+ghost use Rattle.headline_laws.specs.Rests.{AreAtRest, AreByNodes, AreCalm, AreQuiet, HaveFolds, IsSeenTwice, RestedAtOnce};
 
 use change_law::nothing_is_open_at_the_end;
 
@@ -129,4 +137,42 @@ pub fn records_bear_their_reports()
     ensures bears { (alone : Bool) (statements : List Statement) (t : List Item) (m : List Moment) (report : Report)
         → IsTranscript alone statements t → IsRecordOf (entries t) m → IsReport t m report
         → Bears (entries t) report.history }
+{}
+
+/// On a board that isn't alone: a run that ended with fewer transactions than it was asked for, and a finish that made
+/// fewer rounds than it was allowed, came to rest since the line before.
+pub fn runs_and_finishes_end_at_rest()
+    ensures numbers { (statements : List Statement) (t : List Item) (m : List Moment) (members : List Member)
+        → IsTranscript false statements t → AreJoined t m members → IsRecordOf (entries t) m
+        → NumbersOnThreads members }
+{}
+
+/// So the report of such a run is lawful on threads.
+pub fn reports_of_threads_are_lawful()
+    ensures lawful { (statements : List Statement) (t : List Item) (m : List Moment) (members : List Member)
+        (report : Report)
+        → IsTranscript false statements t → AreJoined t m members → IsRecordOf (entries t) m → IsReport t m report
+        → LawfulOnThreads statements report }
+{
+    joined_members_make_a_report_lawful();
+    runs_and_finishes_end_at_rest();
+}
+
+/// Where two scans, the one behind the other, saw each live node with the same log, the first each live port idle, and
+/// the second each live node done, all was at rest at one place: before the mark of the second. This is rest.
+pub fn what_is_seen_twice_rests_at_once()
+    ensures at_rest { (before after : List Moment) (begins moved : Bool) (now : List Sight) (later : List Entry)
+        → AreQuiet later → Each IsSo (before ++ after) → IsRun (records.events (before ++ after))
+        → records.entries after ≡ Scanned begins moved ∷ (map sight_entry now ++ later)
+        → IsSeenTwice (records.entries before) now → AreAtRest (records.events before) }
+    ensures came { (before : List Member) (x : RestedAtOnce before) → AreByNodes x.later → CameToRest before }
+{}
+
+/// Behind a place at which all was at rest, where nothing follows but closes and nodes' events, no node is left undone.
+pub fn nothing_is_undone_behind_rest()
+    ensures undone { (es later : List Event) → IsRun (es ++ later) → AreCalm later → AreAtRest es
+        → HaveFolds (es ++ later) → (statements : List Statement) → unfinished_of statements (es ++ later) ≡ None }
+    ensures folds { (m : List Member) (history : List HistoryLine) (logs : List NodeLog) → All (IsFolded m history) logs
+        → map (λ (l : NodeLog). l.slot) logs ≡ range_with_len 0 (length (state_after (events m)).config.slots)
+        → HaveFolds (events m) }
 {}

@@ -58,16 +58,3 @@ root_there s p shut undrained =
     let parts = or_parts (is_idle x.phase) (is_some x.within) open_one in
     and_from (not (is_idle x.phase) && not (is_some x.within)) (x.serial == x.serial)
     (and_from (not (is_idle x.phase)) (not (is_some x.within)) (not_from_false (is_idle x.phase) parts.0) (not_from_false (is_some x.within) parts.1)) (eq-eqb x.serial x.serial refl)
-
--- the parts of a list around a member
-pub record Around (xs : List ℕ) (p : ℕ) : Type 0 where
-  pub front : List ℕ
-  pub back : List ℕ
-  pub parts : xs ≡ front ++ p ∷ back
-
-pub around : (xs : List ℕ) (p : ℕ) → In xs p → Around xs p
-around [] p h = absurd h
-around (x ∷ xs) p h = ⊎_elim
-    (λ (here : x ≡ p). record { front = []; back = xs; parts = ap (λ y. y ∷ xs) here })
-    (λ (later : In xs p). let w = around xs p later in record { front = x ∷ w.front; back = w.back; parts = ap (λ ys. x ∷ ys) w.parts })
-    h

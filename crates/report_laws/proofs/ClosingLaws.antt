@@ -1,8 +1,7 @@
--- A course in which ports are closed: what was closed stays closed, what is left at a port has a root that stood since,
+-- A course in which ports are closed: what was closed stays closed, what is left at a port has a root,
 -- and the ports may be reopened.
 use Rattle.std.proofs.Common.{◌≡◌, ◌∙◌, ℕ, true, false, List, [], ◌∷◌, ◌++◌, append_assoc, map, refl, sym, ap, subst, inl, inr, arith}
 use Rattle.std.specs.Prelude.{filter}
-use Rattle.std.specs.List.{list_any}
 use Rattle.std.proofs.lemmas.List.{append-nil}
 use Rattle.commit_laws.specs.Lists.{In}
 use Rattle.commit_laws.proofs.GateLaws.{all_closed, closed_at, closes_are_of_change, closes_run, reopen_allowed}
@@ -14,9 +13,7 @@ use Rattle.quiesce_core.specs.Doers.{is_of_change}
 use Rattle.quiesce_core.specs.Runs.{IsRun, state_after}
 use Rattle.quiesce_core.specs.State.{Configuration, State, exchange, gate, is_live, owner}
 use Rattle.quiescence_laws.specs.Drained.{is_drained}
-use Rattle.quiescence_laws.specs.Events.{reopens}
 use Rattle.quiescence_laws.specs.Roots.{has_root}
-use Rattle.quiescence_laws.proofs.RootLaws.{root_since}
 use Rattle.turns.specs.World.{World}
 use Rattle.turn_laws.proofs.ReachedLaws.{holds_where_reached}
 use Rattle.change_script.specs.declared.report.HistoryLine.{HistoryLine}
@@ -27,9 +24,8 @@ use Rattle.change_law.specs.Scene.{root_line}
 use Rattle.change_law.specs.Serial.{after_changes, seen_at}
 use Rattle.change_law.proofs.MemberLaws.{events_parts}
 use Rattle.report_laws.specs.Courses.{Course}
-use Rattle.report_laws.proofs.ClosedPortLaws.{around, root_there}
+use Rattle.report_laws.proofs.ClosedPortLaws.{root_there}
 use Rattle.report_laws.proofs.CourseLaws.{course_machine, course_run, with_changes, with_root}
-use Rattle.change_law.proofs.TestLaws.{none_both}
 
 -- lines of closes and reopenings
 pub lines_of_closes : (ports : List ℕ) → lines_of_events (map event.Close ports) ≡ map to.Close ports
@@ -50,14 +46,6 @@ closings ports = map of_history (map to.Close ports)
 events_of_closings : (ports : List ℕ) → events (map of_history (map to.Close ports)) ≡ map event.Close ports
 events_of_closings [] = refl
 events_of_closings (p ∷ ports) = ap (λ es. event.Close p ∷ es) (events_of_closings ports)
-
-closes_reopen_none : (p : ℕ) (ports : List ℕ) → list_any (reopens p) (map event.Close ports) ≡ false
-closes_reopen_none p [] = refl
-closes_reopen_none p (q ∷ ports) = closes_reopen_none p ports
-
-closings_both : (xs ys : List ℕ) → closings (xs ++ ys) ≡ closings xs ++ closings ys
-closings_both [] ys = refl
-closings_both (x ∷ xs) ys = ap (λ m. of_history (to.Close x) ∷ m) (closings_both xs ys)
 
 -- ports of live nodes are closed
 module _ (history : List HistoryLine) (w : World) (m : List Member) (c : Course history w m) (ports : List ℕ) (live : (p : ℕ) → In ports p → IsLivePort w.machine.config p) where
@@ -87,9 +75,9 @@ module _ (history : List HistoryLine) (w : World) (m : List Member) (c : Course 
   pub shut_at : (p : ℕ) → In ports p → (gate (after_changes w (map event.Close ports)).machine.config p).closed ≡ true
   shut_at p i = ap (λ (s : State). (gate s.config p).closed) shut_machine ∙ closed_at w.events ports live_after (map event.Close ports) (closes_are_of_change ports) p i
 
-  -- further on, while nothing is reopened
+  -- further on, while the configuration stays
   module _ (later : List Member) (more_lines : List HistoryLine) (v : World) (now : Course ((history ++ map to.Close ports) ++ more_lines) v ((m ++ map of_history (map to.Close ports)) ++ later))
-      (config : v.machine.config ≡ (after_changes w (map event.Close ports)).machine.config) (unopened : (p : ℕ) → list_any (reopens p) (events later) ≡ false) where
+      (config : v.machine.config ≡ (after_changes w (map event.Close ports)).machine.config) where
     pub still_shut : (p : ℕ) → In ports p → (gate v.machine.config p).closed ≡ true
     still_shut p i = ap (λ (d : Configuration). (gate d p).closed) config ∙ shut_at p i
 
@@ -103,38 +91,21 @@ module _ (history : List HistoryLine) (w : World) (m : List Member) (c : Course 
           live = live_still w.machine.config (after_changes w (map event.Close ports)).machine.config same (owner (after_changes w (map event.Close ports)).machine.config p) ∙ ap (is_live w.machine.config) (same.owners p) ∙ was.live;
         })
 
-    -- what isn't drained now has a root that stood since the close
-    pub stood_since : (before : List HistoryLine) (u : World) → Course before u ((m ++ map of_history (map to.Close ports)) ++ later) → (p : ℕ) → In ports p → is_drained v.machine p ≡ false
+    -- what isn't drained now has a root, and its port is closed
+    pub stands_open : (before : List HistoryLine) (u : World) → Course before u ((m ++ map of_history (map to.Close ports)) ++ later) → (p : ℕ) → In ports p → is_drained v.machine p ≡ false
         → StoodOpen ((m ++ map of_history (map to.Close ports)) ++ later) before p (exchange v.machine p).serial
-    stood_since before u own p i undrained =
-        let a = around ports p i in
-        let k = (exchange v.machine p).serial in
-        let front = m ++ closings a.front in
-        let since = closings a.back ++ later in
-        let short : (m ++ closings ports) ++ later ≡ front ++ of_history (to.Close p) ∷ since =
-        ap (λ xs. (m ++ closings xs) ++ later) a.parts ∙ ap (λ xs. (m ++ xs) ++ later) (closings_both a.front (p ∷ a.back))
-        ∙ ap (λ xs. xs ++ later) (sym (append_assoc m (closings a.front) (closings (p ∷ a.back)))) ∙ append_assoc front (closings (p ∷ a.back)) later in
-        let none : list_any (reopens p) (events since) ≡ false =
-        ap (list_any (reopens p)) (events_parts (closings a.back) later) ∙ none_both (reopens p) (events (closings a.back)) (events later) (ap (list_any (reopens p)) (events_of_closings a.back) ∙ closes_reopen_none p a.back) (unopened p) in
-        let here : has_root (state_at ((m ++ closings ports) ++ later)) p k ≡ true =
-        ap (λ s. has_root s p k) (sym (course_machine ((history ++ map to.Close ports) ++ more_lines) v ((m ++ closings ports) ++ later) now)) ∙ root_there v.machine p (still_shut p i) undrained in
-        let run : IsRun (events ((m ++ closings ports) ++ later)) = subst IsRun (sym now.events_are) (course_run ((history ++ map to.Close ports) ++ more_lines) v ((m ++ closings ports) ++ later) now) in
+    stands_open before u own p i undrained =
+        let all = (m ++ closings ports) ++ later in
+        let here : v.machine ≡ state_at all = course_machine ((history ++ map to.Close ports) ++ more_lines) v all now in
         record {
-          front = front;
-          since = since;
+          front = all;
           rest = [];
           later = [];
-          parts = short ∙ sym (append-nil (front ++ of_history (to.Close p) ∷ since));
-          place = append-nil (lines (front ++ of_history (to.Close p) ∷ since)) ∙ ap lines (sym short) ∙ own.lines_are;
+          parts = sym (append-nil all);
+          place = append-nil (lines all) ∙ own.lines_are;
           behind_closes = refl;
-          not_reopened = none;
-          stood = λ x y parts.
-              let split : events ((m ++ closings ports) ++ later) ≡ (events front ++ event.Close p ∷ events x) ++ events y =
-              ap events (short ∙ ap (λ xs. front ++ of_history (to.Close p) ∷ xs) parts) ∙ events_parts front (of_history (to.Close p) ∷ (x ++ y))
-              ∙ ap (λ es. events front ++ event.Close p ∷ es) (events_parts x y) ∙ sym (append_assoc (events front) (event.Close p ∷ events x) (events y)) in
-              let free : list_any (reopens p) (events x ++ events y) ≡ false = ap (list_any (reopens p)) (sym (events_parts x y) ∙ ap events (sym parts)) ∙ none in
-              ap (λ es. has_root (state_after es) p k) (events_parts front (of_history (to.Close p) ∷ x))
-              ∙ root_since (events front) (events x) (events y) p k (subst IsRun split run) free (ap (λ es. has_root (state_after es) p k) (sym split) ∙ here);
+          open_there = subst (λ s. has_root s p (exchange v.machine p).serial ≡ true) here (root_there v.machine p (still_shut p i) undrained);
+          closed_there = subst (λ (s : State). (gate s.config p).closed ≡ true) here (still_shut p i);
         }
 
     -- the roots that are left, one line each
@@ -144,7 +115,7 @@ module _ (history : List HistoryLine) (w : World) (m : List Member) (c : Course 
     with_roots (p ∷ left) before each own =
         let l = root_line (seen_at v p) in
         let is = each p (inl refl) in
-        let next = with_root before v ((m ++ closings ports) ++ later) p (exchange v.machine p).serial own (stood_since before v own p is.0 is.1) in
+        let next = with_root before v ((m ++ closings ports) ++ later) p (exchange v.machine p).serial own (stands_open before v own p is.0 is.1) in
         subst (λ h. Course h v ((m ++ closings ports) ++ later)) (append_assoc before (l ∷ []) (map root_line (map (seen_at v) left))) (with_roots left (before ++ l ∷ []) (λ q i. each q (inr i)) next)
 
     -- the ports may be reopened

@@ -40,14 +40,13 @@ use Rattle.report_laws.specs.Courses.{Course, IsToldAt}
 stood_longer : (m y : List Member) (before : List HistoryLine) (l : HistoryLine) → StoodOpenWhereSaid m before l → StoodOpenWhereSaid (m ++ y) before l
 stood_longer m y before (to.Root p k) s = record {
   front = s.front;
-  since = s.since;
   rest = s.rest ++ y;
   later = s.later;
-  parts = ap (λ xs. xs ++ y) s.parts ∙ append_assoc (s.front ++ of_history (to.Close p) ∷ s.since) s.rest y;
+  parts = ap (λ xs. xs ++ y) s.parts ∙ append_assoc s.front s.rest y;
   place = s.place;
   behind_closes = s.behind_closes;
-  not_reopened = s.not_reopened;
-  stood = s.stood;
+  open_there = s.open_there;
+  closed_there = s.closed_there;
 }
 stood_longer m y before _ s = tt
 

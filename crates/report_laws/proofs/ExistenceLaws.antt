@@ -117,6 +117,10 @@ module _ (runs_end : RunsEnd) where
             waits = refl;
             rounds = first.0;
             number = first.1;
+            at_end = after_rounds false waiting first.0;
+            end_is = refl;
+            found = looks_after waiting closed first.0;
+            found_is = refl;
             are = refl;
             world = refl;
           },

@@ -4,6 +4,7 @@ pub mod ClosingLaws
 pub mod CommitGraphLaws
 pub mod CourseLaws
 pub mod EndingRoundLaws
+pub mod EngagedLaws
 pub mod ExistenceLaws
 pub mod FoldLaws
 mod GrowthLemmas

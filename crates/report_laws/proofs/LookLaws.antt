@@ -22,11 +22,10 @@ use Rattle.turn_laws.proofs.ReachedLaws.{holds_where_reached}
 use Rattle.change_script.specs.declared.report.HistoryLine.{HistoryLine}
 use Rattle.change_law.specs.Changes.{AreLooks, PortsRise, drained_lines, seen_in_all}
 use Rattle.change_law.specs.Lawful.{IsOfItsKind}
-use Rattle.change_law.specs.Members.{Member, by_node, of_history, events, lines}
+use Rattle.change_law.specs.Members.{Member, by_node, of_history, lines}
 use Rattle.change_law.specs.Scene.{AreSeen, Seen, drained_line}
 use Rattle.change_law.specs.Serial.{Looks, look_once, looks_after, seen_at}
 use Rattle.change_law.proofs.MemberLaws.{all_parts, events_of_nodes, events_parts, lines_of_nodes, lines_parts}
-use Rattle.change_law.proofs.TestLaws.{none_both}
 use Rattle.report_laws.specs.Courses.{Course}
 use Rattle.report_laws.proofs.CourseLaws.{WentOn, course_machine, course_run, with_rounds, with_said}
 
@@ -150,10 +149,6 @@ with_found history w m (p ∷ ds) found c =
     subst (λ h. Course h w (m ++ map of_history (map drained_line (map (seen_at w) (p ∷ ds))))) (append_assoc history (l ∷ []) (map drained_line (map (seen_at w) ds)))
     (subst (Course ((history ++ l ∷ []) ++ map drained_line (map (seen_at w) ds)) w) (append_assoc m (of_history l ∷ []) (map of_history (map drained_line (map (seen_at w) ds)))) rest)
 
-events_found : (w : World) (ds : List ℕ) → events (map of_history (map drained_line (map (seen_at w) ds))) ≡ []
-events_found w [] = refl
-events_found w (p ∷ ds) = events_found w ds
-
 lines_found : (ls : List HistoryLine) → lines (map of_history ls) ≡ ls
 lines_found [] = refl
 lines_found (l ∷ ls) = ap (λ xs. l ∷ xs) (lines_found ls)
@@ -163,7 +158,6 @@ pub record Looked (history : List HistoryLine) (w : World) (m : List Member) (po
   pub later : List Member
   pub course : Course (history ++ drained_lines l.seen) v (m ++ later)
   pub config : v.machine.config ≡ w.machine.config
-  pub not_reopened : (p : ℕ) → list_any (reopens p) (events later) ≡ false
   pub lines_later : lines later ≡ drained_lines l.seen
   pub listed : (p : ℕ) → In l.left p → In ports p
   pub undrained : (p : ℕ) → In l.left p → is_drained v.machine p ≡ false
@@ -174,13 +168,9 @@ record Waited (history : List HistoryLine) (w : World) (m : List Member) (ports 
   later : List Member
   course : Course (history ++ drained_lines l.seen) v (m ++ later)
   config : v.machine.config ≡ w.machine.config
-  not_reopened : (p : ℕ) → list_any (reopens p) (events later) ≡ false
   lines_later : lines later ≡ drained_lines l.seen
   listed : (p : ℕ) → In l.left p → In ports p
   drained : (p : ℕ) → In ports p → In l.left p ⊎ (is_drained v.machine p ≡ true)
-
-none_more : (p : ℕ) (m k : List Member) → list_any (reopens p) (events m) ≡ false → list_any (reopens p) (events k) ≡ false → list_any (reopens p) (events (m ++ k)) ≡ false
-none_more p m k h g = ap (list_any (reopens p)) (events_parts m k) ∙ none_both (reopens p) (events m) (events k) h g
 
 look : (history : List HistoryLine) (w : World) (m : List Member) (ports : List ℕ) (v : World) (l : Looks) → Waited history w m ports v l → Looked history w m ports v (look_once v l)
 look history w m ports v l h =
@@ -193,7 +183,6 @@ look history w m ports v l h =
       course = subst (Course (history ++ drained_lines (look_once v l).seen) v) (append_assoc m h.later (map of_history ls))
           (subst (λ x. Course x v ((m ++ h.later) ++ map of_history ls)) (append_assoc history (drained_lines l.seen) ls ∙ ap (λ xs. history ++ xs) (sym more)) next);
       config = h.config;
-      not_reopened = λ p. none_more p h.later (map of_history ls) (h.not_reopened p) (ap (list_any (reopens p)) (events_found v found));
       lines_later = lines_parts h.later (map of_history ls) ∙ (λ i. h.lines_later i ++ lines_found ls i) ∙ sym more;
       listed = λ p i. h.listed p (in_passing (λ q. not (is_drained v.machine q)) l.left p i).0;
       undrained = λ p i. not-true (is_drained v.machine p) (in_passing (λ q. not (is_drained v.machine q)) l.left p i).1;
@@ -213,7 +202,6 @@ wait history w m ports v u l h g =
       later = h.later ++ map by_node g.later;
       course = subst (Course (history ++ drained_lines l.seen) u) (append_assoc m h.later (map by_node g.later)) g.course;
       config = g.config ∙ h.config;
-      not_reopened = λ p. none_more p h.later (map by_node g.later) (h.not_reopened p) (ap (list_any (reopens p)) (events_of_nodes g.later) ∙ nodes_reopen_none p g.later kinds);
       lines_later = lines_parts h.later (map by_node g.later) ∙ (λ i. h.lines_later i ++ lines_of_nodes g.later i) ∙ append-nil (drained_lines l.seen);
       listed = h.listed;
       drained = λ p i. ⊎_elim
@@ -230,7 +218,6 @@ looked history w m ports zero c =
       later = [];
       course = subst (λ h. Course h w (m ++ [])) (sym (append-nil history)) (subst (Course history w) (sym (append-nil m)) c);
       config = refl;
-      not_reopened = λ p. refl;
       lines_later = refl;
       listed = λ p i. i;
       drained = λ p i. inl i;

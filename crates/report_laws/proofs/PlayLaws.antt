@@ -40,6 +40,7 @@ use Rattle.change_law.specs.Scene.{AreSeen, config_after, root_line}
 use Rattle.change_law.specs.Serial.{ChangesTo, FinishesAt, Looks, Plays, RunsTo, ShowsGraph, StopsAt, after_changes, finish_ends, is_none_left, looks_after, seen_at, wait_ends}
 use Rattle.change_law.specs.Statements.{Statement, start, change, run, finish, show}
 use Rattle.change_law.proofs.MemberLaws.{events_of_nodes, events_parts}
+use Rattle.change_law.proofs.SerialLaws.{changed_lines, changed_world}
 use Rattle.report_laws.specs.Courses.{Course}
 use Rattle.report_laws.specs.SoundStatements.{GoOnSoundly, IsSoundGraph}
 use Rattle.report_laws.proofs.ClosedPortLaws.{frozen_listed, frozen_live, frozen_same, same_to_close, where_rise}
@@ -244,12 +245,12 @@ module _ (commits_run : CommitsRun) (by_config : CommitsByConfiguration) (done :
 
     lines_are : ls ≡ opening_lines name args p.old p.plan w.machine.config ++ (drained_lines (looks_after p.waiting p.closed p.rounds).seen ++ commit_lines p.old new p.plan (after_rounds false p.waiting p.rounds).machine.config)
     lines_are =
-        p.are ∙ ap (λ (xs : List ℕ). opening_lines name args p.old p.plan w.machine.config
+        changed_lines w name args new within moves ls v p ∙ ap (λ (xs : List ℕ). opening_lines name args p.old p.plan w.machine.config
         ++ cond (length xs == 0) (drained_lines (looks_after p.waiting p.closed p.rounds).seen ++ commit_lines p.old new p.plan (after_rounds false p.waiting p.rounds).machine.config)
         (drained_lines (looks_after p.waiting p.closed p.rounds).seen ++ pending_lines within (map (seen_at (after_rounds false p.waiting p.rounds)) xs) p.closed)) none
 
     world_is : v ≡ after_changes (after_rounds false p.waiting p.rounds) (commit_events p.old new p.plan (after_rounds false p.waiting p.rounds).machine.config)
-    world_is = p.world ∙ ap (λ (xs : List ℕ). after_changes (after_rounds false p.waiting p.rounds) (cond (length xs == 0) (commit_events p.old new p.plan (after_rounds false p.waiting p.rounds).machine.config) (map event.Reopen p.closed))) none
+    world_is = changed_world w name args new within moves ls v p ∙ ap (λ (xs : List ℕ). after_changes (after_rounds false p.waiting p.rounds) (cond (length xs == 0) (commit_events p.old new p.plan (after_rounds false p.waiting p.rounds).machine.config) (map event.Reopen p.closed))) none
 
     committed : GoesBy h (change name args new within moves) ls v
     committed =
@@ -289,12 +290,12 @@ module _ (commits_run : CommitsRun) (by_config : CommitsByConfiguration) (done :
     given_lines : ls ≡ opening_lines name args p.old p.plan w.machine.config
         ++ (drained_lines (looks_after p.waiting p.closed p.rounds).seen ++ pending_lines within (map (seen_at (after_rounds false p.waiting p.rounds)) (looks_after p.waiting p.closed p.rounds).left) p.closed)
     given_lines =
-        p.are ∙ ap (λ (b : Bool). opening_lines name args p.old p.plan w.machine.config
+        changed_lines w name args new within moves ls v p ∙ ap (λ (b : Bool). opening_lines name args p.old p.plan w.machine.config
         ++ cond b (drained_lines (looks_after p.waiting p.closed p.rounds).seen ++ commit_lines p.old new p.plan (after_rounds false p.waiting p.rounds).machine.config)
         (drained_lines (looks_after p.waiting p.closed p.rounds).seen ++ pending_lines within (map (seen_at (after_rounds false p.waiting p.rounds)) (looks_after p.waiting p.closed p.rounds).left) p.closed)) some
 
     given_world : v ≡ after_changes (after_rounds false p.waiting p.rounds) (map event.Reopen p.closed)
-    given_world = p.world ∙ ap (λ (b : Bool). after_changes (after_rounds false p.waiting p.rounds) (cond b (commit_events p.old new p.plan (after_rounds false p.waiting p.rounds).machine.config) (map event.Reopen p.closed))) some
+    given_world = changed_world w name args new within moves ls v p ∙ ap (λ (b : Bool). after_changes (after_rounds false p.waiting p.rounds) (cond b (commit_events p.old new p.plan (after_rounds false p.waiting p.rounds).machine.config) (map event.Reopen p.closed))) some
 
     some_left : 0 < length (map (seen_at (after_rounds false p.waiting p.rounds)) (looks_after p.waiting p.closed p.rounds).left)
     some_left = by (looks_after p.waiting p.closed p.rounds).left some
@@ -318,10 +319,8 @@ module _ (commits_run : CommitsRun) (by_config : CommitsByConfiguration) (done :
         let now_so : Course (opened ++ more) v0 (base ++ later) =
         subst (λ x. Course x v0 (base ++ later)) (append_assoc opened drained (to.Pending within ∷ [])) now in
         let config_so : v0.machine.config ≡ (after_changes w (map event.Close p.closed)).machine.config = waited.config ∙ ap (λ (u : World). u.machine.config) p.waits in
-        let unopened : (q : ℕ) → list_any (Rattle.quiescence_laws.specs.Events.reopens q) (events later) ≡ false =
-        λ q. ap (list_any (Rattle.quiescence_laws.specs.Events.reopens q)) (events_parts waited.later (of_history (to.Pending within) ∷ []) ∙ append-nil (events waited.later)) ∙ waited.not_reopened q in
-        let rooted = with_roots first w first_members head p.closed live later more v0 now_so config_so unopened l.left ((opened ++ drained) ++ to.Pending within ∷ []) (λ q i. (waited.listed q i, waited.undrained q i)) now in
-        let run = reopens_run first w first_members head p.closed live later more v0 now_so config_so unopened in
+        let rooted = with_roots first w first_members head p.closed live later more v0 now_so config_so l.left ((opened ++ drained) ++ to.Pending within ∷ []) (λ q i. (waited.listed q i, waited.undrained q i)) now in
+        let run = reopens_run first w first_members head p.closed live later more v0 now_so config_so in
         let ev = map event.Reopen p.closed in
         let next = with_changes ev (((opened ++ drained) ++ to.Pending within ∷ []) ++ roots) v0 (base ++ later) (reopens_are_of_change p.closed) run rooted in
         let next_so : Course ((((opened ++ drained) ++ to.Pending within ∷ []) ++ roots) ++ map to.Reopen p.closed) (after_changes v0 ev) ((base ++ later) ++ map of_history (map to.Reopen p.closed)) =

@@ -1,18 +1,18 @@
 -- The report of rounds: its history follows the script, the order in which the rounds make events and lines is the one
 -- list that is said to be there, and so it is lawful.
-use Rattle.std.proofs.Common.{◌≡◌, ◌∙◌, ℕ, zero, suc, ◌+◌, ◌<◌, ◌≤◌, Bool, true, false, cond, not, ◌&&◌, List, [], ◌∷◌, ◌++◌, append_assoc, map, length, Option, Some, None, refl, sym, ap, subst, ⊎_elim, inl, inr, arith}
-use Rattle.std.specs.Prelude.{◌==◌, ⊤, All, filter, filter_map, find, fold, nat_le, nat_lt, option_map, slice_get, if◌then◌else◌}
+use Rattle.std.proofs.Common.{◌≡◌, ◌∙◌, ℕ, zero, suc, ◌+◌, ◌<◌, ◌≤◌, Bool, true, false, cond, not, ◌&&◌, List, [], ◌∷◌, ◌++◌, append_assoc, map, length, Option, Some, None, refl, sym, ap, subst, arith}
+use Rattle.std.specs.Prelude.{◌==◌, ⊤, All, filter, filter_map, find, fold, nat_le, nat_lt, option_map, if◌then◌else◌}
 use Rattle.std.specs.List.{cons_option, enumerate_from, list_any, range_with_len}
 use Rattle.std.specs.Option.{option_map_or}
-use Rattle.std.proofs.lemmas.Bool.{and_parts, cases_eq, eqb-true}
+use Rattle.std.proofs.lemmas.Bool.{and_parts, eqb-true}
 use Rattle.std.proofs.lemmas.Grind.{flat_map-append}
 use Rattle.std.proofs.lemmas.List.{append-nil}
 use Rattle.std.proofs.lemmas.List.Elements.{All-cons, All-nil, filter-append}
 use Rattle.std.proofs.lemmas.List.Sums.{fold_push}
 use Rattle.base.specs.Each.{Each, EachAfter}
-use Rattle.base.proofs.EachLaws.{each_at}
+use Rattle.base.proofs.EachLaws.{each_at, each_weaker}
 use Rattle.base.proofs.MapLaws.{map-map}
-use Rattle.base.proofs.PlaceLaws.{slice_get-behind, slice_get-there}
+use Rattle.base.proofs.PlaceLaws.{slice_get-there}
 use Rattle.base.proofs.RisingLaws.{places_more}
 use Rattle.component_trait.specs.States.{NodeState}
 use Rattle.component_trait.specs.Moves as moves
@@ -43,13 +43,13 @@ use Rattle.change_script.specs.declared.report.NodeLog.{NodeLog}
 use Rattle.change_script.specs.declared.report.Report.{Report}
 use Rattle.change_law.specs.Endings.{moved_to}
 use Rattle.change_law.specs.Follows.{Follows, IsRight, IsStop, Part, lines_of}
-use Rattle.change_law.specs.Lawful.{EndsAs, IsDrainedAt, IsEndedOnce, IsFinishAt, IsFolded, IsGraphAt, IsGraphDescribed, IsLawfulBy, IsLogIn, IsOfRounds, IsOfItsKind, IsQuiescentAt, IsRunAt, Lawful, Merge, in_rounds, is_unfinished, unfinished_of}
+use Rattle.change_law.specs.Lawful.{EndsAs, IsDrainedAt, IsEndedAt, IsEndedOnce, IsFewAt, IsFolded, IsGraphAt, IsGraphDescribed, IsLawfulBy, IsLogIn, IsOfItsKind, IsQuiescentAt, Merge, NumbersInRounds, is_unfinished, unfinished_of}
 use Rattle.change_law.specs.Lawful as lawful
-use Rattle.change_law.specs.Members.{Member, of_history, event_of, events, lines, made_slot, without_roots}
+use Rattle.change_law.specs.Members.{Member, of_history, event_of, events, lines, made_slot}
 use Rattle.change_law.specs.Opening.{fold_of_node}
 use Rattle.change_law.specs.Serial.{IsPlayed, Played, Plays, Serial, is_left_undone, last_of, lines_played, log_of, report_of, unfinished_in, world_after}
 use Rattle.change_law.specs.Statements.{Statement, start, change, run, finish, show, is_finish}
-use Rattle.change_law.proofs.MemberLaws.{changes_are_lines, each_if, events_without_roots, lines_parts}
+use Rattle.change_law.proofs.MemberLaws.{changes_are_lines, each_if, events_without_roots}
 use Rattle.report_laws.specs.Courses.{Course, IsToldAt}
 use Rattle.report_laws.specs.SoundStatements.{AreSound, GoOnSoundly}
 use Rattle.report_laws.proofs.AloneLaws.{changes_run}
@@ -202,7 +202,7 @@ made_line : (l : HistoryLine) (es : List Event) → filter_map made_by (cons_opt
 made_line (to.Make n node from) es = refl
 made_line _ es = refl
 
-made_lines : (h : List HistoryLine) → filter_map made_by (changes h) ≡ filter_map made_slot h
+pub made_lines : (h : List HistoryLine) → filter_map made_by (changes h) ≡ filter_map made_slot h
 made_lines [] = refl
 made_lines (l ∷ h) = made_line l (changes h) ∙ ap (cons_option (made_slot l)) (made_lines h)
 
@@ -222,7 +222,7 @@ slots_next before e here so_far =
         let same : length (state_after before).config.slots ≡ length (state_after before).config.slots + 0 = omega arith in
         append-nil (filter_map made_by before) ∙ so_far ∙ ap (range_with_len 0) same
 
-slots_made : (es : List Event) → IsRun es → filter_map made_by es ≡ range_with_len 0 (length (state_after es).config.slots)
+pub slots_made : (es : List Event) → IsRun es → filter_map made_by es ≡ range_with_len 0 (length (state_after es).config.slots)
 slots_made es run_so = always (λ xs. filter_map made_by xs ≡ range_with_len 0 (length (state_after xs).config.slots)) slots_next refl es run_so
 
 all_in_range : {A : Type 0} (P : A → Type 0) (f : ℕ → A) (a n : ℕ) → ((i : ℕ) → a ≤ i → i < a + n → P (f i)) → All P (map f (range_with_len a n))
@@ -312,33 +312,13 @@ module _ (quiet : QuietInRuns) (once : EndsOnceInReports) (handed : StatesAreHan
     status = refl;
   }
 
-  -- a line of the history stands at its place among the lines
-  placed : (before after : List Member) (l : HistoryLine) → m ≡ before ++ of_history l ∷ after → slice_get (without_roots h) (length (lines before)) ≡ Some l
-  placed before after l parts =
-      let all : without_roots h ≡ lines before ++ l ∷ lines after = sym c.lines_are ∙ ap lines parts ∙ lines_parts before (of_history l ∷ after) in
-      let at : length (lines before) ≡ length (lines before) + 0 = omega arith in
-      ap (λ xs. slice_get xs (length (lines before))) all ∙ ap (slice_get (lines before ++ l ∷ lines after)) at ∙ slice_get-behind (lines before) (l ∷ lines after) 0 l refl
+  pub numbers : NumbersInRounds m
+  numbers = record { ended = each_weaker IsToldAt IsEndedAt [] m ended_if_told c.told; few = each_weaker IsToldAt IsFewAt [] m few_if_told c.told }
+    where
+      ended_if_told : (before : List Member) (x : Member) → IsToldAt before x → IsEndedAt before x
+      ended_if_told before (of_history (to.Run k n)) h = h
+      ended_if_told before _ h = tt
 
-  module _ (report : Report) (serial : Serial statements report) (history : report.history ≡ h) where
-    of_rounds : (before after : List Member) (l : HistoryLine) → m ≡ before ++ of_history l ∷ after → IsOfRounds (in_rounds report serial) before l
-    of_rounds before after l parts = subst (λ x. slice_get (without_roots x) (length (lines before)) ≡ Some l) (sym history) (placed before after l parts)
-
-    run_at : (before after : List Member) (x : Member) → m ≡ before ++ x ∷ after → IsRunAt (in_rounds report serial) before x
-    run_at before after (of_history (to.Run k n)) parts =
-        (each_at IsToldAt before after (of_history (to.Run k n)) (subst (Each IsToldAt) parts c.told), inr (inr (of_rounds before after (to.Run k n) parts)))
-    run_at before after _ parts = tt
-
-    finish_at : (before after : List Member) (x : Member) → m ≡ before ++ x ∷ after → IsFinishAt (in_rounds report serial) before x
-    finish_at before after (of_history (to.Finish n r)) parts =
-        let few = each_at IsToldAt before after (of_history (to.Finish n r)) (subst (Each IsToldAt) parts c.told) in
-        ⊎_elim
-        (λ (same : r ≡ n). inl same)
-        (λ (other : r ≡ n → ⊥). inr (omega (arith, few, other), inr (of_rounds before after (to.Finish n r) parts)))
-        (cases_eq r n)
-    finish_at before after _ parts = tt
-
-    pub runs_end : Each (IsRunAt (in_rounds report serial)) m
-    runs_end = each_if (IsRunAt (in_rounds report serial)) [] m (λ ys zs x parts. run_at ys zs x parts)
-
-    pub finishes_end : Each (IsFinishAt (in_rounds report serial)) m
-    finishes_end = each_if (IsFinishAt (in_rounds report serial)) [] m (λ ys zs x parts. finish_at ys zs x parts)
+      few_if_told : (before : List Member) (x : Member) → IsToldAt before x → IsFewAt before x
+      few_if_told before (of_history (to.Finish n r)) h = h
+      few_if_told before _ h = tt

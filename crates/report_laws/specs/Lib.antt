@@ -1,5 +1,5 @@
 pub mod SoundStatements
 pub mod Described
 pub mod Courses
-pub mod Rounds
+pub mod Engaged
 pub mod Existing

@@ -2,11 +2,10 @@
 
 ghost use Rattle.std.specs.Prelude.{ℕ, List, IsTrue};
 ghost use Rattle.change_law.specs.Follows.{Follows};
-ghost use Rattle.change_law.specs.Lawful.{Lawful, in_rounds};
+ghost use Rattle.change_law.specs.Lawful.{LawfulInRounds};
 ghost use Rattle.change_law.specs.Serial.{Serial, run_ends};
 ghost use Rattle.change_law.specs.Statements.{Statement};
 ghost use Rattle.change_script.specs.declared.report.Report.{Report};
-ghost use Rattle.report_laws.specs.Rounds.{IsInOrderOfRounds};
 ghost use Rattle.report_laws.specs.SoundStatements.{AreSound};
 ghost use Rattle.turn_laws.specs.Reached.{IsReached};
 ghost use Rattle.turns.specs.World.{World};
@@ -22,10 +21,8 @@ use plan_laws::{commits_can_not_fail, commits_leave_the_new_graph, each_plan_may
 pub fn reports_of_rounds_are_lawful()
     ensures follows { (statements : List Statement) (report : Report) → AreSound statements
         → Serial statements report → Follows statements report.history }
-    ensures in_order { (statements : List Statement) (report : Report) → AreSound statements
-        → (serial : Serial statements report) → IsInOrderOfRounds statements report serial }
     ensures lawful { (statements : List Statement) (report : Report) → AreSound statements
-        → (serial : Serial statements report) → Lawful statements (in_rounds report serial) report }
+        → (serial : Serial statements report) → LawfulInRounds statements report serial }
 {
     each_plan_may_commit();
     commits_can_not_fail();

@@ -2,7 +2,7 @@
 use Rattle.std.proofs.Common.{◌≡◌, ◌⊎◌, inl, inr, ℕ, ℤ, List, subst}
 use Rattle.config_graph.specs.Graph.{Graph}
 use Rattle.config_graph.specs.Sound.{Sound}
-use Rattle.change_law.specs.Lawful.{Lawful, in_rounds}
+use Rattle.change_law.specs.Lawful.{LawfulInRounds}
 use Rattle.change_law.specs.Scripts.{StatementsOf}
 use Rattle.change_law.specs.Serial.{Serial}
 use Rattle.change_law.specs.Statements.{Statement}
@@ -39,7 +39,7 @@ module _ (graphs : (tree : Tree) (name : Name) (args : List ℤ) → NoFault tre
 
   pub report_there :
       ((statements : List Statement) → AreSound statements → (report : Report) × Serial statements report)
-      → ((statements : List Statement) (report : Report) → AreSound statements → (serial : Serial statements report) → Lawful statements (in_rounds report serial) report)
+      → ((statements : List Statement) (report : Report) → AreSound statements → (serial : Serial statements report) → LawfulInRounds statements report serial)
       → (bytes : List ℕ) (script : Script) (statements : List Statement) → IsScript bytes script → StatementsOf (Elaborates Holds) script statements
       → (report : Report) × IsReportOf statements report
   report_there exists lawful bytes script statements is says =

@@ -163,6 +163,10 @@ module _ (before t : List Item) (rounds : AreByRounds (before ++ t)) (name : Lis
     waits = refl;
     rounds = n;
     number = record { holds = ends; before = waits_before };
+    at_end = v;
+    end_is = refl;
+    found = l;
+    found_is = refl;
     are = are ∙ sym (ap (λ c. opening ++ cond c committed_lines given_up_lines) is);
     world = world ∙ sym (ap (λ c. after_changes v (cond c committed_events (map event.Reopen closed))) is);
   }

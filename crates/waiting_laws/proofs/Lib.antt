@@ -2,3 +2,4 @@ mod MoveLemmas
 mod RoundLemmas
 mod WaitLemmas
 mod PartLemmas
+mod RootLemmas

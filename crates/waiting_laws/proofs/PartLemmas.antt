@@ -22,6 +22,7 @@ use Rattle.quiescence_laws.specs.Starts.{start_of}
 use Rattle.report_laws.proofs.ClosedPortLaws.{frozen_live}
 use Rattle.report_laws.proofs.CommitGraphLaws.{CommitsByConfiguration, CommitsLeaveGraphs, EachMayCommit}
 use Rattle.report_laws.proofs.PlayLaws.{CommitsRun}
+use Rattle.change_law.proofs.SerialLaws.{changed_world}
 use Rattle.report_laws.proofs.RoundLaws.{from_start, played_after}
 use Rattle.report_laws.specs.SoundStatements.{AreSound, GoOnSoundly}
 use Rattle.turn_laws.specs.Reached.{IsReached}
@@ -44,12 +45,12 @@ module _ (w : World) (reached : IsReached w) (name : List ℕ) (args : List Ratt
   pub waiting_reached : IsReached c.waiting
   waiting_reached = subst IsReached (sym c.waits) closing.reached
 
-  shut : (p : ℕ) → In c.closed p → (gate c.waiting.machine.config p).closed ≡ true
+  pub shut : (p : ℕ) → In c.closed p → (gate c.waiting.machine.config p).closed ≡ true
   shut p i = subst (λ (u : World). (gate u.machine.config p).closed ≡ true) (sym c.waits) (closing.shut p i)
 
   pub change_posts : ArePosted w → ArePosted v
   change_posts h =
-      subst ArePosted (sym c.world)
+      subst ArePosted (sym (changed_world w name args g within moves lines v c))
       (changes_post (after_rounds false c.waiting c.rounds)
       (end_events c.old g c.plan c.closed (after_rounds false c.waiting c.rounds) (looks_after c.waiting c.closed c.rounds))
       (rounds_post false c.waiting c.rounds waiting_reached (subst ArePosted (sym c.waits) (changes_post w (map Close c.closed) h))))
@@ -107,22 +108,23 @@ sound_front (run k) xs ys h = absurd h
 sound_front (finish n) xs ys h = absurd h
 sound_front show xs ys h = absurd h
 
-abbrev said : List Played → List Statement
+abbrev pub said : List Played → List Statement
 said ps = map (λ (p : Played). p.statement) ps
 
-module _ (law : RoundsDrain) (each_may : EachMayCommit) (by_config : CommitsByConfiguration) (leaves : CommitsLeaveGraphs) (commits_run : CommitsRun) where
-  reached_before : (before after : List Played) → AreSound (said (before ++ after)) → Each IsPlayed before → IsReached (world_after before)
+module _ (each_may : EachMayCommit) (by_config : CommitsByConfiguration) (leaves : CommitsLeaveGraphs) (commits_run : CommitsRun) where
+  pub reached_before : (before after : List Played) → AreSound (said (before ++ after)) → Each IsPlayed before → IsReached (world_after before)
   reached_before [] after sound each = IsReached.at_start
   reached_before (p ∷ ps) after sound each =
       let fronts : AreSound (said (p ∷ ps)) =
       sound_front p.statement (said ps) (said after) (subst (λ ss. AreSound (p.statement ∷ ss)) (map-append (λ (q : Played). q.statement) ps after) sound) in
       (from_start each_may by_config leaves commits_run (said (p ∷ ps)) (p ∷ ps) refl (played_after [] (p ∷ ps) each) fronts).course.reached
 
+module _ (law : RoundsDrain) (each_may : EachMayCommit) (by_config : CommitsByConfiguration) (leaves : CommitsLeaveGraphs) (commits_run : CommitsRun) where
   all_drain : (before ps : List Played) → AreSound (said (before ++ ps)) → Each IsPlayed before → EachAfter IsPlayed before ps → ArePosted (world_after before) → EachAfter DrainsInTime before ps
   all_drain before [] sound done each posted = tt
   all_drain before (p ∷ ps) sound done each posted =
       let w = world_after before in
-      let r = reached_before before (p ∷ ps) sound done in
+      let r = reached_before each_may by_config leaves commits_run before (p ∷ ps) sound done in
       let there : world_after (before ++ p ∷ []) ≡ p.world = fold_push (λ (u : World) (q : Played). q.world) nowhere before p in (
         part_drains law w p.statement p.lines p.world r posted,
         all_drain (before ++ p ∷ []) ps (subst (λ xs. AreSound (said xs)) (sym (append_assoc before (p ∷ []) ps)) sound) ((each_pushed IsPlayed before p).1 (done, each.0)) each.1

@@ -36,7 +36,7 @@ none_passes : (f : ℕ → Bool) (xs : List ℕ) → ((x : ℕ) → In xs x → 
 none_passes f [] h = refl
 none_passes f (x ∷ xs) h = ap (λ b. cond b (x ∷ filter f xs) (filter f xs)) (h x (inl refl)) ∙ none_passes f xs (λ y i. h y (inr i))
 
-left_in : (w : World) (ports : List ℕ) (j p : ℕ) → In (looks_after w ports j).left p → In ports p
+pub left_in : (w : World) (ports : List ℕ) (j p : ℕ) → In (looks_after w ports j).left p → In ports p
 left_in w ports zero p h = filter_in (λ q. not (is_drained w.machine q)) ports p h
 left_in w ports (suc j) p h = left_in w ports j p (filter_in (λ q. not (is_drained (after_rounds false w (suc j)).machine q)) (looks_after w ports j).left p h)
 

@@ -3,4 +3,7 @@
 
 mod waiting;
 
-pub use waiting::{changes_drain_within_what_is_left, rounds_drain_what_is_left};
+pub use waiting::{
+    changes_drain_within_what_is_left, open_lines_name_what_the_last_look_saw,
+    rounds_drain_what_is_left,
+};

@@ -1,6 +1,6 @@
 //! Waits end.
 
-ghost use Rattle.std.specs.Prelude.{ℕ, ◌≤◌, false, List};
+ghost use Rattle.std.specs.Prelude.{◌≡◌, ℕ, ◌≤◌, false, List, []};
 ghost use Rattle.base.specs.Each.{Each};
 ghost use Rattle.change_law.specs.Serial.{Serial};
 ghost use Rattle.change_law.specs.Statements.{Statement};
@@ -11,6 +11,7 @@ ghost use Rattle.report_laws.specs.SoundStatements.{AreSound};
 ghost use Rattle.turn_laws.specs.Reached.{IsReached};
 ghost use Rattle.turns.specs.Round.{after_rounds};
 ghost use Rattle.turns.specs.World.{World};
+ghost use Rattle.waiting_laws.specs.Roots.{NamesRoots, roots_in};
 ghost use Rattle.waiting_laws.specs.Waits.{DrainsInTime, IsAllIdle};
 
 use drain_laws::{nothing_is_left_where_none_is_open, rest_falls_by_steps};
@@ -38,6 +39,19 @@ pub fn changes_drain_within_what_is_left()
 {
     rounds_drain_what_is_left();
     hints_are_posted_in_rounds();
+    each_plan_may_commit();
+    commits_can_not_fail();
+    commits_leave_the_new_graph();
+}
+
+/// In the report of the rounds of a sound script the `open` lines are those of changes that are given up, and each such
+/// change names the ports that its last look left, with the roots that stand there.
+pub fn open_lines_name_what_the_last_look_saw()
+    ensures each { (statements : List Statement) (report : Report) → AreSound statements
+        → (serial : Serial statements report) → Each NamesRoots serial.parts }
+    ensures stop { (statements : List Statement) (report : Report) (serial : Serial statements report)
+        → roots_in serial.stop ≡ [] }
+{
     each_plan_may_commit();
     commits_can_not_fail();
     commits_leave_the_new_graph();

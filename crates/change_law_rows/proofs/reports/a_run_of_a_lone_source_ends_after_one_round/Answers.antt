@@ -1,9 +1,5 @@
-use Rattle.change_law_rows.proofs.LaterSerialLemmas.{stuck_is_serial}
 use Rattle.change_law_rows.proofs.StuckLemmas.{lawful}
 use Rattle.change_law_rows.proofs.reports.a_run_of_a_lone_source_ends_after_one_round.Goals as goal
 
 pub returns : goal.returns
-returns c = record {
-  lawful = lawful;
-  serial = stuck_is_serial;
-}
+returns c = record { lawful = lawful }

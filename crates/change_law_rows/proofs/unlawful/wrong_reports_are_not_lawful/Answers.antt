@@ -8,15 +8,15 @@ use Rattle.change_law_rows.proofs.unlawful.wrong_reports_are_not_lawful.Goals as
 
 pub returns : goal.returns
 returns c = record {
-  lines = λ pace l. not_unseen l.follows;
-  logs = λ pace l. not_swapped l.members l.by_them.merge;
-  run = λ pace l. not_altered l.members l.by_them.merge l.by_them.runs;
-  states = λ pace l. not_forgotten l.members l.by_them.merge l.by_them.folds;
-  drained = λ pace l. not_early l.members l.by_them.merge l.by_them.runs l.by_them.drained;
-  stood = λ pace l. not_outdated l.members l.by_them.merge l.by_them.runs l.by_them.drained l.by_them.stood_open;
-  shown = λ pace l. not_shown_wrongly l.members l.by_them.merge l.by_them.graphs;
-  unfinished = λ pace l. not_called_finished l.members l.by_them.merge l.by_them.unfinished;
-  status = λ pace l. let same : 0 ≡ 8 = l.by_them.status in omega (arith, same);
-  ended = λ pace l. not_ended_idly pace l.members l.by_them.merge l.runs_end;
-  rounds = λ pace l. not_given_up_early pace l.members l.by_them.merge l.finishes_end;
+  lines = λ l. not_unseen l.follows;
+  logs = λ l. not_swapped l.members l.by_them.merge;
+  run = λ l. not_altered l.members l.by_them.merge l.by_them.runs;
+  states = λ l. not_forgotten l.members l.by_them.merge l.by_them.folds;
+  drained = λ l. not_early l.members l.by_them.merge l.by_them.runs l.by_them.drained;
+  stood = λ l. not_outdated l.members l.by_them.merge l.by_them.runs l.by_them.drained l.by_them.stood_open;
+  shown = λ l. not_shown_wrongly l.members l.by_them.merge l.by_them.graphs;
+  unfinished = λ l. not_called_finished l.members l.by_them.merge l.by_them.unfinished;
+  status = λ l. let same : 0 ≡ 8 = l.by_them.status in omega (arith, same);
+  ended = λ l. not_ended_idly l.lawful.members l.lawful.by_them.merge l.numbers.runs_end;
+  rounds = λ l. not_given_up_early l.lawful.members l.lawful.by_them.merge l.numbers.finishes_end;
 }

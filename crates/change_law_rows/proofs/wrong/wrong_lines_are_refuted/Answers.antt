@@ -1,4 +1,4 @@
-use Rattle.change_law_rows.proofs.WrongLineLemmas.{not_called_finished, not_given_up_early, not_outrun, not_shown_wrongly, not_unseen, not_without_reopening}
+use Rattle.change_law_rows.proofs.WrongLineLemmas.{not_called_finished, not_early_in_rounds, not_given_up_early, not_outrun, not_shown_wrongly, not_unseen, not_without_reopening}
 use Rattle.change_law_rows.proofs.wrong.wrong_lines_are_refuted.Goals as goal
 
 pub returns : goal.returns
@@ -7,6 +7,7 @@ returns c = record {
   drained = not_unseen;
   shown = not_shown_wrongly;
   finished = not_given_up_early;
+  finished_in_rounds = not_early_in_rounds;
   outrun = not_outrun;
   unfinished = not_called_finished;
 }
