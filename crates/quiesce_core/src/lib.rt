@@ -3,6 +3,7 @@
 //! evolving philosophers problem: dynamic change management, 1990).
 #![tactic(auto)]
 
+mod cloning;
 mod configuration_laws;
 mod denial;
 mod effect;

@@ -3,7 +3,6 @@ pub mod Going
 pub mod Seeing
 pub mod Heirs
 pub mod Standing
-pub mod Copies
 pub mod TurnFacts
 pub mod RunFacts
 pub mod Agreeing
