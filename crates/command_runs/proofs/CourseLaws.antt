@@ -17,12 +17,12 @@ use Rattle.command_runs.specs.declared.fetched.Fetched.{Fetched}
 use Rattle.command_runs.specs.declared.fetched.Fetched.TheVariants.{Held}
 use Rattle.command_runs.specs.declared.query.Query.{Query}
 use Rattle.command_runs.specs.declared.query.Query.TheVariants as queries
-use Rattle.command_runs.specs.Commands.{aim_of, calls_of, course_of_query, course_of}
-use Rattle.command_runs.specs.Courses.{not_fetched, fetched_alone, failed, too_long, leads_on, refused, gives}
+use Rattle.command_runs.specs.Commands.{aim_of, calls_of, course_of_query, course_of_script, course_of}
+use Rattle.command_runs.specs.Courses.{FetchCourse, not_fetched, fetched_alone, failed, too_long, leads_on, refused, gives, makes}
 use Rattle.command_runs.specs.Descriptions.{IsChecked, IsGraphOfCall, IsDescriptionRefusal, by_text}
 use Rattle.command_runs.specs.Descriptions as descriptions
 use Rattle.command_runs.specs.Fetches.{Fetch, fetch_of, report_fetch}
-use Rattle.command_runs.specs.Lines.{RunLine, calls, Deed, draws, starts, changes, Progress, begun, with_description, with_called_graph, Allows, by_elaboration, by_deed, CallLeads, Aim, drawing, planning, replaying, running, Concludes, FollowsLines, uses}
+use Rattle.command_runs.specs.Lines.{RunLine, calls, Deed, draws, starts, changes, Progress, begun, with_description, with_called_graph, Allows, by_elaboration, by_deed, CallLeads, Aim, drawing, planning, replaying, Concludes, behind, FollowsLines, uses}
 use Rattle.command_runs.specs.Plans.{Starts, RefusesStart, has_no_graph, is_full, HasPlan, RefusesPlan, starts_not, leads_nowhere, gets_full, made_of}
 use Rattle.command_runs.specs.Queries.{IsRefused, AnswersQuery}
 use Rattle.command_runs.specs.OneFile.{DescriptionAnswers, cannot_read, is_too_long, answered, EventsAnswers, cannot_read_events, events_file_too_long, events_file_at_fault, ScriptAnswers, cannot_read_script, script_file_too_long, script_file_at_fault, ReportAnswers, cannot_read_report, report_too_long, report_at_fault, upgraded}
@@ -46,20 +46,20 @@ leads_to p tree deed name args g made used is allowed = record {
 }
 
 -- the end of lines
-concluded : (aim : Aim) (p : Progress) (answer : Answer) → Concludes aim p answer → FollowsLines aim p [] [] answer
-concluded aim p answer is = gives answer [] answer is (refl, refl)
+concluded : (aim : Aim) (p : Progress) (answer : Answer) → Concludes aim p answer → behind aim p [] answer
+concluded aim p answer is = makes answer [] answer is (refl, refl)
 
 module _ (file text : List ℕ) where
   -- what the lines behind a file give
   read :
-      (query : Query) (tree : Tree) (answer : Answer) → IsChecked text tree → FollowsLines (aim_of query) (with_description begun file tree) (calls_of query) [] answer
+      (query : Query) (tree : Tree) (answer : Answer) → IsChecked text tree → FollowsLines (behind (aim_of query)) (with_description begun file tree) (calls_of query) [] answer
       → course_of_query file query (fetch_of file (Held text) ∷ []) answer
   read query tree answer checked follows = leads_on text [] answer (gives tree [] answer checked follows)
 
   -- a first call that has no graph
   call_refused :
       (aim : Aim) (deed : Deed) (name : List ℕ) (args : List ℤ) (lines : List RunLine) (words : List (List ℕ)) → IsDescriptionRefusal text name args words
-      → FollowsLines aim begun (uses file ∷ calls deed name args ∷ lines) (fetch_of file (Held text) ∷ []) (refusal (description file words))
+      → FollowsLines (behind aim) begun (uses file ∷ calls deed name args ∷ lines) (fetch_of file (Held text) ∷ []) (refusal (description file words))
   call_refused aim deed name args lines _ (by_text words is) = leads_on text [] (refusal (description file words)) (refused words is)
   call_refused aim deed name args lines _ (descriptions.by_elaboration tree e checked faults) =
       let words = elaborate_words e in
@@ -69,7 +69,7 @@ module _ (file text : List ℕ) where
   -- a first start for which there is no graph, or no room
   start_refused :
       (aim : Aim) (name : List ℕ) (args : List ℤ) (lines : List RunLine) (words : List (List ℕ)) → RefusesStart text name args words
-      → FollowsLines aim begun (uses file ∷ calls starts name args ∷ lines) (fetch_of file (Held text) ∷ []) (refusal (description file words))
+      → FollowsLines (behind aim) begun (uses file ∷ calls starts name args ∷ lines) (fetch_of file (Held text) ∷ []) (refusal (description file words))
   start_refused aim name args lines _ (has_no_graph words is) = call_refused aim starts name args lines words is
   start_refused aim name args lines _ (is_full g e has lacks) =
       let words = plan_words e in
@@ -205,30 +205,32 @@ script_unfetched file name = not_fetched
 pub script_unread : (file name : List ℕ) (what : Fetched) → course_of (commands.Replay file name) (fetch_of name what ∷ []) (refusal no_memory)
 script_unread file name what = fetched_alone what
 
--- what is answered of a script that isn't one
-pub script_refused :
-    (name : List ℕ) (what : Fetched) (own : Status) (text : List ℕ) → ScriptAnswers name what own text
-    → ShowsAnswer (course_of (commands.Step name) (fetch_of name what ∷ [])) own text
-script_refused name _ _ _ cannot_read_script = record { answer = refusal (read_fault name); is = failed; has_status = refl; has_text = refl }
-script_refused name _ _ _ script_file_too_long =
-    record { answer = refusal (script name (codes "TooLong" ∷ [])); is = too_long; has_status = refl; has_text = refl }
-script_refused name _ _ _ (script_file_at_fault bytes fault first) =
-    let words = script_words fault in
-    let what = refusal (script name words) in
-    record { answer = what; is = leads_on bytes [] what (refused words (fault, first, refl)); has_status = refl; has_text = refl }
+-- whatever the lines of a script are followed for
+module _ (Then : Progress → FetchCourse) (name : List ℕ) where
+  -- what is answered of a script that isn't one
+  pub script_refused :
+      (what : Fetched) (own : Status) (text : List ℕ) → ScriptAnswers name what own text
+      → ShowsAnswer (course_of_script Then name (fetch_of name what ∷ [])) own text
+  script_refused _ _ _ cannot_read_script = record { answer = refusal (read_fault name); is = failed; has_status = refl; has_text = refl }
+  script_refused _ _ _ script_file_too_long =
+      record { answer = refusal (script name (codes "TooLong" ∷ [])); is = too_long; has_status = refl; has_text = refl }
+  script_refused _ _ _ (script_file_at_fault bytes fault first) =
+      let words = script_words fault in
+      let what = refusal (script name words) in
+      record { answer = what; is = leads_on bytes [] what (refused words (fault, first, refl)); has_status = refl; has_text = refl }
 
--- what a script leads to
-pub statements_read :
-    (name bytes : List ℕ) (parsed : Script) (fetches : List Fetch) (answer : Answer) → IsScript bytes parsed
-    → FollowsLines running begun (lines_of_script parsed.lines) fetches answer
-    → course_of (commands.Step name) (fetch_of name (Held bytes) ∷ fetches) answer
-statements_read name bytes parsed fetches answer is follows = leads_on bytes fetches answer (gives parsed fetches answer is follows)
+  -- what a script leads to
+  pub statements_read :
+      (bytes : List ℕ) (parsed : Script) (fetches : List Fetch) (answer : Answer) → IsScript bytes parsed
+      → FollowsLines Then begun (lines_of_script parsed.lines) fetches answer
+      → course_of_script Then name (fetch_of name (Held bytes) ∷ fetches) answer
+  statements_read bytes parsed fetches answer is follows = leads_on bytes fetches answer (gives parsed fetches answer is follows)
 
-pub statements_unfetched : (name : List ℕ) → course_of (commands.Step name) [] (refusal no_memory)
-statements_unfetched name = not_fetched
+  pub statements_unfetched : course_of_script Then name [] (refusal no_memory)
+  statements_unfetched = not_fetched
 
-pub statements_unread : (name : List ℕ) (what : Fetched) → course_of (commands.Step name) (fetch_of name what ∷ []) (refusal no_memory)
-statements_unread name what = fetched_alone what
+  pub statements_unread : (what : Fetched) → course_of_script Then name (fetch_of name what ∷ []) (refusal no_memory)
+  statements_unread what = fetched_alone what
 
 -- what is answered of a report
 pub upgrades :

@@ -17,11 +17,11 @@ use Rattle.command_runs.specs.declared.fetched.Fetched.TheVariants.{Held, TooLon
 use Rattle.command_runs.specs.declared.query.Query.{Query}
 use Rattle.command_runs.specs.declared.query.Query.TheVariants as queries
 use Rattle.command_runs.specs.Commands.{aim_of, calls_of, course_of_query}
-use Rattle.command_runs.specs.Courses.{not_fetched, fetched_alone, failed, too_long, leads_on, not_judged, refused, gives}
+use Rattle.command_runs.specs.Courses.{not_fetched, fetched_alone, failed, too_long, leads_on, not_judged, refused, gives, not_made, makes}
 use Rattle.command_runs.specs.Descriptions.{IsChecked, IsGraphOfCall, HasGraph, IsTextRefusal, IsDescriptionRefusal, by_text}
 use Rattle.command_runs.specs.Descriptions as descriptions
 use Rattle.command_runs.specs.Fetches.{Fetch, fetch_of}
-use Rattle.command_runs.specs.Lines.{Deed, draws, starts, changes, Progress, begun, with_description, with_called_graph, Forbids, IsCallRefusal, by_elaboration, by_deed, CallLeads, Aim, drawing, planning, replaying, Concludes, FollowsLines}
+use Rattle.command_runs.specs.Lines.{Deed, draws, starts, changes, Progress, begun, with_description, with_called_graph, Forbids, IsCallRefusal, by_elaboration, by_deed, CallLeads, Aim, drawing, planning, replaying, Concludes, behind, FollowsLines}
 use Rattle.command_runs.specs.Plans.{Starts, RefusesStart, has_no_graph, is_full, RefusesPlan, starts_not, leads_nowhere, gets_full, nothing_made, made_of}
 use Rattle.command_runs.specs.Queries.{IsRefused, AnswersQuery}
 use Rattle.command_runs.specs.Replays.{IsReplayed}
@@ -47,11 +47,10 @@ text_refuses (queries.Replay events) text words is = has_no_graph words (by_text
 
 -- the end of lines: memory ran out, or the answer is to what is wanted
 end_of :
-    (aim : Aim) (p : Progress) (fetches : List Fetch) (answer : Answer) → FollowsLines aim p [] fetches answer
+    (aim : Aim) (p : Progress) (fetches : List Fetch) (answer : Answer) → behind aim p fetches answer
     → (fetches ≡ []) × ((answer ≡ refusal no_memory) ⊎ Concludes aim p answer)
-end_of aim p _ _ not_judged = (refl, inl refl)
-end_of aim p _ _ (refused words never) = absurd never
-end_of aim p _ _ (gives what fetches answer concludes says) = (says.0, inr (subst (Concludes aim p) (sym says.1) concludes))
+end_of aim p _ _ not_made = (refl, inl refl)
+end_of aim p _ _ (makes what fetches answer concludes says) = (says.0, inr (subst (Concludes aim p) (sym says.1) concludes))
 
 module _ (text : List ℕ) (p : Progress) (tree : Tree) (used : p.used ≡ Some tree) (checked : IsChecked text tree) (deed : Deed) (name : List ℕ) (args : List ℤ) where
   -- why a call is refused
@@ -92,7 +91,7 @@ module _ (file text : List ℕ) (tree : Tree) (checked : IsChecked text tree) wh
 
   from_graph :
       (call : TopCall) (fetches : List Fetch) (answer : Answer)
-      → FollowsLines drawing used (calls_of (queries.Graph call)) fetches answer → Ended file (queries.Graph call) text fetches answer
+      → FollowsLines (behind drawing) used (calls_of (queries.Graph call)) fetches answer → Ended file (queries.Graph call) text fetches answer
   unfolding used
   from_graph call _ _ not_judged = (refl, short)
   from_graph call _ _ (refused words why) = (refl, refuses words (by (refusal_of text used tree refl checked draws call.top call.args words why)))
@@ -102,7 +101,7 @@ module _ (file text : List ℕ) (tree : Tree) (checked : IsChecked text tree) wh
       by (inl is) = is
       by (inr never) = absurd never.2
   from_graph call _ _ (gives next fetches answer leads then_) =
-      let end = end_of drawing (with_called_graph used draws call.top call.args leads.graph leads.made) fetches answer (subst (λ n. FollowsLines drawing n [] fetches answer) leads.is_next then_) in
+      let end = end_of drawing (with_called_graph used draws call.top call.args leads.graph leads.made) fetches answer (subst (λ n. FollowsLines (behind drawing) n [] fetches answer) leads.is_next then_) in
       (end.0, by end.1)
     where
       by : (answer ≡ refusal no_memory) ⊎ Concludes drawing (with_called_graph used draws call.top call.args leads.graph leads.made) answer → EndsAs file (queries.Graph call) text answer
@@ -129,13 +128,13 @@ module _ (file text : List ℕ) (tree : Tree) (checked : IsChecked text tree) wh
 
   from_replay :
       (events : EventFile) (fetches : List Fetch) (answer : Answer)
-      → FollowsLines (replaying events.events) used (calls_of (queries.Replay events)) fetches answer → Ended file (queries.Replay events) text fetches answer
+      → FollowsLines (behind (replaying events.events)) used (calls_of (queries.Replay events)) fetches answer → Ended file (queries.Replay events) text fetches answer
   unfolding used
   from_replay events _ _ not_judged = (refl, short)
   from_replay events _ _ (refused words why) = (refl, refuses words (start_refused events.name events.args words why))
   from_replay events _ _ (gives next fetches answer leads then_) =
       let end = end_of (replaying events.events) (with_called_graph used starts events.name events.args leads.graph leads.made) fetches answer
-      (subst (λ n. FollowsLines (replaying events.events) n [] fetches answer) leads.is_next then_) in
+      (subst (λ n. FollowsLines (behind (replaying events.events)) n [] fetches answer) leads.is_next then_) in
       (end.0, by end.1)
     where
       by : (answer ≡ refusal no_memory) ⊎ Concludes (replaying events.events) (with_called_graph used starts events.name events.args leads.graph leads.made) answer → EndsAs file (queries.Replay events) text answer
@@ -170,13 +169,13 @@ module _ (file text : List ℕ) (tree : Tree) (checked : IsChecked text tree) wh
             (subst (λ m. IsRefusal old new [] m e) made_is (subst (λ g. IsRefusal g new [] made e) (sym (head_is old other [] earlier graphs)) full)))
 
     from_change :
-        (fetches : List Fetch) (answer : Answer) → FollowsLines planning started_ (Rattle.command_runs.specs.Lines.calls (changes 0 []) target.top target.args ∷ []) fetches answer
+        (fetches : List Fetch) (answer : Answer) → FollowsLines (behind planning) started_ (Rattle.command_runs.specs.Lines.calls (changes 0 []) target.top target.args ∷ []) fetches answer
         → Ended file (queries.Plan call target) text fetches answer
     unfolding used started_
     from_change _ _ not_judged = (refl, short)
     from_change _ _ (refused words why) = (refl, refuses words (change_refused words why))
     from_change _ _ (gives next fetches answer leads then_) =
-        let end = end_of planning (with_called_graph started_ (changes 0 []) target.top target.args leads.graph leads.made) fetches answer (subst (λ n. FollowsLines planning n [] fetches answer) leads.is_next then_) in
+        let end = end_of planning (with_called_graph started_ (changes 0 []) target.top target.args leads.graph leads.made) fetches answer (subst (λ n. FollowsLines (behind planning) n [] fetches answer) leads.is_next then_) in
         (end.0, by end.1)
       where
         new : Graph
@@ -206,16 +205,16 @@ module _ (file text : List ℕ) (tree : Tree) (checked : IsChecked text tree) wh
 
   from_plan :
       (call target : TopCall) (fetches : List Fetch) (answer : Answer)
-      → FollowsLines planning used (calls_of (queries.Plan call target)) fetches answer → Ended file (queries.Plan call target) text fetches answer
+      → FollowsLines (behind planning) used (calls_of (queries.Plan call target)) fetches answer → Ended file (queries.Plan call target) text fetches answer
   unfolding used started_
   from_plan call target _ _ not_judged = (refl, short)
   from_plan call target _ _ (refused words why) = (refl, refuses words (starts_not words (start_refused call.top call.args words why)))
   from_plan call target _ _ (gives next fetches answer leads then_) =
       from_change call target leads.graph leads.made (start_of call.top call.args next leads) (leads.allowed.1 ∙ first_made leads.graph) fetches answer
-      (subst (λ n. FollowsLines planning n (Rattle.command_runs.specs.Lines.calls (changes 0 []) target.top target.args ∷ []) fetches answer) leads.is_next then_)
+      (subst (λ n. FollowsLines (behind planning) n (Rattle.command_runs.specs.Lines.calls (changes 0 []) target.top target.args ∷ []) fetches answer) leads.is_next then_)
 
   pub from_calls :
-      (query : Query) (fetches : List Fetch) (answer : Answer) → FollowsLines (aim_of query) (with_description begun file tree) (calls_of query) fetches answer
+      (query : Query) (fetches : List Fetch) (answer : Answer) → FollowsLines (behind (aim_of query)) (with_description begun file tree) (calls_of query) fetches answer
       → Ended file query text fetches answer
   unfolding used
   from_calls (queries.Graph call) fetches answer follows = from_graph call fetches answer follows

@@ -1,5 +1,5 @@
 -- What a run says of descriptions and of files of events, from the one relation of runs.
-use Rattle.std.proofs.Common.{◌≡◌, ◌≢◌, ◌∙◌, ◌≤◌, ◌<◌, ◌⊎◌, inl, inr, ℕ, List, [], ◌∷◌, Option, Some, None, length, refl, sym, subst, ap, IsSomeAnd, arith}
+use Rattle.std.proofs.Common.{◌≡◌, ◌≢◌, ◌∙◌, ◌≤◌, ◌<◌, ◌⊎◌, inl, inr, ℕ, Bool, List, [], ◌∷◌, Option, Some, None, length, refl, sym, subst, ap, IsSomeAnd, arith}
 use Rattle.std.specs.List.{AllByRecursion}
 use Rattle.std.proofs.lemmas.Option.{same_Some, none-some}
 use Rattle.cfg_io.specs.Shelf.{Files}
@@ -14,13 +14,14 @@ use Rattle.change_script.specs.EventFiles.{IsEventFile, IsFirstFault}
 use Rattle.change_script.specs.declared.report.Report.{Report}
 use Rattle.report_parser.specs.Stages.{IsReportFault}
 use Rattle.report_parser.specs.declared.error.ReportFault.{ReportFault}
+use Rattle.command_runs.specs.Schedules.{rounds}
 use Rattle.command_runs.specs.Commands.{TellsReport}
 use Rattle.command_words.specs.declared.words.TopCall.{TopCall}
 use Rattle.command_answers.specs.declared.status.Status.{Status}
 use Rattle.command_answers.specs.declared.status.Status.TheVariants as status
 use Rattle.command_words.specs.declared.words.Command.{Command}
 use Rattle.command_words.specs.declared.words.Command.TheVariants as commands
-use Rattle.command_words.specs.CommandLine.{Asks}
+use Rattle.command_runs.specs.Known.{AsksOf}
 use Rattle.command_answers.specs.RefusalLines.{denied_line}
 use Rattle.command_runs.specs.Descriptions.{HasGraph}
 use Rattle.command_runs.specs.Plans.{Starts}
@@ -33,8 +34,8 @@ use Rattle.command_runs.specs.declared.fetched.Fetched.{Fetched}
 use Rattle.command_runs.specs.declared.fetched.Fetched.TheVariants.{Failed}
 use Rattle.command_runs.specs.Fetches.{Fetch, failed_names, fetch_of, file_limit, Gave, report_fetch, report_limit}
 use Rattle.command_runs.specs.OneFile.{DescriptionAnswers, cannot_read, is_too_long, refused, answered, EventsAnswers, cannot_read_events, events_file_too_long, events_file_at_fault, ReportAnswers, cannot_read_report, report_too_long, report_at_fault, upgraded}
-use Rattle.command_runs.specs.Runs.{Written, whole, stopped}
-use Rattle.command_runs.specs.Outcomes.{Ends, Wants, Flattened, Planned, Replayed, DescriptionRefused, too_long, at_fault, EventsRefused, events_too_long, events_at_fault, HoldsFile, MustRefuse, MustRefuseEvents, NothingRefuses, EndsAsGiven, Upgraded, ReportRefused, is_longer, has_fault, RefusesFile, RefusesDescription, MustRefuseReport, NothingRefusesReport}
+use Rattle.command_runs.specs.Runs.{Written, whole, stopped, Run}
+use Rattle.command_runs.specs.Outcomes.{ReadFrom, Ends, Wants, Flattened, Planned, Replayed, DescriptionRefused, too_long, at_fault, EventsRefused, events_too_long, events_at_fault, HoldsFile, MustRefuse, MustRefuseEvents, NothingRefuses, EndsAsGiven, Upgraded, ReportRefused, is_longer, has_fault, RefusesFile, RefusesDescription, MustRefuseReport, NothingRefusesReport}
 use Rattle.command_runs.proofs.Inverting.{Answer, of_words, AnswersCommand, no_form, answered_to, no_memory, Ran, OfDescription, OfScript, OfReplay, OfReport}
 use Rattle.change_script.proofs.EventFileLaws as scripts
 use Rattle.big_files.specs.BigFiles.{made_files, script_name}
@@ -261,44 +262,44 @@ module _ (files : Option Files) (taken taken' : Option (List ℕ)) where
       let each = subst (AllByRecursion (Gave files)) d.is told in
       given_answer file query d.given own text due plain d.answer is each.0 took
 
-module _ (words : List (List ℕ)) (files : Option Files) (failures failures' : List (List ℕ)) (taken taken' : Option (List ℕ)) (faults faults' : ℕ) (result : Status) (run : Ran words files failures failures' taken taken' faults faults' result) where
+module _ (knows : Command → Bool) (seen : Run) (run : Ran knows seen) where
   -- ---- what Ok and Denied say
 
   -- of an answer that ends as due, and not for want of memory
   found :
-      (command : Command) (due : Status) → IsGiven due → Asks words command → result ≡ due
-      → (Answer command run.fetches run.own run.text × (run.own ≡ due)) × (taken' ≡ with_bytes taken run.text)
-  found command due plain asks is = by result run.written is plain
+      (command : Command) (due : Status) → IsGiven due → AsksOf knows seen.words command → seen.status ≡ due
+      → (Answer command run.fetches run.own run.text × (run.own ≡ due)) × (seen.taken' ≡ with_bytes seen.taken run.text)
+  found command due plain asks is = by seen.status run.written is plain
     where
       own : Answer command run.fetches run.own run.text ⊎ (run.own ≡ status.NoMemory) → (d : Status) → IsGiven d → run.own ≡ d
           → Answer command run.fetches run.own run.text × (run.own ≡ d)
       own (inl answer) d plain is = (answer, is)
       own (inr memory) d plain is = absurd (memory_not_given run.own d plain memory is)
 
-      by : (r : Status) → Written run.own run.text taken taken' faults faults' r → r ≡ due → IsGiven due
-          → (Answer command run.fetches run.own run.text × (run.own ≡ due)) × (taken' ≡ with_bytes taken run.text)
-      by _ (whole took steady) is plain = (own (of_words words command run.fetches run.own run.text asks run.answers) due plain is, took)
+      by : (r : Status) → Written run.own run.text seen.taken seen.taken' seen.faults seen.faults' r → r ≡ due → IsGiven due
+          → (Answer command run.fetches run.own run.text × (run.own ≡ due)) × (seen.taken' ≡ with_bytes seen.taken run.text)
+      by _ (whole took steady) is plain = (own (of_words knows seen.words command run.fetches run.own run.text asks run.answers) due plain is, took)
       by _ (stopped n short took rose) is plain = absurd (write_fault_not_given due plain is)
 
-  pub flattens : (file : List ℕ) (call : TopCall) → Asks words (commands.Flat file call) → result ≡ status.Ok → Flattened files file call taken taken'
+  pub flattens : (file : List ℕ) (call : TopCall) → AsksOf knows seen.words (commands.Flat file call) → seen.status ≡ status.Ok → Flattened seen.files file call seen.taken seen.taken'
   flattens file call asks is =
       let f = found (commands.Flat file call) status.Ok well asks is in
-      let w = of_one files taken taken' file (queries.Graph call) run.fetches run.own run.text status.Ok well f.0.0 f.0.1 run.told f.1 in
+      let w = of_one seen.files seen.taken seen.taken' file (queries.Graph call) run.fetches run.own run.text status.Ok well f.0.0 f.0.1 run.told f.1 in
       record {
         text = w.text;
         graph = w.gives.1.0;
         told = w.told;
         within = w.within;
         has_graph = w.gives.1.1;
-        written = w.wrote ∙ ap (with_bytes taken) w.gives.1.2;
+        written = w.wrote ∙ ap (with_bytes seen.taken) w.gives.1.2;
       }
 
   pub plans :
-      (file : List ℕ) (call target : TopCall) → Asks words (commands.Plan file call target) → result ≡ status.Ok
-      → Planned files file call target taken taken'
+      (file : List ℕ) (call target : TopCall) → AsksOf knows seen.words (commands.Plan file call target) → seen.status ≡ status.Ok
+      → Planned seen.files file call target seen.taken seen.taken'
   plans file call target asks is =
       let f = found (commands.Plan file call target) status.Ok well asks is in
-      let w = of_one files taken taken' file (queries.Plan call target) run.fetches run.own run.text status.Ok well f.0.0 f.0.1 run.told f.1 in
+      let w = of_one seen.files seen.taken seen.taken' file (queries.Plan call target) run.fetches run.own run.text status.Ok well f.0.0 f.0.1 run.told f.1 in
       record {
         text = w.text;
         plan = w.written;
@@ -308,153 +309,153 @@ module _ (words : List (List ℕ)) (files : Option Files) (failures failures' : 
         written = w.wrote;
       }
 
-  replays_with : (file name : List ℕ) (due : Status) → IsGiven due → Asks words (commands.Replay file name) → result ≡ due → Replayed files file name due taken taken'
+  replays_with : (file name : List ℕ) (due : Status) → IsGiven due → AsksOf knows seen.words (commands.Replay file name) → seen.status ≡ due → Replayed seen.files file name due seen.taken seen.taken'
   replays_with file name due plain asks is = by (found (commands.Replay file name) due plain asks is)
     where
-      by : (Answer (commands.Replay file name) run.fetches run.own run.text × (run.own ≡ due)) × (taken' ≡ with_bytes taken run.text) → Replayed files file name due taken taken'
-      by ((inl s, is), took) = absurd (script_not_given files taken taken' name s.given run.own run.text due plain s.answer is)
-      by ((inr r, is), took) = of_replay files taken taken' file name run.fetches run.own run.text due plain r is run.told took
+      by : (Answer (commands.Replay file name) run.fetches run.own run.text × (run.own ≡ due)) × (seen.taken' ≡ with_bytes seen.taken run.text) → Replayed seen.files file name due seen.taken seen.taken'
+      by ((inl s, is), took) = absurd (script_not_given seen.files seen.taken seen.taken' name s.given run.own run.text due plain s.answer is)
+      by ((inr r, is), took) = of_replay seen.files seen.taken seen.taken' file name run.fetches run.own run.text due plain r is run.told took
 
-  pub replays : (file name : List ℕ) → Asks words (commands.Replay file name) → result ≡ status.Ok → Replayed files file name status.Ok taken taken'
+  pub replays : (file name : List ℕ) → AsksOf knows seen.words (commands.Replay file name) → seen.status ≡ status.Ok → Replayed seen.files file name status.Ok seen.taken seen.taken'
   replays file name asks is = replays_with file name status.Ok well asks is
 
-  pub upgrades : (file : List ℕ) → Asks words (commands.Upgrade file) → result ≡ status.Ok → Upgraded files file taken taken'
+  pub upgrades : (file : List ℕ) → AsksOf knows seen.words (commands.Upgrade file) → seen.status ≡ status.Ok → Upgraded seen.files file seen.taken seen.taken'
   upgrades file asks is =
       let f = found (commands.Upgrade file) status.Ok well asks is in
-      let each = subst (AllByRecursion (Gave files)) f.0.0.is run.told in
-      given_report files taken taken' file f.0.0.given run.own run.text f.0.0.answer f.0.1 each.0 f.1
+      let each = subst (AllByRecursion (Gave seen.files)) f.0.0.is run.told in
+      given_report seen.files seen.taken seen.taken' file f.0.0.given run.own run.text f.0.0.answer f.0.1 each.0 f.1
 
   -- only `replay` is denied
-  pub denies : result ≡ status.Denied → (file name : List ℕ) × Asks words (commands.Replay file name) × Replayed files file name status.Denied taken taken'
-  denies is = by result run.written is
+  pub denies : seen.status ≡ status.Denied → (file name : List ℕ) × AsksOf knows seen.words (commands.Replay file name) × Replayed seen.files file name status.Denied seen.taken seen.taken'
+  denies is = by seen.status run.written is
     where
-      of : (command : Command) → Asks words command → Answer command run.fetches run.own run.text → run.own ≡ status.Denied → taken' ≡ with_bytes taken run.text
-          → (file name : List ℕ) × Asks words (commands.Replay file name) × Replayed files file name status.Denied taken taken'
+      of : (command : Command) → AsksOf knows seen.words command → Answer command run.fetches run.own run.text → run.own ≡ status.Denied → seen.taken' ≡ with_bytes seen.taken run.text
+          → (file name : List ℕ) × AsksOf knows seen.words (commands.Replay file name) × Replayed seen.files file name status.Denied seen.taken seen.taken'
       of commands.Help asks answer is took = absurd (not_two run.own status.Ok status.Denied answer.0 is ok_denied)
       of commands.Version asks answer is took = absurd (not_two run.own status.Ok status.Denied answer.0 is ok_denied)
       of (commands.Flat file call) asks answer is took =
-          absurd (ok_denied (sym ((of_one files taken taken' file (queries.Graph call) run.fetches run.own run.text status.Denied with_denial answer is run.told took).gives.0)))
+          absurd (ok_denied (sym ((of_one seen.files seen.taken seen.taken' file (queries.Graph call) run.fetches run.own run.text status.Denied with_denial answer is run.told took).gives.0)))
       of (commands.Plan file call target) asks answer is took =
-          absurd (ok_denied (sym ((of_one files taken taken' file (queries.Plan call target) run.fetches run.own run.text status.Denied with_denial answer is run.told took).gives.0)))
-      of (commands.Replay file name) asks (inl s) is took = absurd (script_not_given files taken taken' name s.given run.own run.text status.Denied with_denial s.answer is)
+          absurd (ok_denied (sym ((of_one seen.files seen.taken seen.taken' file (queries.Plan call target) run.fetches run.own run.text status.Denied with_denial answer is run.told took).gives.0)))
+      of (commands.Replay file name) asks (inl s) is took = absurd (script_not_given seen.files seen.taken seen.taken' name s.given run.own run.text status.Denied with_denial s.answer is)
       of (commands.Replay file name) asks (inr r) is took =
-          (file, name, asks, of_replay files taken taken' file name run.fetches run.own run.text status.Denied with_denial r is run.told took)
-      of (commands.Upgrade file) asks answer is took = absurd (report_not_denied files taken taken' file answer.given run.own run.text answer.answer is)
+          (file, name, asks, of_replay seen.files seen.taken seen.taken' file name run.fetches run.own run.text status.Denied with_denial r is run.told took)
+      of (commands.Upgrade file) asks answer is took = absurd (report_not_denied seen.files seen.taken seen.taken' file answer.given run.own run.text answer.answer is)
       of (commands.Step name) asks answer is took =
-          absurd (ending.not_denied report_text files name run.fetches run.own run.text (script_ends report_text files name run.fetches run.own run.text answer run.told) is)
+          absurd (ending.not_denied rounds report_text seen.files name run.fetches run.own run.text (script_ends rounds report_text seen.files name run.fetches run.own run.text answer run.told) is)
       of (commands.Big lanes) asks answer is took =
-          absurd (ending.not_denied (summary_text lanes) (Some (made_files lanes)) script_name answer.within run.own run.text (big_ends lanes run.fetches run.own run.text answer) is)
+          absurd (ending.not_denied rounds (summary_text lanes) (Some (made_files lanes)) script_name answer.within run.own run.text (big_ends lanes run.fetches run.own run.text answer) is)
 
-      own : (fetches : List Fetch) (s : Status) (text : List ℕ) → AnswersCommand words fetches s text → s ≡ status.Denied
-          → ((command : Command) → Asks words command → Answer command fetches s text → s ≡ status.Denied
-          → (file name : List ℕ) × Asks words (commands.Replay file name) × Replayed files file name status.Denied taken taken')
-          → (file name : List ℕ) × Asks words (commands.Replay file name) × Replayed files file name status.Denied taken taken'
+      own : (fetches : List Fetch) (s : Status) (text : List ℕ) → AnswersCommand knows seen.words fetches s text → s ≡ status.Denied
+          → ((command : Command) → AsksOf knows seen.words command → Answer command fetches s text → s ≡ status.Denied
+          → (file name : List ℕ) × AsksOf knows seen.words (commands.Replay file name) × Replayed seen.files file name status.Denied seen.taken seen.taken')
+          → (file name : List ℕ) × AsksOf knows seen.words (commands.Replay file name) × Replayed seen.files file name status.Denied seen.taken seen.taken'
       own _ _ _ (no_form none) is go = absurd (usage_denied is)
       own _ _ _ (answered_to command fetches s text asks to) is go = go command asks to is
       own _ _ _ (no_memory fetches) is go = absurd (memory_denied is)
 
-      by : (r : Status) → Written run.own run.text taken taken' faults faults' r → r ≡ status.Denied
-          → (file name : List ℕ) × Asks words (commands.Replay file name) × Replayed files file name status.Denied taken taken'
+      by : (r : Status) → Written run.own run.text seen.taken seen.taken' seen.faults seen.faults' r → r ≡ status.Denied
+          → (file name : List ℕ) × AsksOf knows seen.words (commands.Replay file name) × Replayed seen.files file name status.Denied seen.taken seen.taken'
       by _ (whole took steady) is = own run.fetches run.own run.text run.answers is (λ command asks answer same. of command asks answer same took)
       by _ (stopped n short took rose) is = absurd (write_fault_denied is)
 
   -- ---- what Description and Script say
 
-  pub refuses : result ≡ status.Description → RefusesDescription words files taken taken'
-  refuses is = by result run.written is
+  pub refuses : seen.status ≡ status.Description → RefusesDescription knows seen
+  refuses is = by seen.status run.written is
     where
-      of : (command : Command) (fetches : List Fetch) (own : Status) (text : List ℕ) → Asks words command → Answer command fetches own text → own ≡ status.Description
-          → AllByRecursion (Gave files) fetches → taken' ≡ with_bytes taken text → RefusesDescription words files taken taken'
+      of : (command : Command) (fetches : List Fetch) (own : Status) (text : List ℕ) → AsksOf knows seen.words command → Answer command fetches own text → own ≡ status.Description
+          → AllByRecursion (Gave seen.files) fetches → seen.taken' ≡ with_bytes seen.taken text → RefusesDescription knows seen
       of commands.Help fetches own text asks answer is told took = absurd (not_two own status.Ok status.Description answer.0 is ok_description)
       of commands.Version fetches own text asks answer is told took = absurd (not_two own status.Ok status.Description answer.0 is ok_description)
       of (commands.Flat file call) fetches own text asks answer is told took =
-          let each = subst (AllByRecursion (Gave files)) answer.is told in
-          inl (file, queries.Graph call, asks, of_refusal files taken taken' file (queries.Graph call) answer.given own text answer.answer is each.0 took)
+          let each = subst (AllByRecursion (Gave seen.files)) answer.is told in
+          inl (file, queries.Graph call, asks, of_refusal seen.files seen.taken seen.taken' file (queries.Graph call) answer.given own text answer.answer is each.0 took)
       of (commands.Plan file call target) fetches own text asks answer is told took =
-          let each = subst (AllByRecursion (Gave files)) answer.is told in
-          inl (file, queries.Plan call target, asks, of_refusal files taken taken' file (queries.Plan call target) answer.given own text answer.answer is each.0 took)
-      of (commands.Replay file name) fetches own text asks (inl s) is told took = absurd (script_not_description files taken taken' name s.given own text s.answer is)
+          let each = subst (AllByRecursion (Gave seen.files)) answer.is told in
+          inl (file, queries.Plan call target, asks, of_refusal seen.files seen.taken seen.taken' file (queries.Plan call target) answer.given own text answer.answer is each.0 took)
+      of (commands.Replay file name) fetches own text asks (inl s) is told took = absurd (script_not_description seen.files seen.taken seen.taken' name s.given own text s.answer is)
       of (commands.Replay file name) fetches own text asks (inr r) is told took =
-          let each = subst (AllByRecursion (Gave files)) r.is told in
+          let each = subst (AllByRecursion (Gave seen.files)) r.is told in
           inl (
             file,
             queries.Replay r.events_file,
-            (name, r.bytes, asks, held_told files name r.bytes each.0, held_within files name r.bytes each.0, r.is_event_file),
-            of_refusal files taken taken' file (queries.Replay r.events_file) r.given own text r.answer is each.1.0 took,
+            (name, r.bytes, asks, held_told seen.files name r.bytes each.0, held_within seen.files name r.bytes each.0, r.is_event_file),
+            of_refusal seen.files seen.taken seen.taken' file (queries.Replay r.events_file) r.given own text r.answer is each.1.0 took,
           )
       of (commands.Upgrade file) fetches own text asks answer is told took =
-          absurd (report_not_description files taken taken' file answer.given own text answer.answer is)
+          absurd (report_not_description seen.files seen.taken seen.taken' file answer.given own text answer.answer is)
       of (commands.Step name) fetches own text asks answer is told took =
-          inr (inl (name, asks, ending.line_refused report_text files name fetches taken taken' own text (script_ends report_text files name fetches own text answer told) is took))
+          inr (inl (name, asks, ending.line_refused rounds report_text seen.files name fetches seen.taken seen.taken' own text (script_ends rounds report_text seen.files name fetches own text answer told) is took))
       of (commands.Big lanes) fetches own text asks answer is told took =
-          inr (inr (lanes, asks, ending.line_refused (summary_text lanes) (Some (made_files lanes)) script_name answer.within taken taken' own text (big_ends lanes fetches own text answer) is took))
+          inr (inr (lanes, asks, ending.line_refused rounds (summary_text lanes) (Some (made_files lanes)) script_name answer.within seen.taken seen.taken' own text (big_ends lanes fetches own text answer) is took))
 
-      own : (fetches : List Fetch) (s : Status) (text : List ℕ) → AnswersCommand words fetches s text → s ≡ status.Description → AllByRecursion (Gave files) fetches
-          → taken' ≡ with_bytes taken text → RefusesDescription words files taken taken'
+      own : (fetches : List Fetch) (s : Status) (text : List ℕ) → AnswersCommand knows seen.words fetches s text → s ≡ status.Description → AllByRecursion (Gave seen.files) fetches
+          → seen.taken' ≡ with_bytes seen.taken text → RefusesDescription knows seen
       own _ _ _ (no_form none) is told took = absurd (usage_description is)
       own _ _ _ (answered_to command fetches s text asks to) is told took = of command fetches s text asks to is told took
       own _ _ _ (no_memory fetches) is told took = absurd (memory_description is)
 
-      by : (r : Status) → Written run.own run.text taken taken' faults faults' r → r ≡ status.Description → RefusesDescription words files taken taken'
+      by : (r : Status) → Written run.own run.text seen.taken seen.taken' seen.faults seen.faults' r → r ≡ status.Description → RefusesDescription knows seen
       by _ (whole took steady) is = own run.fetches run.own run.text run.answers is run.told took
       by _ (stopped n short took rose) is = absurd (write_fault_description is)
 
-  pub script : result ≡ status.Script → RefusesFile words files taken taken'
-  script is = by result run.written is
+  pub script : seen.status ≡ status.Script → RefusesFile knows seen
+  script is = by seen.status run.written is
     where
-      of : (command : Command) (fetches : List Fetch) (own : Status) (text : List ℕ) → Asks words command → Answer command fetches own text → own ≡ status.Script
-          → AllByRecursion (Gave files) fetches → taken' ≡ with_bytes taken text → RefusesFile words files taken taken'
+      of : (command : Command) (fetches : List Fetch) (own : Status) (text : List ℕ) → AsksOf knows seen.words command → Answer command fetches own text → own ≡ status.Script
+          → AllByRecursion (Gave seen.files) fetches → seen.taken' ≡ with_bytes seen.taken text → RefusesFile knows seen
       of commands.Help fetches own text asks answer is told took = absurd (not_two own status.Ok status.Script answer.0 is ok_script)
       of commands.Version fetches own text asks answer is told took = absurd (not_two own status.Ok status.Script answer.0 is ok_script)
       of (commands.Flat file call) fetches own text asks answer is told took =
-          absurd (no_script_status files taken taken' file (queries.Graph call) answer.given own text answer.answer is)
+          absurd (no_script_status seen.files seen.taken seen.taken' file (queries.Graph call) answer.given own text answer.answer is)
       of (commands.Plan file call target) fetches own text asks answer is told took =
-          absurd (no_script_status files taken taken' file (queries.Plan call target) answer.given own text answer.answer is)
+          absurd (no_script_status seen.files seen.taken seen.taken' file (queries.Plan call target) answer.given own text answer.answer is)
       of (commands.Replay file name) fetches own text asks (inl s) is told took =
-          let each = subst (AllByRecursion (Gave files)) s.is told in
-          inl (file, name, asks, of_script_refusal files taken taken' name s.given own text s.answer is each.0 took)
+          let each = subst (AllByRecursion (Gave seen.files)) s.is told in
+          inl (file, name, asks, of_script_refusal seen.files seen.taken seen.taken' name s.given own text s.answer is each.0 took)
       of (commands.Replay file name) fetches own text asks (inr r) is told took =
-          absurd (no_script_status files taken taken' file (queries.Replay r.events_file) r.given own text r.answer is)
+          absurd (no_script_status seen.files seen.taken seen.taken' file (queries.Replay r.events_file) r.given own text r.answer is)
       of (commands.Upgrade file) fetches own text asks answer is told took =
-          let each = subst (AllByRecursion (Gave files)) answer.is told in
-          inr (inl (file, asks, of_report_refusal files taken taken' file answer.given own text answer.answer is each.0 took))
+          let each = subst (AllByRecursion (Gave seen.files)) answer.is told in
+          inr (inl (file, asks, of_report_refusal seen.files seen.taken seen.taken' file answer.given own text answer.answer is each.0 took))
       of (commands.Step name) fetches own text asks answer is told took =
-          inr (inr (inl (name, asks, ending.script_refused report_text files name fetches taken taken' own text (script_ends report_text files name fetches own text answer told) is took)))
+          inr (inr (inl (name, asks, ending.script_refused rounds report_text seen.files name fetches seen.taken seen.taken' own text (script_ends rounds report_text seen.files name fetches own text answer told) is took)))
       of (commands.Big lanes) fetches own text asks answer is told took =
-          inr (inr (inr (lanes, asks, ending.script_refused (summary_text lanes) (Some (made_files lanes)) script_name answer.within taken taken' own text (big_ends lanes fetches own text answer) is took)))
+          inr (inr (inr (lanes, asks, ending.script_refused rounds (summary_text lanes) (Some (made_files lanes)) script_name answer.within seen.taken seen.taken' own text (big_ends lanes fetches own text answer) is took)))
 
-      own : (fetches : List Fetch) (s : Status) (text : List ℕ) → AnswersCommand words fetches s text → s ≡ status.Script → AllByRecursion (Gave files) fetches
-          → taken' ≡ with_bytes taken text → RefusesFile words files taken taken'
+      own : (fetches : List Fetch) (s : Status) (text : List ℕ) → AnswersCommand knows seen.words fetches s text → s ≡ status.Script → AllByRecursion (Gave seen.files) fetches
+          → seen.taken' ≡ with_bytes seen.taken text → RefusesFile knows seen
       own _ _ _ (no_form none) is told took = absurd (usage_script is)
       own _ _ _ (answered_to command fetches s text asks to) is told took = of command fetches s text asks to is told took
       own _ _ _ (no_memory fetches) is told took = absurd (memory_script is)
 
-      by : (r : Status) → Written run.own run.text taken taken' faults faults' r → r ≡ status.Script
-          → RefusesFile words files taken taken'
+      by : (r : Status) → Written run.own run.text seen.taken seen.taken' seen.faults seen.faults' r → r ≡ status.Script
+          → RefusesFile knows seen
       by _ (whole took steady) is = own run.fetches run.own run.text run.answers is run.told took
       by _ (stopped n short took rose) is = absurd (write_fault_script is)
 
   -- ---- which status must come, where the shelf tells its files and no fetch failed
 
-  module _ (f : Files) (telling : files ≡ Some f) (steady : failures' ≡ failures) where
+  module _ (f : Files) (read : ReadFrom seen f) where
     none_failed : failed_names run.fetches ≡ []
-    none_failed = none_added failures (failed_names run.fetches) (sym steady ∙ run.noted)
+    none_failed = none_added seen.failures (failed_names run.fetches) (sym read.steady ∙ run.noted)
 
     told : AllByRecursion (Gave (Some f)) run.fetches
-    told = subst (λ fs. AllByRecursion (Gave fs) run.fetches) telling run.told
+    told = subst (λ fs. AllByRecursion (Gave fs) run.fetches) read.tells run.told
 
     -- the status of an answer to a command is the run's, unless memory ran out or the sink failed
     ends :
-        (command : Command) (due : Status) → Asks words command
-        → (Answer command run.fetches run.own run.text → run.own ≡ due) → Ends result due
-    ends command due asks of_answer = by result run.written
+        (command : Command) (due : Status) → AsksOf knows seen.words command
+        → (Answer command run.fetches run.own run.text → run.own ≡ due) → Ends seen.status due
+    ends command due asks of_answer = by seen.status run.written
       where
         own : Answer command run.fetches run.own run.text ⊎ (run.own ≡ status.NoMemory) → Ends run.own due
         own (inl answer) = inl (of_answer answer)
         own (inr memory) = inr (inl memory)
 
-        by : (r : Status) → Written run.own run.text taken taken' faults faults' r → Ends r due
-        by _ (whole took same) = own (of_words words command run.fetches run.own run.text asks run.answers)
+        by : (r : Status) → Written run.own run.text seen.taken seen.taken' seen.faults seen.faults' r → Ends r due
+        by _ (whole took same) = own (of_words knows seen.words command run.fetches run.own run.text asks run.answers)
         by _ (stopped n short took rose) = inr (inr refl)
 
     -- the description of an answer to what is wanted of it
@@ -494,10 +495,10 @@ module _ (words : List (List ℕ)) (files : Option Files) (failures failures' : 
 
     -- whatever is wanted
     wanted_ends :
-        (file : List ℕ) (query : Query) (due : Status) → Wants (Some f) words file query
+        (file : List ℕ) (query : Query) (due : Status) → Wants knows (Some f) seen.words file query
         → ((given : Fetched) (own : Status) (text : List ℕ) → DescriptionAnswers file query given own text → failed_names (fetch_of file given ∷ []) ≡ []
         → Gave (Some f) (fetch_of file given) → own ≡ due)
-        → Ends result due
+        → Ends seen.status due
     wanted_ends file (queries.Graph call) due wants of_answer =
         ends (commands.Flat file call) due wants
         (λ answer. described file (queries.Graph call) (λ s. s ≡ due) of_answer run.fetches run.own run.text answer none_failed told)
@@ -508,7 +509,7 @@ module _ (words : List (List ℕ)) (files : Option Files) (failures failures' : 
         ends (commands.Replay file wants.0) due wants.2
         (λ answer. of_events file wants.0 wants.1 events_file (λ s. s ≡ due) wants.3 wants.4 wants.5 of_answer run.fetches run.own run.text answer none_failed told)
 
-    pub must_refuse : (file : List ℕ) (query : Query) → Wants (Some f) words file query → MustRefuse query (f file) → Ends result status.Description
+    pub must_refuse : (file : List ℕ) (query : Query) → Wants knows (Some f) seen.words file query → MustRefuse query (f file) → Ends seen.status status.Description
     must_refuse file query wants must = wanted_ends file query status.Description wants of_answer
       where
         of_answer :
@@ -520,8 +521,8 @@ module _ (words : List (List ℕ)) (files : Option Files) (failures failures' : 
         of_answer _ _ _ (answered text own written gives) none gave = absurd (need_not query (f file) text own written must gave.1 gave.0 gives)
 
     pub answers_as :
-        (file : List ℕ) (query : Query) (text : List ℕ) (own : Status) (written : List ℕ) → Wants (Some f) words file query → f file ≡ Some text
-        → length text ≤ file_limit → AnswersQuery query text own written → Ends result own
+        (file : List ℕ) (query : Query) (text : List ℕ) (own : Status) (written : List ℕ) → Wants knows (Some f) seen.words file query → f file ≡ Some text
+        → length text ≤ file_limit → AnswersQuery query text own written → Ends seen.status own
     answers_as file query text due written wants holds within gives = wanted_ends file query due wants of_answer
       where
         of_answer :
@@ -535,7 +536,7 @@ module _ (words : List (List ℕ)) (files : Option Files) (failures failures' : 
             gives_one query text own due also written (subst (λ t. AnswersQuery query t own also) (same_content (f file) other text gave.1 holds) gave_) gives
 
     pub every_script :
-        (file name : List ℕ) → Asks words (commands.Replay file name) → MustRefuseEvents (f name) → Ends result status.Script
+        (file name : List ℕ) → AsksOf knows seen.words (commands.Replay file name) → MustRefuseEvents (f name) → Ends seen.status status.Script
     every_script file name asks must = ends (commands.Replay file name) status.Script asks of_answer
       where
         of : (given : Fetched) (own : Status) (text : List ℕ) → EventsAnswers name given own text → failed_names (fetch_of name given ∷ []) ≡ [] → own ≡ status.Script
@@ -551,10 +552,10 @@ module _ (words : List (List ℕ)) (files : Option Files) (failures failures' : 
 
     -- the status of an answer to a report
     of_report :
-        (file : List ℕ) (due : Status) → Asks words (commands.Upgrade file)
+        (file : List ℕ) (due : Status) → AsksOf knows seen.words (commands.Upgrade file)
         → ((given : Fetched) (own : Status) (text : List ℕ) → ReportAnswers file given own text → failed_names (report_fetch file given ∷ []) ≡ []
         → Gave (Some f) (report_fetch file given) → own ≡ due)
-        → Ends result due
+        → Ends seen.status due
     of_report file due asks of_answer = ends (commands.Upgrade file) due asks own
       where
         own : OfReport file run.fetches run.own run.text → run.own ≡ due
@@ -564,7 +565,7 @@ module _ (words : List (List ℕ)) (files : Option Files) (failures failures' : 
 
     pub must_refuse_report :
         ((bytes : List ℕ) (r : Report) (fault : ReportFault) → TellsReport bytes r → IsReportFault bytes fault → ⊥)
-        → (file : List ℕ) → Asks words (commands.Upgrade file) → MustRefuseReport (f file) → Ends result status.Script
+        → (file : List ℕ) → AsksOf knows seen.words (commands.Upgrade file) → MustRefuseReport (f file) → Ends seen.status status.Script
     must_refuse_report never file asks must = of_report file status.Script asks of_answer
       where
         of_answer :
@@ -576,7 +577,7 @@ module _ (words : List (List ℕ)) (files : Option Files) (failures failures' : 
         of_answer _ _ _ (upgraded bytes r reads) none gave = absurd (need_no_fault never (f file) bytes r must gave.1 gave.0 reads)
 
     -- a report in which no line is at fault
-    pub completes_report : (file : List ℕ) → Asks words (commands.Upgrade file) → NothingRefusesReport (f file) → Ends result status.Ok
+    pub completes_report : (file : List ℕ) → AsksOf knows seen.words (commands.Upgrade file) → NothingRefusesReport (f file) → Ends seen.status status.Ok
     completes_report file asks nothing = of_report file status.Ok asks of_answer
       where
         of_answer :
@@ -594,17 +595,17 @@ module _ (words : List (List ℕ)) (files : Option Files) (failures failures' : 
     AsGiven file query own = IsSomeAnd (f file) (λ text. (written : List ℕ) × AnswersQuery query text own written)
 
     given_end :
-        (file : List ℕ) (query : Query) (command : Command) → Asks words command
-        → (Answer command run.fetches run.own run.text → AsGiven file query run.own) → EndsAsGiven query (f file) result
+        (file : List ℕ) (query : Query) (command : Command) → AsksOf knows seen.words command
+        → (Answer command run.fetches run.own run.text → AsGiven file query run.own) → EndsAsGiven query (f file) seen.status
     unfolding AsGiven
-    given_end file query command asks of_answer = by result run.written
+    given_end file query command asks of_answer = by seen.status run.written
       where
         own : Answer command run.fetches run.own run.text ⊎ (run.own ≡ status.NoMemory) → EndsAsGiven query (f file) run.own
         own (inl answer) = inl (of_answer answer)
         own (inr memory) = inr (inl memory)
 
-        by : (r : Status) → Written run.own run.text taken taken' faults faults' r → EndsAsGiven query (f file) r
-        by _ (whole took same) = own (of_words words command run.fetches run.own run.text asks run.answers)
+        by : (r : Status) → Written run.own run.text seen.taken seen.taken' seen.faults seen.faults' r → EndsAsGiven query (f file) r
+        by _ (whole took same) = own (of_words knows seen.words command run.fetches run.own run.text asks run.answers)
         by _ (stopped n short took rose) = inr (inr refl)
 
     completes_with :
@@ -617,7 +618,7 @@ module _ (words : List (List ℕ)) (files : Option Files) (failures failures' : 
     completes_with file query nothing _ _ _ (refused text why refuses) none gave = absurd (none_refuses query (f file) text why nothing gave.1 refuses)
     completes_with file query nothing _ _ _ (answered text own written gives) none gave = held_gives query (f file) text own written gave.1 gives
 
-    pub completes : (file : List ℕ) (query : Query) → Wants (Some f) words file query → NothingRefuses query (f file) → EndsAsGiven query (f file) result
+    pub completes : (file : List ℕ) (query : Query) → Wants knows (Some f) seen.words file query → NothingRefuses query (f file) → EndsAsGiven query (f file) seen.status
     completes file (queries.Graph call) wants nothing =
         given_end file (queries.Graph call) (commands.Flat file call) wants
         (λ answer. described file (queries.Graph call) (AsGiven file (queries.Graph call)) (completes_with file (queries.Graph call) nothing) run.fetches run.own run.text answer none_failed told)
@@ -632,15 +633,15 @@ module _ (words : List (List ℕ)) (files : Option Files) (failures failures' : 
     -- ---- clauses of one command
 
     pub every_graph :
-        (file : List ℕ) (call : TopCall) (text : List ℕ) (graph : Graph) → Asks words (commands.Flat file call) → f file ≡ Some text
-        → length text ≤ file_limit → HasGraph text call.top call.args graph → Ends result status.Ok
+        (file : List ℕ) (call : TopCall) (text : List ℕ) (graph : Graph) → AsksOf knows seen.words (commands.Flat file call) → f file ≡ Some text
+        → length text ≤ file_limit → HasGraph text call.top call.args graph → Ends seen.status status.Ok
     every_graph file call text graph asks holds within has =
         answers_as file (queries.Graph call) text status.Ok (graph_text graph) asks holds within (refl, (graph, has, refl))
 
     pub every_denial :
-        (file : List ℕ) (events_file : EventFile) (text : List ℕ) (graph : Graph) (number rule : ℕ) → Wants (Some f) words file (queries.Replay events_file)
+        (file : List ℕ) (events_file : EventFile) (text : List ℕ) (graph : Graph) (number rule : ℕ) → Wants knows (Some f) seen.words file (queries.Replay events_file)
         → f file ≡ Some text → length text ≤ file_limit → Starts text events_file.name events_file.args graph → IsDenied (started graph) events_file.events number rule
-        → Ends result status.Denied
+        → Ends seen.status status.Denied
     every_denial file events_file text graph number rule wants holds within starts is =
         answers_as file (queries.Replay events_file) text status.Denied (denied_line number rule) wants holds within
         (record {

@@ -1,8 +1,7 @@
 -- What an answer of words says, by the command that they ask for.
-use Rattle.std.proofs.Common.{◌≡◌, ◌≢◌, ◌∙◌, ◌⊎◌, inl, inr, ℕ, Bool, true, false, if◌then◌else◌, List, [], ◌∷◌, ◌++◌, Option, Some, codes, refl, sym, ap, subst}
+use Rattle.std.proofs.Common.{◌≡◌, ◌≢◌, ◌∙◌, ◌⊎◌, inl, inr, ℕ, Bool, true, false, if◌then◌else◌, List, [], ◌∷◌, ◌++◌, Some, codes, refl, sym, ap, subst}
 use Rattle.std.specs.Prelude.{◌==◌}
 use Rattle.std.specs.List.{AllByRecursion}
-use Rattle.cfg_io.specs.Shelf.{Files}
 use Rattle.change_script.specs.declared.event_files.EventFile.{EventFile}
 use Rattle.change_script.specs.EventFiles.{IsEventFile}
 use Rattle.change_script.specs.ScriptFiles.{IsScript}
@@ -11,7 +10,7 @@ use Rattle.command_answers.specs.declared.status.Status.{Status}
 use Rattle.command_answers.specs.declared.status.Status.TheVariants as status
 use Rattle.command_words.specs.declared.words.Command.{Command}
 use Rattle.command_words.specs.declared.words.Command.TheVariants as commands
-use Rattle.command_words.specs.CommandLine.{Asks, HasNoForm}
+use Rattle.command_runs.specs.Known.{AsksOf, HasNoForm}
 use Rattle.command_runs.specs.declared.query.Query.{Query}
 use Rattle.command_runs.specs.declared.query.Query.TheVariants as queries
 use Rattle.command_runs.specs.declared.fetched.Fetched.{Fetched}
@@ -24,13 +23,14 @@ use Rattle.change_script.specs.Reports.{report_text}
 use Rattle.change_script.specs.declared.report.Report.{Report}
 use Rattle.command_answers.specs.Summaries.{summary_text}
 use Rattle.command_runs.specs.Commands.{course_of, course_of_script, in_summary, OfMadeFiles}
-use Rattle.command_runs.specs.Courses.{not_fetched, fetched_alone, failed, too_long, leads_on, not_judged}
+use Rattle.command_runs.specs.Courses.{FetchCourse, not_fetched, fetched_alone, failed, too_long, leads_on, not_judged}
 use Rattle.command_runs.specs.Courses as courses
 use Rattle.command_runs.specs.Fetches.{Fetch, fetch_of, failed_names, Gave, report_fetch}
-use Rattle.command_runs.specs.Lines.{RunLine, uses, calls, does, Progress, begun, with_description, with_statement, running, FollowsLines}
+use Rattle.command_runs.specs.Lines.{RunLine, uses, calls, does, Progress, begun, with_description, with_statement, running, behind, FollowsLines}
 use Rattle.command_runs.specs.OneFile.{DescriptionAnswers, cannot_read, is_too_long, refused, answered, EventsAnswers, cannot_read_events, events_file_too_long, events_file_at_fault, ScriptAnswers, cannot_read_script, script_file_too_long, script_file_at_fault, ReportAnswers, cannot_read_report, report_too_long, report_at_fault, upgraded}
-use Rattle.command_runs.specs.Runs.{Written, AnswersWords, asked, Runs}
+use Rattle.command_runs.specs.Runs.{Written, AnswersWords, asked, Run, Runs}
 use Rattle.command_runs.specs.Runs as runs
+use Rattle.command_runs.specs.Schedules.{Schedule, rounds}
 use Rattle.command_runs.specs.Scripts.{lines_of_script}
 use Rattle.command_words.proofs.WordsLaws.{one_command}
 use Rattle.command_runs.proofs.Courses.{OfQuery, out_of_memory, of_description, from_query}
@@ -61,26 +61,35 @@ run_own_with false false = plain status.Ok well
 run_own : (n : ℕ) → Own (run_status n)
 run_own n = run_own_with (n == 7) (n == 8)
 
--- of lines that are run
-follows_status :
-    (p : Progress) (lines : List RunLine) (fetches : List Fetch) (answer : values.Answer) → FollowsLines running p lines fetches answer
+-- of lines, behind which a status comes that a command may have, or memory runs out
+module _
+    (Then : Progress → FetchCourse)
+    (of_end : (p : Progress) (fetches : List Fetch) (answer : values.Answer) → Then p fetches answer → Own (status_of answer) ⊎ (answer ≡ refusal values.no_memory))
+  where
+    follows_status :
+        (p : Progress) (lines : List RunLine) (fetches : List Fetch) (answer : values.Answer) → FollowsLines Then p lines fetches answer
+        → Own (status_of answer) ⊎ (answer ≡ refusal values.no_memory)
+    follows_status p [] fetches answer then_ = of_end p fetches answer then_
+    follows_status p (uses file ∷ lines) _ _ not_fetched = inr refl
+    follows_status p (uses file ∷ lines) _ _ (fetched_alone what) = inr refl
+    follows_status p (uses file ∷ lines) _ _ failed = inl (plain status.ReadFault read_fault)
+    follows_status p (uses file ∷ lines) _ _ too_long = inl (plain status.Description description)
+    follows_status p (uses file ∷ lines) _ _ (leads_on bytes _ _ not_judged) = inr refl
+    follows_status p (uses file ∷ lines) _ _ (leads_on bytes _ _ (courses.refused words why)) = inl (plain status.Description description)
+    follows_status p (uses file ∷ lines) _ _ (leads_on bytes _ _ (courses.gives tree fetches answer checked follows)) =
+        follows_status (with_description p file tree) lines fetches answer follows
+    follows_status p (calls deed name args ∷ lines) _ _ not_judged = inr refl
+    follows_status p (calls deed name args ∷ lines) _ _ (courses.refused words why) = inl (plain status.Description description)
+    follows_status p (calls deed name args ∷ lines) _ _ (courses.gives next fetches answer leads follows) = follows_status next lines fetches answer follows
+    follows_status p (does what ∷ lines) fetches answer follows = follows_status (with_statement p what) lines fetches answer follows
+
+-- of a run that is behind them
+run_status_behind :
+    (schedule : Schedule) (p : Progress) (fetches : List Fetch) (answer : values.Answer) → behind (running schedule) p fetches answer
     → Own (status_of answer) ⊎ (answer ≡ refusal values.no_memory)
-follows_status p [] _ _ not_judged = inr refl
-follows_status p [] _ _ (courses.refused words never) = absurd never
-follows_status p [] _ _ (courses.gives what fetches answer concludes says) =
+run_status_behind schedule p _ _ courses.not_made = inr refl
+run_status_behind schedule p _ _ (courses.makes what fetches answer concludes says) =
     inl (subst (λ a. Own (status_of a)) (sym (says.1 ∙ concludes.2)) (run_own concludes.0.status))
-follows_status p (uses file ∷ lines) _ _ not_fetched = inr refl
-follows_status p (uses file ∷ lines) _ _ (fetched_alone what) = inr refl
-follows_status p (uses file ∷ lines) _ _ failed = inl (plain status.ReadFault read_fault)
-follows_status p (uses file ∷ lines) _ _ too_long = inl (plain status.Description description)
-follows_status p (uses file ∷ lines) _ _ (leads_on bytes _ _ not_judged) = inr refl
-follows_status p (uses file ∷ lines) _ _ (leads_on bytes _ _ (courses.refused words why)) = inl (plain status.Description description)
-follows_status p (uses file ∷ lines) _ _ (leads_on bytes _ _ (courses.gives tree fetches answer checked follows)) =
-    follows_status (with_description p file tree) lines fetches answer follows
-follows_status p (calls deed name args ∷ lines) _ _ not_judged = inr refl
-follows_status p (calls deed name args ∷ lines) _ _ (courses.refused words why) = inl (plain status.Description description)
-follows_status p (calls deed name args ∷ lines) _ _ (courses.gives next fetches answer leads follows) = follows_status next lines fetches answer follows
-follows_status p (does what ∷ lines) fetches answer follows = follows_status (with_statement p what) lines fetches answer follows
 
 -- ---- what is answered, by what was fetched
 
@@ -122,13 +131,13 @@ shown_text show (values.ran r) = show r
 shown_text show (values.summary lanes r) = text_of (values.summary lanes r)
 
 -- an answer of a script: it isn't one, or its lines have an answer that isn't for want of memory
-pub data OfStep (show : Report → List ℕ) (name : List ℕ) : List Fetch → Status → List ℕ → Type 0 where
+pub data OfStep (schedule : Schedule) (show : Report → List ℕ) (name : List ℕ) : List Fetch → Status → List ℕ → Type 0 where
   of_script :
-      (given : Fetched) (own : Status) (text : List ℕ) → ScriptAnswers name given own text → OfStep show name (fetch_of name given ∷ []) own text
+      (given : Fetched) (own : Status) (text : List ℕ) → ScriptAnswers name given own text → OfStep schedule show name (fetch_of name given ∷ []) own text
   of_lines :
       (bytes : List ℕ) (parsed : Script) (fetches : List Fetch) (answer : values.Answer) → IsScript bytes parsed
-      → FollowsLines running begun (lines_of_script parsed.lines) fetches answer → Own (status_of answer)
-      → OfStep show name (fetch_of name (Held bytes) ∷ fetches) (status_of answer) (shown_text show answer)
+      → FollowsLines (behind (running schedule)) begun (lines_of_script parsed.lines) fetches answer → Own (status_of answer)
+      → OfStep schedule show name (fetch_of name (Held bytes) ∷ fetches) (status_of answer) (shown_text show answer)
 
 -- an answer of a script that was made, by its own fetches
 pub record OfBig (lanes : ℕ) (fetches : List Fetch) (own : Status) (text : List ℕ) : Type 0 where
@@ -136,7 +145,7 @@ pub record OfBig (lanes : ℕ) (fetches : List Fetch) (own : Status) (text : Lis
   pub within : List Fetch
   pub told : AllByRecursion (Gave (Some (made_files lanes))) within
   pub none_failed : failed_names within ≡ []
-  pub answer : OfStep (summary_text lanes) script_name within own text
+  pub answer : OfStep rounds (summary_text lanes) script_name within own text
 
 -- what is answered to a command
 abbrev pub Answer : Command → List Fetch → Status → List ℕ → Type 0
@@ -146,13 +155,13 @@ Answer (commands.Flat file call) fetches own text = OfDescription file (queries.
 Answer (commands.Plan file call target) fetches own text = OfDescription file (queries.Plan call target) fetches own text
 Answer (commands.Replay file name) fetches own text = OfScript name fetches own text ⊎ OfReplay file name fetches own text
 Answer (commands.Upgrade file) fetches own text = OfReport file fetches own text
-Answer (commands.Step name) fetches own text = OfStep report_text name fetches own text
+Answer (commands.Step name) fetches own text = OfStep rounds report_text name fetches own text
 Answer (commands.Big lanes) fetches own text = OfBig lanes fetches own text
 
-module _ (show : Report → List ℕ) (name : List ℕ) where
+module _ (schedule : Schedule) (show : Report → List ℕ) (name : List ℕ) where
   pub from_script :
-      (fetches : List Fetch) (answer : values.Answer) → course_of_script name fetches answer
-      → OfStep show name fetches (status_of answer) (shown_text show answer) ⊎ (answer ≡ refusal values.no_memory)
+      (fetches : List Fetch) (answer : values.Answer) → course_of_script (behind (running schedule)) name fetches answer
+      → OfStep schedule show name fetches (status_of answer) (shown_text show answer) ⊎ (answer ≡ refusal values.no_memory)
   from_script _ _ not_fetched = inr refl
   from_script _ _ (fetched_alone what) = inr refl
   from_script _ _ failed = inl (of_script Failed status.ReadFault (read_fault_line name) cannot_read_script)
@@ -162,10 +171,10 @@ module _ (show : Report → List ℕ) (name : List ℕ) where
       inl (of_script (Held bytes) status.Script (script_line name words)
       (subst (λ w. ScriptAnswers name (Held bytes) status.Script (script_line name w)) (sym is) (script_file_at_fault bytes fault first)))
   from_script _ _ (leads_on bytes _ _ (courses.gives parsed fetches answer is follows)) =
-      by (follows_status begun (lines_of_script parsed.lines) fetches answer follows)
+      by (follows_status (behind (running schedule)) (run_status_behind schedule) begun (lines_of_script parsed.lines) fetches answer follows)
     where
       by : Own (status_of answer) ⊎ (answer ≡ refusal values.no_memory)
-          → OfStep show name (fetch_of name (Held bytes) ∷ fetches) (status_of answer) (shown_text show answer) ⊎ (answer ≡ refusal values.no_memory)
+          → OfStep schedule show name (fetch_of name (Held bytes) ∷ fetches) (status_of answer) (shown_text show answer) ⊎ (answer ≡ refusal values.no_memory)
       by (inl own) = inl (of_lines bytes parsed fetches answer is follows own)
       by (inr short) = inr short
 
@@ -198,14 +207,14 @@ summary_shown lanes (values.summary other r) = (refl, refl)
 from_made :
     (lanes : ℕ) (fetches : List Fetch) (answer : values.Answer) → fetches ≡ [] → OfMadeFiles lanes answer
     → OfBig lanes fetches (status_of answer) (text_of answer) ⊎ (answer ≡ refusal values.no_memory)
-from_made lanes fetches answer none of_made = by (from_script (summary_text lanes) script_name of_made.own of_made.made of_made.course)
+from_made lanes fetches answer none of_made = by (from_script rounds (summary_text lanes) script_name of_made.own of_made.made of_made.course)
   where
     shown : (status_of answer ≡ status_of of_made.made) × (text_of answer ≡ shown_text (summary_text lanes) of_made.made)
     shown =
         let s = summary_shown lanes of_made.made in
         (ap status_of of_made.is ∙ s.0, ap text_of of_made.is ∙ s.1)
 
-    by : OfStep (summary_text lanes) script_name of_made.own (status_of of_made.made) (shown_text (summary_text lanes) of_made.made)
+    by : OfStep rounds (summary_text lanes) script_name of_made.own (status_of of_made.made) (shown_text (summary_text lanes) of_made.made)
         ⊎ (of_made.made ≡ refusal values.no_memory)
         → OfBig lanes fetches (status_of answer) (text_of answer) ⊎ (answer ≡ refusal values.no_memory)
     by (inl of) = inl (record {
@@ -214,8 +223,8 @@ from_made lanes fetches answer none of_made = by (from_script (summary_text lane
       told = of_made.told;
       none_failed = of_made.none_failed;
       answer =
-          subst (λ s. OfStep (summary_text lanes) script_name of_made.own s (text_of answer)) (sym shown.0)
-          (subst (λ t. OfStep (summary_text lanes) script_name of_made.own (status_of of_made.made) t) (sym shown.1) of);
+          subst (λ s. OfStep rounds (summary_text lanes) script_name of_made.own s (text_of answer)) (sym shown.0)
+          (subst (λ t. OfStep rounds (summary_text lanes) script_name of_made.own (status_of of_made.made) t) (sym shown.1) of);
     })
     by (inr short) = inr (of_made.is ∙ ap (in_summary lanes) short)
 
@@ -273,49 +282,50 @@ from_command (commands.Upgrade file) _ _ (leads_on bytes _ _ (courses.gives r fe
       is = ap (λ fs. report_fetch file (Held bytes) ∷ fs) says.0;
       answer = subst (λ a. ReportAnswers file (Held bytes) (status_of a) (text_of a)) (sym says.1) (upgraded bytes r is);
     })
-from_command (commands.Step name) fetches answer course = by (from_script report_text name fetches answer course)
+from_command (commands.Step name) fetches answer course = by (from_script rounds report_text name fetches answer course)
   where
-    by : OfStep report_text name fetches (status_of answer) (shown_text report_text answer) ⊎ (answer ≡ refusal values.no_memory)
-        → OfStep report_text name fetches (status_of answer) (text_of answer) ⊎ (answer ≡ refusal values.no_memory)
-    by (inl of) = inl (subst (λ t. OfStep report_text name fetches (status_of answer) t) (shown_as_is answer) of)
+    by : OfStep rounds report_text name fetches (status_of answer) (shown_text report_text answer) ⊎ (answer ≡ refusal values.no_memory)
+        → OfStep rounds report_text name fetches (status_of answer) (text_of answer) ⊎ (answer ≡ refusal values.no_memory)
+    by (inl of) = inl (subst (λ t. OfStep rounds report_text name fetches (status_of answer) t) (shown_as_is answer) of)
     by (inr short) = inr short
 from_command (commands.Big lanes) fetches answer course = from_made lanes fetches answer course.0 course.1
 
 -- the status and the text of an answer to words
-pub data AnswersCommand (words : List (List ℕ)) : List Fetch → Status → List ℕ → Type 0 where
-  no_form : HasNoForm words → AnswersCommand words [] status.Usage usage_line
+pub data AnswersCommand (knows : Command → Bool) (words : List (List ℕ)) : List Fetch → Status → List ℕ → Type 0 where
+  no_form : HasNoForm knows words → AnswersCommand knows words [] status.Usage usage_line
   answered_to :
-      (command : Command) (fetches : List Fetch) (own : Status) (text : List ℕ) → Asks words command → Answer command fetches own text
-      → AnswersCommand words fetches own text
-  no_memory : (fetches : List Fetch) → AnswersCommand words fetches status.NoMemory no_memory_line
+      (command : Command) (fetches : List Fetch) (own : Status) (text : List ℕ) → AsksOf knows words command → Answer command fetches own text
+      → AnswersCommand knows words fetches own text
+  no_memory : (fetches : List Fetch) → AnswersCommand knows words fetches status.NoMemory no_memory_line
 
-pub from_words : (words : List (List ℕ)) (fetches : List Fetch) (answer : values.Answer) → AnswersWords words fetches answer → AnswersCommand words fetches (status_of answer) (text_of answer)
-from_words words _ _ (runs.no_form none) = no_form none
-from_words words _ _ runs.not_read = no_memory []
-from_words words _ _ (asked command fetches answer asks course) = by (from_command command fetches answer course)
+pub from_words :
+    (knows : Command → Bool) (words : List (List ℕ)) (fetches : List Fetch) (answer : values.Answer) → AnswersWords knows words fetches answer
+    → AnswersCommand knows words fetches (status_of answer) (text_of answer)
+from_words knows words _ _ (runs.no_form none) = no_form none
+from_words knows words _ _ runs.not_read = no_memory []
+from_words knows words _ _ (asked command fetches answer asks course) = by (from_command command fetches answer course)
   where
-    by : Answer command fetches (status_of answer) (text_of answer) ⊎ (answer ≡ refusal values.no_memory) → AnswersCommand words fetches (status_of answer) (text_of answer)
+    by : Answer command fetches (status_of answer) (text_of answer) ⊎ (answer ≡ refusal values.no_memory)
+        → AnswersCommand knows words fetches (status_of answer) (text_of answer)
     by (inl to) = answered_to command fetches (status_of answer) (text_of answer) asks to
-    by (inr is) = subst (λ a. AnswersCommand words fetches (status_of a) (text_of a)) (sym is) (no_memory fetches)
+    by (inr is) = subst (λ a. AnswersCommand knows words fetches (status_of a) (text_of a)) (sym is) (no_memory fetches)
 
 -- a run by the status and the text of its answer
-pub record Ran (words : List (List ℕ)) (files : Option Files) (failures failures' : List (List ℕ)) (taken taken' : Option (List ℕ)) (faults faults' : ℕ) (result : Status) : Type 0 where
+pub record Ran (knows : Command → Bool) (r : Run) : Type 0 where
   pub fetches : List Fetch
   pub own : Status
   pub text : List ℕ
-  pub answers : AnswersCommand words fetches own text
-  pub noted : failures' ≡ failures ++ failed_names fetches
-  pub told : AllByRecursion (Gave files) fetches
-  pub written : Written own text taken taken' faults faults' result
+  pub answers : AnswersCommand knows r.words fetches own text
+  pub noted : r.failures' ≡ r.failures ++ failed_names fetches
+  pub told : AllByRecursion (Gave r.files) fetches
+  pub written : Written own text r.taken r.taken' r.faults r.faults' r.status
 
-pub ran :
-    (words : List (List ℕ)) (files : Option Files) (failures failures' : List (List ℕ)) (taken taken' : Option (List ℕ)) (faults faults' : ℕ) (result : Status)
-    → Runs words files failures failures' taken taken' faults faults' result → Ran words files failures failures' taken taken' faults faults' result
-ran words files failures failures' taken taken' faults faults' result run = record {
+pub ran : (knows : Command → Bool) (r : Run) → Runs knows r → Ran knows r
+ran knows r run = record {
   fetches = run.fetches;
   own = status_of run.answer;
   text = text_of run.answer;
-  answers = from_words words run.fetches run.answer run.answers;
+  answers = from_words knows r.words run.fetches run.answer run.answers;
   noted = run.noted;
   told = run.told;
   written = run.written;
@@ -323,12 +333,12 @@ ran words files failures failures' taken taken' faults faults' result run = reco
 
 -- the answer of words that ask for a command, unless memory ran out
 pub of_words :
-    (words : List (List ℕ)) (command : Command) (fetches : List Fetch) (own : Status) (text : List ℕ) → Asks words command → AnswersCommand words fetches own text
-    → Answer command fetches own text ⊎ (own ≡ status.NoMemory)
-of_words words command _ _ _ asks (no_form none) = absurd (none command asks)
-of_words words command _ _ _ asks (answered_to other fetches own text also to) =
-    inl (subst (λ c. Answer c fetches own text) (one_command words other command also asks) to)
-of_words words command _ _ _ asks (no_memory fetches) = inr refl
+    (knows : Command → Bool) (words : List (List ℕ)) (command : Command) (fetches : List Fetch) (own : Status) (text : List ℕ)
+    → AsksOf knows words command → AnswersCommand knows words fetches own text → Answer command fetches own text ⊎ (own ≡ status.NoMemory)
+of_words knows words command _ _ _ asks (no_form none) = absurd (none command asks)
+of_words knows words command _ _ _ asks (answered_to other fetches own text also to) =
+    inl (subst (λ c. Answer c fetches own text) (one_command words other command also.1 asks.1) to)
+of_words knows words command _ _ _ asks (no_memory fetches) = inr refl
 
 -- ---- statuses of answers
 
@@ -359,9 +369,11 @@ statements_status name _ _ _ cannot_read_script = read_fault
 statements_status name _ _ _ script_file_too_long = script
 statements_status name _ _ _ (script_file_at_fault bytes fault first) = script
 
-step_status : (show : Report → List ℕ) (name : List ℕ) (fetches : List Fetch) (own : Status) (text : List ℕ) → OfStep show name fetches own text → Own own
-step_status show name _ _ _ (of_script given own text answer) = plain own (statements_status name given own text answer)
-step_status show name _ _ _ (of_lines bytes parsed fetches answer is follows own) = own
+step_status :
+    (schedule : Schedule) (show : Report → List ℕ) (name : List ℕ) (fetches : List Fetch) (own : Status) (text : List ℕ) → OfStep schedule show name fetches own text
+    → Own own
+step_status schedule show name _ _ _ (of_script given own text answer) = plain own (statements_status name given own text answer)
+step_status schedule show name _ _ _ (of_lines bytes parsed fetches answer is follows own) = own
 
 pub command_status : (command : Command) (fetches : List Fetch) (own : Status) (text : List ℕ) → Answer command fetches own text → Own own
 command_status commands.Help fetches own text answer = rw answer.0 (plain status.Ok well)
@@ -371,8 +383,8 @@ command_status (commands.Plan file call target) fetches own text answer = plain 
 command_status (commands.Replay file name) fetches own text (inl answer) = plain own (script_status name answer.given own text answer.answer)
 command_status (commands.Replay file name) fetches own text (inr answer) = plain own (description_status file (queries.Replay answer.events_file) answer.given own text answer.answer)
 command_status (commands.Upgrade file) fetches own text answer = plain own (report_status file answer.given own text answer.answer)
-command_status (commands.Step name) fetches own text answer = step_status report_text name fetches own text answer
-command_status (commands.Big lanes) fetches own text answer = step_status (summary_text lanes) script_name answer.within own text answer.answer
+command_status (commands.Step name) fetches own text answer = step_status rounds report_text name fetches own text answer
+command_status (commands.Big lanes) fetches own text answer = step_status rounds (summary_text lanes) script_name answer.within own text answer.answer
 
 pub not_usage : (own : Status) → Own own → own ≢ status.Usage
 not_usage _ (plain _ well) is = cc

@@ -1,67 +1,80 @@
 -- What a run says of what was written, by the command that its words ask for.
-use Rattle.std.proofs.Common.{◌≡◌, ℕ, List, Option, Some}
+use Rattle.std.proofs.Common.{◌≡◌, ℕ, Bool, List, Some}
 use Rattle.cfg_io.specs.Shelf.{Files}
-use Rattle.command_answers.specs.declared.status.Status.{Status}
 use Rattle.command_answers.specs.declared.status.Status.TheVariants as status
-use Rattle.command_words.specs.CommandLine.{Asks}
+use Rattle.command_answers.specs.Answers.{Answer}
+use Rattle.command_runs.specs.Known.{AsksOf}
+use Rattle.command_words.specs.declared.words.Command.{Command}
 use Rattle.command_words.specs.declared.words.Command.TheVariants as commands
 use Rattle.command_words.specs.declared.words.TopCall.{TopCall}
 use Rattle.big_files.specs.BigFiles.{made_files, script_name}
 use Rattle.command_runs.specs.Outcomes as outcomes
-use Rattle.command_runs.specs.Outcomes.{Flattened, Planned, Replayed, Upgraded, IsRunStatus, NothingRefuses, EndsAsGiven, NothingRefusesReport, Ends, NothingRefusesLines, EndsAsRun, Wants}
-use Rattle.command_runs.specs.Runs.{Runs}
+use Rattle.command_runs.specs.Outcomes.{ReadFrom, Flattened, Planned, Replayed, Upgraded, IsRunStatus, NothingRefuses, EndsAsGiven, NothingRefusesReport, Ends, NothingRefusesLines, EndsAsRun, Wants}
+use Rattle.command_runs.specs.Runs.{Run, RunsWith, Runs}
 use Rattle.command_runs.specs.declared.query.Query.{Query}
 use Rattle.command_runs.proofs.Flattening as flattening
 use Rattle.command_runs.proofs.Inverting.{ran}
 use Rattle.command_runs.proofs.Stepping as stepping
 
-module _ (words : List (List ℕ)) (files : Option Files) (failures failures' : List (List ℕ)) (taken taken' : Option (List ℕ)) (faults faults' : ℕ) (result : Status) (run : Runs words files failures failures' taken taken' faults faults' result) where
+-- a run with an answer of a kind is a run
+pub runs_with : (Is : Answer → Type 0) (knows : Command → Bool) (seen : Run) → RunsWith Is knows seen → Runs knows seen
+runs_with Is knows seen run = record {
+  fetches = run.fetches;
+  answer = run.answer;
+  is = tt;
+  answers = run.answers;
+  noted = run.noted;
+  told = run.told;
+  written = run.written;
+}
+
+module _ (knows : Command → Bool) (seen : Run) (run : Runs knows seen) where
   pub flattens :
-      (file : List ℕ) (call : TopCall) → Asks words (commands.Flat file call) → result ≡ status.Ok
-      → Flattened files file call taken taken'
-  flattens = flattening.flattens words files failures failures' taken taken' faults faults' result (ran words files failures failures' taken taken' faults faults' result run)
+      (file : List ℕ) (call : TopCall) → AsksOf knows seen.words (commands.Flat file call) → seen.status ≡ status.Ok
+      → Flattened seen.files file call seen.taken seen.taken'
+  flattens = flattening.flattens knows seen (ran knows seen run)
 
   pub plans :
-      (file : List ℕ) (call target : TopCall) → Asks words (commands.Plan file call target) → result ≡ status.Ok
-      → Planned files file call target taken taken'
-  plans = flattening.plans words files failures failures' taken taken' faults faults' result (ran words files failures failures' taken taken' faults faults' result run)
+      (file : List ℕ) (call target : TopCall) → AsksOf knows seen.words (commands.Plan file call target) → seen.status ≡ status.Ok
+      → Planned seen.files file call target seen.taken seen.taken'
+  plans = flattening.plans knows seen (ran knows seen run)
 
   pub replays :
-      (file events : List ℕ) → Asks words (commands.Replay file events) → result ≡ status.Ok
-      → Replayed files file events status.Ok taken taken'
-  replays = flattening.replays words files failures failures' taken taken' faults faults' result (ran words files failures failures' taken taken' faults faults' result run)
+      (file events : List ℕ) → AsksOf knows seen.words (commands.Replay file events) → seen.status ≡ status.Ok
+      → Replayed seen.files file events status.Ok seen.taken seen.taken'
+  replays = flattening.replays knows seen (ran knows seen run)
 
-  pub upgrades : (file : List ℕ) → Asks words (commands.Upgrade file) → result ≡ status.Ok → Upgraded files file taken taken'
-  upgrades = flattening.upgrades words files failures failures' taken taken' faults faults' result (ran words files failures failures' taken taken' faults faults' result run)
+  pub upgrades : (file : List ℕ) → AsksOf knows seen.words (commands.Upgrade file) → seen.status ≡ status.Ok → Upgraded seen.files file seen.taken seen.taken'
+  upgrades = flattening.upgrades knows seen (ran knows seen run)
 
   pub denies :
-      result ≡ status.Denied
-      → (file events : List ℕ) × Asks words (commands.Replay file events) × Replayed files file events status.Denied taken taken'
-  denies = flattening.denies words files failures failures' taken taken' faults faults' result (ran words files failures failures' taken taken' faults faults' result run)
+      seen.status ≡ status.Denied
+      → (file events : List ℕ) × AsksOf knows seen.words (commands.Replay file events) × Replayed seen.files file events status.Denied seen.taken seen.taken'
+  denies = flattening.denies knows seen (ran knows seen run)
 
   -- what a script was run to
-  pub runs : (name : List ℕ) → Asks words (commands.Step name) → IsRunStatus result → outcomes.Ran files name result taken taken'
-  runs = stepping.runs words files failures failures' taken taken' faults faults' result (ran words files failures failures' taken taken' faults faults' result run)
+  pub runs : (name : List ℕ) → AsksOf knows seen.words (commands.Step name) → IsRunStatus seen.status → outcomes.Ran seen.files name seen.status seen.taken seen.taken'
+  runs = stepping.runs knows seen (ran knows seen run)
 
   -- the summary of a run that was made
-  pub sums_up : (lanes : ℕ) → Asks words (commands.Big lanes) → IsRunStatus result → outcomes.SummedUp lanes result taken taken'
-  sums_up = stepping.sums_up words files failures failures' taken taken' faults faults' result (ran words files failures failures' taken taken' faults faults' result run)
+  pub sums_up : (lanes : ℕ) → AsksOf knows seen.words (commands.Big lanes) → IsRunStatus seen.status → outcomes.SummedUp lanes seen.status seen.taken seen.taken'
+  sums_up = stepping.sums_up knows seen (ran knows seen run)
 
-  pub completes_big : (lanes : ℕ) → Asks words (commands.Big lanes) → NothingRefusesLines (made_files lanes) (made_files lanes script_name) → EndsAsRun result
-  completes_big = stepping.completes_big words files failures failures' taken taken' faults faults' result (ran words files failures failures' taken taken' faults faults' result run)
+  pub completes_big : (lanes : ℕ) → AsksOf knows seen.words (commands.Big lanes) → NothingRefusesLines (made_files lanes) (made_files lanes script_name) → EndsAsRun seen.status
+  completes_big = stepping.completes_big knows seen (ran knows seen run)
 
   -- where the shelf tells its files and no fetch failed
   pub completes :
-      (told : Files) → files ≡ Some told → failures' ≡ failures → (file : List ℕ) (query : Query) → Wants (Some told) words file query
-      → NothingRefuses query (told file) → EndsAsGiven query (told file) result
-  completes told telling steady = flattening.completes words files failures failures' taken taken' faults faults' result (ran words files failures failures' taken taken' faults faults' result run) told telling steady
+      (told : Files) → ReadFrom seen told → (file : List ℕ) (query : Query) → Wants knows (Some told) seen.words file query
+      → NothingRefuses query (told file) → EndsAsGiven query (told file) seen.status
+  completes = flattening.completes knows seen (ran knows seen run)
 
   pub completes_report :
-      (told : Files) → files ≡ Some told → failures' ≡ failures → (file : List ℕ) → Asks words (commands.Upgrade file)
-      → NothingRefusesReport (told file) → Ends result status.Ok
-  completes_report told telling steady = flattening.completes_report words files failures failures' taken taken' faults faults' result (ran words files failures failures' taken taken' faults faults' result run) told telling steady
+      (told : Files) → ReadFrom seen told → (file : List ℕ) → AsksOf knows seen.words (commands.Upgrade file)
+      → NothingRefusesReport (told file) → Ends seen.status status.Ok
+  completes_report = flattening.completes_report knows seen (ran knows seen run)
 
   pub completes_script :
-      (told : Files) → files ≡ Some told → failures' ≡ failures → (name : List ℕ) → Asks words (commands.Step name)
-      → NothingRefusesLines told (told name) → EndsAsRun result
-  completes_script told telling steady = stepping.completes words files failures failures' taken taken' faults faults' result (ran words files failures failures' taken taken' faults faults' result run) told telling steady
+      (told : Files) → ReadFrom seen told → (name : List ℕ) → AsksOf knows seen.words (commands.Step name)
+      → NothingRefusesLines told (told name) → EndsAsRun seen.status
+  completes_script = stepping.completes knows seen (ran knows seen run)

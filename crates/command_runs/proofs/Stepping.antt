@@ -13,6 +13,7 @@ use Rattle.elaborator.specs.Elaboration.{HasNoFault, ElaboratesTo}
 use Rattle.elaborator.specs.Faults.{Faults}
 use Rattle.elaborator.specs.declared.error.ElabError.{ElabError}
 use Rattle.change_law.specs.Members.{is_pending}
+use Rattle.change_law.specs.Statements.{Statement}
 use Rattle.change_script.specs.ScriptFiles.{IsScript, IsScriptFault}
 use Rattle.change_script.specs.declared.error.ScriptError.{ScriptError}
 use Rattle.change_script.specs.declared.script.Script.{Script}
@@ -21,13 +22,14 @@ use Rattle.command_answers.specs.Answers.{run_status}
 use Rattle.command_answers.specs.declared.status.Status.{Status}
 use Rattle.command_answers.specs.declared.status.Status.TheVariants as status
 use Rattle.command_words.specs.declared.words.Command.TheVariants as commands
-use Rattle.command_words.specs.CommandLine.{Asks}
+use Rattle.command_runs.specs.Known.{AsksOf}
+use Rattle.command_runs.specs.Schedules.{Schedule, rounds, IsReportBy}
 use Rattle.command_runs.specs.Fetches.{Fetch, failed_names, file_limit, Gave}
 use Rattle.command_runs.specs.Lines.{begun}
 use Rattle.command_runs.specs.OneFile.{cannot_read_script, script_file_too_long, script_file_at_fault}
 use Rattle.command_runs.specs.Outcomes as outcomes
-use Rattle.command_runs.specs.Outcomes.{Ends, HoldsFile, TellsTooLong, IsScriptOf, IsRunStatus, EndsAsRun, MustRefuseScript, MustRefuseLine, NothingRefusesLines}
-use Rattle.command_runs.specs.Runs.{Written, whole, stopped}
+use Rattle.command_runs.specs.Outcomes.{ReadFrom, Ends, HoldsFile, TellsTooLong, IsScriptOf, IsRunStatus, EndsAsRun, MustRefuseScript, MustRefuseLine, NothingRefusesLines}
+use Rattle.command_runs.specs.Runs.{Written, whole, stopped, Run}
 use Rattle.command_runs.specs.Scripts.{lines_of_script}
 use Rattle.command_runs.specs.Ways.{IsTextIn, AreRefused}
 use Rattle.command_runs.proofs.Inverting.{Answer, of_words, AnswersCommand, no_form, answered_to, no_memory, only_scripts, Ran}
@@ -50,13 +52,18 @@ ends_with own true undone is = ((λ same. refl, λ same. is), (λ same. cc (is, 
 ends_with own false true is = ((λ same. cc (is, same), λ same. cc (same)), (λ same. (refl, refl), λ same. is))
 ends_with own false false is = ((λ same. cc (is, same), λ same. cc (same)), (λ same. cc (is, same), λ same. cc (same.1)))
 
+status_by :
+    (schedule : Schedule) (statements : List Statement) (report : Report) → IsReportBy schedule statements report
+    → report.status ≡ (if list_any is_pending report.history then 7 else if is_some report.unfinished then 8 else 0)
+status_by rounds statements report is = is.lawful.lawful.by_them.status
+
 pub ends_by_report :
-    (show : Report → List ℕ) (files : Option Files) (name : List ℕ) (own : Status) (taken taken' : Option (List ℕ))
-    (r : outcomes.RanShowing show files name own taken taken')
+    (schedule : Schedule) (show : Report → List ℕ) (files : Option Files) (name : List ℕ) (own : Status) (taken taken' : Option (List ℕ))
+    (r : outcomes.RanShowing schedule show files name own taken taken')
     → ((own ≡ status.Pending) ↔ (list_any is_pending r.report.history ≡ true))
     × ((own ≡ status.Unfinished) ↔ ((list_any is_pending r.report.history ≡ false) × (is_some r.report.unfinished ≡ true)))
-ends_by_report show files name own taken taken' r =
-    ends_with own (list_any is_pending r.report.history) (is_some r.report.unfinished) (r.ended ∙ ap run_status r.is_report.lawful.lawful.by_them.status)
+ends_by_report schedule show files name own taken taken' r =
+    ends_with own (list_any is_pending r.report.history) (is_some r.report.unfinished) (r.ended ∙ ap run_status (status_by schedule r.statements r.report r.is_report))
 
 -- ---- what a file holds
 
@@ -123,17 +130,17 @@ not_long f file text is long = within_not_long (f file) text is.0 is.1 long
 
 -- ---- which status is due, where the files are told and no fetch failed
 
-module _ (show : Report → List ℕ) (f : Files) (name : List ℕ) (fetches : List Fetch) (none_failed : failed_names fetches ≡ []) where
+module _ (schedule : Schedule) (show : Report → List ℕ) (f : Files) (name : List ℕ) (fetches : List Fetch) (none_failed : failed_names fetches ≡ []) where
   failed_none : (file : List ℕ) → failed_names fetches ≡ file ∷ [] → ⊥
   failed_none file names = let e : [] ≡ file ∷ [] = sym none_failed ∙ names in cc
 
-  pub refused_script : MustRefuseScript (f name) → (own : Status) (text : List ℕ) → ScriptEnds show (Some f) name fetches own text → own ≡ status.Script
+  pub refused_script : MustRefuseScript (f name) → (own : Status) (text : List ℕ) → ScriptEnds schedule show (Some f) name fetches own text → own ≡ status.Script
   refused_script must = of_end
     where
       not_one : (script : Script) → IsScriptOf (Some f) name script → ⊥
       not_one script is = need_no_refusal (f name) is.bytes script must is.told is.within is.is_script
 
-      of_end : (own : Status) (text : List ℕ) → ScriptEnds show (Some f) name fetches own text → own ≡ status.Script
+      of_end : (own : Status) (text : List ℕ) → ScriptEnds schedule show (Some f) name fetches own text → own ≡ status.Script
       of_end _ _ (is_none _ _ _ names gave cannot_read_script) = absurd (failed_none name names)
       of_end _ _ (is_none _ _ _ names gave script_file_too_long) = refl
       of_end _ _ (is_none _ _ _ names gave (script_file_at_fault bytes fault first)) = refl
@@ -150,13 +157,13 @@ module _ (show : Report → List ℕ) (f : Files) (name : List ℕ) (fetches : L
   pub refused_line :
       ((tree : Tree) (name : Name) (args : List ℤ) → NoFault tree → ((e : ElabError) × Faults tree name args e)
       ⊎ ((g : Graph) × HasNoFault tree name args × ElaboratesTo tree name args g × Sound g))
-      → MustRefuseLine f (f name) → (own : Status) (text : List ℕ) → ScriptEnds show (Some f) name fetches own text → own ≡ status.Description
+      → MustRefuseLine f (f name) → (own : Status) (text : List ℕ) → ScriptEnds schedule show (Some f) name fetches own text → own ≡ status.Description
   refused_line graphs must = of_end
     where
       r : Refusing f name
       r = refusing f name must
 
-      of_end : (own : Status) (text : List ℕ) → ScriptEnds show (Some f) name fetches own text → own ≡ status.Description
+      of_end : (own : Status) (text : List ℕ) → ScriptEnds schedule show (Some f) name fetches own text → own ≡ status.Description
       of_end _ _ (is_none _ _ _ names gave cannot_read_script) = absurd (failed_none name names)
       of_end _ _ (is_none _ _ _ names gave script_file_too_long) = absurd (within_not_long (f name) r.bytes r.holds r.within gave.1)
       of_end _ _ (is_none _ _ _ names gave (script_file_at_fault bytes fault first)) =
@@ -169,13 +176,13 @@ module _ (show : Report → List ℕ) (f : Files) (name : List ℕ) (fetches : L
           (subst (λ (s : Script). AreRefused (HoldsFile (Some f)) (TellsTooLong (Some f)) (lines_of_script s.lines) begun r.used r.words)
           (sym (one_script r.bytes r.script script r.holds r.is_script is)) r.refused))
 
-  pub completed : NothingRefusesLines f (f name) → (own : Status) (text : List ℕ) → ScriptEnds show (Some f) name fetches own text → IsRunStatus own
+  pub completed : NothingRefusesLines f (f name) → (own : Status) (text : List ℕ) → ScriptEnds schedule show (Some f) name fetches own text → IsRunStatus own
   completed nothing = of_end
     where
       l : Leading f name
       l = leading f name nothing
 
-      of_end : (own : Status) (text : List ℕ) → ScriptEnds show (Some f) name fetches own text → IsRunStatus own
+      of_end : (own : Status) (text : List ℕ) → ScriptEnds schedule show (Some f) name fetches own text → IsRunStatus own
       of_end _ _ (is_none _ _ _ names gave cannot_read_script) = absurd (failed_none name names)
       of_end _ _ (is_none _ _ _ names gave script_file_too_long) = absurd (within_not_long (f name) l.bytes l.holds l.within gave.1)
       of_end _ _ (is_none _ _ _ names gave (script_file_at_fault bytes fault first)) =
@@ -185,127 +192,127 @@ module _ (show : Report → List ℕ) (f : Files) (name : List ℕ) (fetches : L
           absurd (l.none script file ws (subst (λ b. IsScript b script) (same_content (f name) is.bytes l.bytes is.told l.holds) is.is_script) are)
       of_end _ _ (reports script end report is lead is_report none) = run_is report.status
 
-module _ (words : List (List ℕ)) (files : Option Files) (failures failures' : List (List ℕ)) (taken taken' : Option (List ℕ)) (faults faults' : ℕ) (result : Status) (run : Ran words files failures failures' taken taken' faults faults' result) where
+module _ (knows : Command → Bool) (seen : Run) (run : Ran knows seen) where
   -- ---- what Ok, Pending and Unfinished say
 
-  pub runs : (name : List ℕ) → Asks words (commands.Step name) → IsRunStatus result → outcomes.Ran files name result taken taken'
-  runs name asks is = by result run.written is
+  pub runs : (name : List ℕ) → AsksOf knows seen.words (commands.Step name) → IsRunStatus seen.status → outcomes.Ran seen.files name seen.status seen.taken seen.taken'
+  runs name asks is = by seen.status run.written is
     where
-      own : Answer (commands.Step name) run.fetches run.own run.text ⊎ (run.own ≡ status.NoMemory) → IsRunStatus run.own → taken' ≡ with_bytes taken run.text
-          → outcomes.Ran files name run.own taken taken'
+      own : Answer (commands.Step name) run.fetches run.own run.text ⊎ (run.own ≡ status.NoMemory) → IsRunStatus run.own → seen.taken' ≡ with_bytes seen.taken run.text
+          → outcomes.Ran seen.files name run.own seen.taken seen.taken'
       own (inl answer) is took =
-          reported report_text files name run.fetches taken taken' run.own run.text (script_ends report_text files name run.fetches run.own run.text answer run.told) is took
+          reported rounds report_text seen.files name run.fetches seen.taken seen.taken' run.own run.text (script_ends rounds report_text seen.files name run.fetches run.own run.text answer run.told) is took
       own (inr memory) is took = absurd (no_run status.NoMemory for_memory (subst IsRunStatus memory is))
 
-      by : (r : Status) → Written run.own run.text taken taken' faults faults' r → IsRunStatus r → outcomes.Ran files name r taken taken'
-      by _ (whole took same) is = own (of_words words (commands.Step name) run.fetches run.own run.text asks run.answers) is took
+      by : (r : Status) → Written run.own run.text seen.taken seen.taken' seen.faults seen.faults' r → IsRunStatus r → outcomes.Ran seen.files name r seen.taken seen.taken'
+      by _ (whole took same) is = own (of_words knows seen.words (commands.Step name) run.fetches run.own run.text asks run.answers) is took
       by _ (stopped n short took rose) is = absurd (no_run status.WriteFault for_sink is)
 
-  pub sums_up : (lanes : ℕ) → Asks words (commands.Big lanes) → IsRunStatus result → outcomes.SummedUp lanes result taken taken'
-  sums_up lanes asks is = by result run.written is
+  pub sums_up : (lanes : ℕ) → AsksOf knows seen.words (commands.Big lanes) → IsRunStatus seen.status → outcomes.SummedUp lanes seen.status seen.taken seen.taken'
+  sums_up lanes asks is = by seen.status run.written is
     where
-      own : Answer (commands.Big lanes) run.fetches run.own run.text ⊎ (run.own ≡ status.NoMemory) → IsRunStatus run.own → taken' ≡ with_bytes taken run.text
-          → outcomes.SummedUp lanes run.own taken taken'
+      own : Answer (commands.Big lanes) run.fetches run.own run.text ⊎ (run.own ≡ status.NoMemory) → IsRunStatus run.own → seen.taken' ≡ with_bytes seen.taken run.text
+          → outcomes.SummedUp lanes run.own seen.taken seen.taken'
       own (inl answer) is took =
-          reported (summary_text lanes) (Some (made_files lanes)) script_name answer.within taken taken' run.own run.text (big_ends lanes run.fetches run.own run.text answer) is took
+          reported rounds (summary_text lanes) (Some (made_files lanes)) script_name answer.within seen.taken seen.taken' run.own run.text (big_ends lanes run.fetches run.own run.text answer) is took
       own (inr memory) is took = absurd (no_run status.NoMemory for_memory (subst IsRunStatus memory is))
 
-      by : (r : Status) → Written run.own run.text taken taken' faults faults' r → IsRunStatus r → outcomes.SummedUp lanes r taken taken'
-      by _ (whole took same) is = own (of_words words (commands.Big lanes) run.fetches run.own run.text asks run.answers) is took
+      by : (r : Status) → Written run.own run.text seen.taken seen.taken' seen.faults seen.faults' r → IsRunStatus r → outcomes.SummedUp lanes r seen.taken seen.taken'
+      by _ (whole took same) is = own (of_words knows seen.words (commands.Big lanes) run.fetches run.own run.text asks run.answers) is took
       by _ (stopped n short took rose) is = absurd (no_run status.WriteFault for_sink is)
 
   pub asked_to_run :
-      (result ≡ status.Pending) ⊎ (result ≡ status.Unfinished)
-      → ((name : List ℕ) × Asks words (commands.Step name)) ⊎ ((lanes : ℕ) × Asks words (commands.Big lanes))
-  asked_to_run is = by result run.written is
+      (seen.status ≡ status.Pending) ⊎ (seen.status ≡ status.Unfinished)
+      → ((name : List ℕ) × AsksOf knows seen.words (commands.Step name)) ⊎ ((lanes : ℕ) × AsksOf knows seen.words (commands.Big lanes))
+  asked_to_run is = by seen.status run.written is
     where
       of_script :
-          (command : Command) → Asks words command → ((name : List ℕ) × (command ≡ commands.Step name)) ⊎ ((lanes : ℕ) × (command ≡ commands.Big lanes))
-          → ((name : List ℕ) × Asks words (commands.Step name)) ⊎ ((lanes : ℕ) × Asks words (commands.Big lanes))
-      of_script command asks (inl only) = inl (only.0, subst (λ c. Asks words c) only.1 asks)
-      of_script command asks (inr only) = inr (only.0, subst (λ c. Asks words c) only.1 asks)
+          (command : Command) → AsksOf knows seen.words command → ((name : List ℕ) × (command ≡ commands.Step name)) ⊎ ((lanes : ℕ) × (command ≡ commands.Big lanes))
+          → ((name : List ℕ) × AsksOf knows seen.words (commands.Step name)) ⊎ ((lanes : ℕ) × AsksOf knows seen.words (commands.Big lanes))
+      of_script command asks (inl only) = inl (only.0, subst (λ c. AsksOf knows seen.words c) only.1 asks)
+      of_script command asks (inr only) = inr (only.0, subst (λ c. AsksOf knows seen.words c) only.1 asks)
 
-      own : (fetches : List Fetch) (s : Status) (text : List ℕ) → AnswersCommand words fetches s text → (s ≡ status.Pending) ⊎ (s ≡ status.Unfinished)
-          → ((name : List ℕ) × Asks words (commands.Step name)) ⊎ ((lanes : ℕ) × Asks words (commands.Big lanes))
+      own : (fetches : List Fetch) (s : Status) (text : List ℕ) → AnswersCommand knows seen.words fetches s text → (s ≡ status.Pending) ⊎ (s ≡ status.Unfinished)
+          → ((name : List ℕ) × AsksOf knows seen.words (commands.Step name)) ⊎ ((lanes : ℕ) × AsksOf knows seen.words (commands.Big lanes))
       own _ _ _ (no_form none) (inl is) = absurd (usage_pending is)
       own _ _ _ (no_form none) (inr is) = absurd (usage_unfinished is)
       own _ _ _ (answered_to command fetches s text asks to) is = of_script command asks (only_scripts command fetches s text to is)
       own _ _ _ (no_memory fetches) (inl is) = absurd (memory_pending is)
       own _ _ _ (no_memory fetches) (inr is) = absurd (memory_unfinished is)
 
-      by : (r : Status) → Written run.own run.text taken taken' faults faults' r → (r ≡ status.Pending) ⊎ (r ≡ status.Unfinished)
-          → ((name : List ℕ) × Asks words (commands.Step name)) ⊎ ((lanes : ℕ) × Asks words (commands.Big lanes))
+      by : (r : Status) → Written run.own run.text seen.taken seen.taken' seen.faults seen.faults' r → (r ≡ status.Pending) ⊎ (r ≡ status.Unfinished)
+          → ((name : List ℕ) × AsksOf knows seen.words (commands.Step name)) ⊎ ((lanes : ℕ) × AsksOf knows seen.words (commands.Big lanes))
       by _ (whole took same) is = own run.fetches run.own run.text run.answers is
       by _ (stopped n short took rose) (inl is) = absurd (write_fault_pending is)
       by _ (stopped n short took rose) (inr is) = absurd (write_fault_unfinished is)
 
   -- the status of an answer to a command, unless memory ran out or the sink failed
   finishes :
-      (command : Command) (Due : Status → Type 0) → Asks words command
+      (command : Command) (Due : Status → Type 0) → AsksOf knows seen.words command
       → (Answer command run.fetches run.own run.text → Due run.own)
-      → Due result ⊎ (result ≡ status.NoMemory) ⊎ (result ≡ status.WriteFault)
-  finishes command Due asks of_answer = by result run.written
+      → Due seen.status ⊎ (seen.status ≡ status.NoMemory) ⊎ (seen.status ≡ status.WriteFault)
+  finishes command Due asks of_answer = by seen.status run.written
     where
       own : Answer command run.fetches run.own run.text ⊎ (run.own ≡ status.NoMemory)
           → Due run.own ⊎ (run.own ≡ status.NoMemory) ⊎ (run.own ≡ status.WriteFault)
       own (inl answer) = inl (of_answer answer)
       own (inr memory) = inr (inl memory)
 
-      by : (r : Status) → Written run.own run.text taken taken' faults faults' r → Due r ⊎ (r ≡ status.NoMemory) ⊎ (r ≡ status.WriteFault)
-      by _ (whole took same) = own (of_words words command run.fetches run.own run.text asks run.answers)
+      by : (r : Status) → Written run.own run.text seen.taken seen.taken' seen.faults seen.faults' r → Due r ⊎ (r ≡ status.NoMemory) ⊎ (r ≡ status.WriteFault)
+      by _ (whole took same) = own (of_words knows seen.words command run.fetches run.own run.text asks run.answers)
       by _ (stopped n short took rose) = inr (inr refl)
 
   -- ---- which status must come of a made script
 
   of_big :
-      (lanes : ℕ) (Due : Status → Type 0) → Asks words (commands.Big lanes)
-      → ((within : List Fetch) → failed_names within ≡ [] → (own : Status) (text : List ℕ) → ScriptEnds (summary_text lanes) (Some (made_files lanes)) script_name within own text → Due own)
-      → Due result ⊎ (result ≡ status.NoMemory) ⊎ (result ≡ status.WriteFault)
+      (lanes : ℕ) (Due : Status → Type 0) → AsksOf knows seen.words (commands.Big lanes)
+      → ((within : List Fetch) → failed_names within ≡ [] → (own : Status) (text : List ℕ) → ScriptEnds rounds (summary_text lanes) (Some (made_files lanes)) script_name within own text → Due own)
+      → Due seen.status ⊎ (seen.status ≡ status.NoMemory) ⊎ (seen.status ≡ status.WriteFault)
   of_big lanes Due asks of_end =
       finishes (commands.Big lanes) Due asks (λ answer. of_end answer.within answer.none_failed run.own run.text (big_ends lanes run.fetches run.own run.text answer))
 
-  pub must_refuse_made_script : (lanes : ℕ) → Asks words (commands.Big lanes) → MustRefuseScript (made_files lanes script_name) → Ends result status.Script
+  pub must_refuse_made_script : (lanes : ℕ) → AsksOf knows seen.words (commands.Big lanes) → MustRefuseScript (made_files lanes script_name) → Ends seen.status status.Script
   must_refuse_made_script lanes asks must =
-      of_big lanes (λ s. s ≡ status.Script) asks (λ within none own text. refused_script (summary_text lanes) (made_files lanes) script_name within none must own text)
+      of_big lanes (λ s. s ≡ status.Script) asks (λ within none own text. refused_script rounds (summary_text lanes) (made_files lanes) script_name within none must own text)
 
   -- From a law of the elaborator, as it stands there.
   pub must_refuse_made_line :
       ((tree : Tree) (name : Name) (args : List ℤ) → NoFault tree → ((e : ElabError) × Faults tree name args e)
       ⊎ ((g : Graph) × HasNoFault tree name args × ElaboratesTo tree name args g × Sound g))
-      → (lanes : ℕ) → Asks words (commands.Big lanes) → MustRefuseLine (made_files lanes) (made_files lanes script_name) → Ends result status.Description
+      → (lanes : ℕ) → AsksOf knows seen.words (commands.Big lanes) → MustRefuseLine (made_files lanes) (made_files lanes script_name) → Ends seen.status status.Description
   must_refuse_made_line graphs lanes asks must =
-      of_big lanes (λ s. s ≡ status.Description) asks (λ within none own text. refused_line (summary_text lanes) (made_files lanes) script_name within none graphs must own text)
+      of_big lanes (λ s. s ≡ status.Description) asks (λ within none own text. refused_line rounds (summary_text lanes) (made_files lanes) script_name within none graphs must own text)
 
-  pub completes_big : (lanes : ℕ) → Asks words (commands.Big lanes) → NothingRefusesLines (made_files lanes) (made_files lanes script_name) → EndsAsRun result
+  pub completes_big : (lanes : ℕ) → AsksOf knows seen.words (commands.Big lanes) → NothingRefusesLines (made_files lanes) (made_files lanes script_name) → EndsAsRun seen.status
   completes_big lanes asks nothing =
-      of_big lanes IsRunStatus asks (λ within none own text. completed (summary_text lanes) (made_files lanes) script_name within none nothing own text)
+      of_big lanes IsRunStatus asks (λ within none own text. completed rounds (summary_text lanes) (made_files lanes) script_name within none nothing own text)
 
   -- ---- which status must come, where the shelf tells its files and no fetch failed
 
-  module _ (f : Files) (telling : files ≡ Some f) (steady : failures' ≡ failures) where
+  module _ (f : Files) (read : ReadFrom seen f) where
     none_failed_here : failed_names run.fetches ≡ []
-    none_failed_here = none_added failures (failed_names run.fetches) (sym steady ∙ run.noted)
+    none_failed_here = none_added seen.failures (failed_names run.fetches) (sym read.steady ∙ run.noted)
 
     of_step :
-        (name : List ℕ) (Due : Status → Type 0) → Asks words (commands.Step name)
-        → ((own : Status) (text : List ℕ) → ScriptEnds report_text (Some f) name run.fetches own text → Due own)
-        → Due result ⊎ (result ≡ status.NoMemory) ⊎ (result ≡ status.WriteFault)
+        (name : List ℕ) (Due : Status → Type 0) → AsksOf knows seen.words (commands.Step name)
+        → ((own : Status) (text : List ℕ) → ScriptEnds rounds report_text (Some f) name run.fetches own text → Due own)
+        → Due seen.status ⊎ (seen.status ≡ status.NoMemory) ⊎ (seen.status ≡ status.WriteFault)
     of_step name Due asks of_end =
         finishes (commands.Step name) Due asks
         (λ answer. of_end run.own run.text
-        (script_ends report_text (Some f) name run.fetches run.own run.text answer (subst (λ fs. AllByRecursion (Gave fs) run.fetches) telling run.told)))
+        (script_ends rounds report_text (Some f) name run.fetches run.own run.text answer (subst (λ fs. AllByRecursion (Gave fs) run.fetches) read.tells run.told)))
 
-    pub must_refuse_script : (name : List ℕ) → Asks words (commands.Step name) → MustRefuseScript (f name) → Ends result status.Script
+    pub must_refuse_script : (name : List ℕ) → AsksOf knows seen.words (commands.Step name) → MustRefuseScript (f name) → Ends seen.status status.Script
     must_refuse_script name asks must =
-        of_step name (λ s. s ≡ status.Script) asks (refused_script report_text f name run.fetches none_failed_here must)
+        of_step name (λ s. s ≡ status.Script) asks (refused_script rounds report_text f name run.fetches none_failed_here must)
 
     -- From a law of the elaborator, as it stands there.
     pub must_refuse_line :
         ((tree : Tree) (name : Name) (args : List ℤ) → NoFault tree → ((e : ElabError) × Faults tree name args e)
         ⊎ ((g : Graph) × HasNoFault tree name args × ElaboratesTo tree name args g × Sound g))
-        → (name : List ℕ) → Asks words (commands.Step name) → MustRefuseLine f (f name) → Ends result status.Description
+        → (name : List ℕ) → AsksOf knows seen.words (commands.Step name) → MustRefuseLine f (f name) → Ends seen.status status.Description
     must_refuse_line graphs name asks must =
-        of_step name (λ s. s ≡ status.Description) asks (refused_line report_text f name run.fetches none_failed_here graphs must)
+        of_step name (λ s. s ≡ status.Description) asks (refused_line rounds report_text f name run.fetches none_failed_here graphs must)
 
-    pub completes : (name : List ℕ) → Asks words (commands.Step name) → NothingRefusesLines f (f name) → EndsAsRun result
-    completes name asks nothing = of_step name IsRunStatus asks (completed report_text f name run.fetches none_failed_here nothing)
+    pub completes : (name : List ℕ) → AsksOf knows seen.words (commands.Step name) → NothingRefusesLines f (f name) → EndsAsRun seen.status
+    completes name asks nothing = of_step name IsRunStatus asks (completed rounds report_text f name run.fetches none_failed_here nothing)

@@ -19,7 +19,8 @@ use Rattle.command_runs.specs.declared.query.Query.{Query}
 use Rattle.command_runs.specs.declared.query.Query.TheVariants as queries
 use Rattle.command_runs.specs.Courses.{FetchCourse, SaysAlone, AfterFetch, After}
 use Rattle.command_runs.specs.Fetches.{Fetch, Gave, failed_names, file_limit, report_limit}
-use Rattle.command_runs.specs.Lines.{RunLine, uses, calls, draws, starts, changes, Aim, drawing, planning, replaying, running, begun, FollowsLines}
+use Rattle.command_runs.specs.Lines.{RunLine, uses, calls, draws, starts, changes, Aim, drawing, planning, replaying, running, Progress, begun, behind, FollowsLines}
+use Rattle.command_runs.specs.Schedules.{rounds}
 use Rattle.command_runs.specs.Scripts.{lines_of_script}
 
 abbrev pub aim_of : Query → Aim
@@ -37,7 +38,7 @@ calls_of (queries.Replay events) = calls starts events.name events.args ∷ []
 
 -- what is wanted of the description in a file
 abbrev pub course_of_query : List ℕ → Query → FetchCourse
-course_of_query file query = FollowsLines (aim_of query) begun (uses file ∷ calls_of query)
+course_of_query file query = FollowsLines (behind (aim_of query)) begun (uses file ∷ calls_of query)
 
 -- the words of what refuses a file of events
 abbrev pub RefusesEvents : List ℕ → List (List ℕ) → Type 0
@@ -55,13 +56,13 @@ RefusesReport bytes words = (fault : ReportFault) × IsReportFault bytes fault �
 abbrev pub RefusesScript : List ℕ → List (List ℕ) → Type 0
 RefusesScript bytes words = (fault : ScriptError) × IsScriptFault bytes fault × (words ≡ script_words fault)
 
--- what is asked for by the script of a name
-abbrev pub course_of_script : List ℕ → FetchCourse
-course_of_script name =
+-- what is asked for by the script of a name, and what follows from where its lines lead
+abbrev pub course_of_script : (Progress → FetchCourse) → List ℕ → FetchCourse
+course_of_script Then name =
     let refuse = λ (words : List (List ℕ)). refusal (script name words) in
     AfterFetch name file_limit refuse
     (λ bytes. After (RefusesScript bytes) refuse (IsScript bytes)
-    (λ lines. FollowsLines running begun (lines_of_script lines.lines)))
+    (λ lines. FollowsLines Then begun (lines_of_script lines.lines)))
 
 -- the answer with the summary of a run in place of its report
 abbrev pub in_summary : ℕ → Answer → Answer
@@ -75,7 +76,7 @@ pub record OfMadeFiles (lanes : ℕ) (answer : Answer) : Type 0 where
   pub told : AllByRecursion (Gave (Some (made_files lanes))) own
   pub none_failed : failed_names own ≡ []
   pub made : Answer
-  pub course : course_of_script script_name own made
+  pub course : course_of_script (behind (running rounds)) script_name own made
   pub is : answer ≡ in_summary lanes made
 
 -- The course of `big`: it fetches no file of the shelf, and has such an answer.
@@ -96,5 +97,5 @@ course_of (commands.Upgrade file) =
     let refuse = λ (words : List (List ℕ)). refusal (script file words) in
     AfterFetch file report_limit refuse
     (λ bytes. After (RefusesReport bytes) refuse (TellsReport bytes) (λ r. SaysAlone (report r)))
-course_of (commands.Step name) = course_of_script name
+course_of (commands.Step name) = course_of_script (behind (running rounds)) name
 course_of (commands.Big lanes) = SumsUp lanes

@@ -41,3 +41,10 @@ pub data After {A : Type 0} (Refuses : List (List ℕ) → Type 0) (refuse : Lis
   gives :
       (a : A) (fetches : List Fetch) (answer : Answer) → Gives a → Then a fetches answer
       → After Refuses refuse Gives Then fetches answer
+
+-- The same where nothing is refused.
+pub data Unrefused {A : Type 0} (Gives : A → Type 0) (Then : A → FetchCourse) : List Fetch → Answer → Type 0 where
+  not_made : Unrefused Gives Then [] (refusal no_memory)
+  makes :
+      (a : A) (fetches : List Fetch) (answer : Answer) → Gives a → Then a fetches answer
+      → Unrefused Gives Then fetches answer

@@ -3,6 +3,7 @@ pub mod Courses
 pub mod Descriptions
 pub mod Failures
 pub mod Fetches
+pub mod Known
 pub mod Lines
 pub mod OneFile
 pub mod Outcomes
@@ -11,5 +12,6 @@ pub mod Queries
 pub mod Replays
 pub mod RunReports
 pub mod Runs
+pub mod Schedules
 pub mod Scripts
 pub mod Ways

@@ -19,11 +19,11 @@ use Rattle.change_law.specs.Statements.{Statement, start, change}
 use Rattle.change_script.specs.declared.report.Report.{Report}
 use Rattle.command_answers.specs.Answers.{Answer, refusal, description, graph, plan, ran}
 use Rattle.command_answers.specs.RefusalLines.{elaborate_words, plan_words}
-use Rattle.command_runs.specs.Courses.{FetchCourse, SaysAlone, AfterFetch, After}
+use Rattle.command_runs.specs.Courses.{FetchCourse, SaysAlone, AfterFetch, After, Unrefused}
 use Rattle.command_runs.specs.Descriptions.{IsChecked, IsGraphOfCall, IsTextRefusal}
 use Rattle.command_runs.specs.Fetches.{file_limit}
 use Rattle.command_runs.specs.Replays.{IsReplayed}
-use Rattle.command_runs.specs.RunReports.{IsReportOf}
+use Rattle.command_runs.specs.Schedules.{Schedule, IsReportBy}
 
 -- what is done with the graph of a component
 pub data Deed : Type 0 where
@@ -107,7 +107,7 @@ pub data IsCallRefusal (p : Progress) (deed : Deed) (name : Name) (args : List �
       → Forbids p deed g words
       → IsCallRefusal p deed name args words
 
--- what is wanted at the end of the lines
+-- what lines are followed for
 pub data Aim : Type 0 where
   -- the text of the last graph
   drawing : Aim
@@ -116,9 +116,9 @@ pub data Aim : Type 0 where
   -- that of what events come to from a start with it
   replaying : List Event → Aim
   -- the report of a run of all that is to be done
-  running : Aim
+  running : Schedule → Aim
 
--- the answer to what is wanted
+-- the answer to what is wanted, from where the lines lead
 abbrev pub Concludes : Aim → Progress → Answer → Type 0
 Concludes drawing p answer = (g : Graph) × (earlier : List Graph) × (p.graphs ≡ g ∷ earlier) × (answer ≡ graph g)
 Concludes planning p answer =
@@ -126,17 +126,22 @@ Concludes planning p answer =
     × ((steps : Plan) × IsPlanOf old new [] steps × (answer ≡ plan old new steps))
 Concludes (replaying events) p answer =
     (g : Graph) × (earlier : List Graph) × (p.graphs ≡ g ∷ earlier) × IsReplayed (started g) events answer
-Concludes running p answer = (r : Report) × IsReportOf p.statements r × (answer ≡ ran r)
+Concludes (running schedule) p answer = (r : Report) × IsReportBy schedule p.statements r × (answer ≡ ran r)
 
--- The course of lines. A line that uses a file fetches it, and no other line fetches anything.
-abbrev pub FollowsLines : Aim → Progress → List RunLine → FetchCourse
-FollowsLines aim p [] = After (λ words. ⊥) (λ words. refusal (description p.file words)) (Concludes aim p) SaysAlone
-FollowsLines aim p (uses file ∷ lines) =
+-- what follows behind the lines: nothing of what is wanted is refused, and nothing more is fetched for it
+abbrev pub behind : Aim → Progress → FetchCourse
+behind aim p = Unrefused (Concludes aim p) SaysAlone
+
+-- The course of lines, and behind them of what follows from where they lead. A line that uses a file fetches it, and no
+-- other line fetches anything.
+abbrev pub FollowsLines : (Progress → FetchCourse) → Progress → List RunLine → FetchCourse
+FollowsLines Then p [] = Then p
+FollowsLines Then p (uses file ∷ lines) =
     let refuse = λ (words : List (List ℕ)). refusal (description file words) in
     AfterFetch file file_limit refuse
     (λ bytes. After (IsTextRefusal bytes) refuse (IsChecked bytes)
-    (λ tree. FollowsLines aim (with_description p file tree) lines))
-FollowsLines aim p (calls deed name args ∷ lines) =
+    (λ tree. FollowsLines Then (with_description p file tree) lines))
+FollowsLines Then p (calls deed name args ∷ lines) =
     After (IsCallRefusal p deed name args) (λ words. refusal (description p.file words)) (CallLeads p deed name args)
-    (λ next. FollowsLines aim next lines)
-FollowsLines aim p (does what ∷ lines) = FollowsLines aim (with_statement p what) lines
+    (λ next. FollowsLines Then next lines)
+FollowsLines Then p (does what ∷ lines) = FollowsLines Then (with_statement p what) lines

@@ -1,5 +1,5 @@
 -- What each status of a run says, of the words and of what was fetched and written.
-use Rattle.std.specs.Prelude.{◌≡◌, ◌≢◌, ◌≤◌, ◌<◌, ◌⊎◌, ℕ, true, List, [], ◌∷◌, ◌++◌, Option, Some, None, IsSomeAnd, length, take, codes}
+use Rattle.std.specs.Prelude.{◌≡◌, ◌≢◌, ◌≤◌, ◌<◌, ◌⊎◌, ℕ, Bool, true, List, [], ◌∷◌, ◌++◌, Option, Some, None, IsSomeAnd, length, take, codes}
 use Rattle.std.specs.List.{AllByRecursion}
 use Rattle.cfg_io.specs.Shelf.{Files}
 use Rattle.cfg_io.specs.Sink.{with_bytes}
@@ -13,7 +13,7 @@ use Rattle.command_answers.specs.declared.status.Status.{Status}
 use Rattle.command_answers.specs.declared.status.Status.TheVariants as status
 use Rattle.command_words.specs.declared.words.Command.{Command}
 use Rattle.command_words.specs.declared.words.Command.TheVariants as commands
-use Rattle.command_words.specs.CommandLine.{Asks}
+use Rattle.command_runs.specs.Known.{AsksOf}
 use Rattle.change_script.specs.Reports.{report_text}
 use Rattle.change_script.specs.ScriptFiles.{IsScript, IsScriptFault}
 use Rattle.change_script.specs.declared.report.Report.{Report}
@@ -33,11 +33,11 @@ use Rattle.command_runs.specs.Queries.{IsRefused, AnswersQuery}
 use Rattle.command_answers.specs.Answers.{Answer, run_status, status_of, text_of}
 use Rattle.command_runs.specs.Failures.{Uses}
 use Rattle.command_runs.specs.Lines.{begun}
-use Rattle.command_runs.specs.RunReports.{IsReportOf}
+use Rattle.command_runs.specs.Schedules.{Schedule, rounds, IsReportBy}
 use Rattle.command_runs.specs.Scripts.{lines_of_script}
 use Rattle.command_runs.specs.Ways.{AreRefused, Elaborates}
 use Rattle.command_runs.specs.Fetches.{Fetch, Gave, failed_names, file_limit, report_limit}
-use Rattle.command_runs.specs.Runs.{AnswersWords}
+use Rattle.command_runs.specs.Runs.{AnswersWords, Run}
 use Rattle.big_files.specs.BigFiles.{made_files, script_name}
 use Rattle.command_answers.specs.Statuses.{is_of_run}
 use Rattle.command_answers.specs.Summaries.{summary_text}
@@ -56,8 +56,8 @@ MentionsFile Holds (commands.Step script) name =
 MentionsFile Holds (commands.Big lanes) name = ⊥
 
 -- the words name the file
-abbrev pub NamesFile : (List ℕ → List ℕ → Type 0) → List (List ℕ) → List ℕ → Type 0
-NamesFile Holds words file = (command : Command) × Asks words command × MentionsFile Holds command file
+abbrev pub NamesFile : (Command → Bool) → (List ℕ → List ℕ → Type 0) → List (List ℕ) → List ℕ → Type 0
+NamesFile knows Holds words file = (command : Command) × AsksOf knows words command × MentionsFile Holds command file
 
 -- the status, unless memory ran out or the sink failed
 abbrev pub Ends : Status → Status → Type 0
@@ -65,16 +65,21 @@ Ends result own = (result ≡ own) ⊎ (result ≡ status.NoMemory) ⊎ (result 
 
 -- A proper front went out of a text that the words could have given with another status, by the fetches of which the
 -- shelf notes the failures and which gave what its files hold.
-pub record WroteFront (words : List (List ℕ)) (files : Option Files) (failures failures' : List (List ℕ)) (taken taken' : Option (List ℕ)) : Type 0 where
+pub record WroteFront (knows : Command → Bool) (r : Run) : Type 0 where
   pub fetches : List Fetch
   pub answer : Answer
-  pub answers : AnswersWords words fetches answer
-  pub noted : failures' ≡ failures ++ failed_names fetches
-  pub told : AllByRecursion (Gave files) fetches
+  pub answers : AnswersWords knows r.words fetches answer
+  pub noted : r.failures' ≡ r.failures ++ failed_names fetches
+  pub told : AllByRecursion (Gave r.files) fetches
   pub other : status_of answer ≢ status.WriteFault
   pub count : ℕ
   pub short : count < length (text_of answer)
-  pub front : taken' ≡ with_bytes taken (take count (text_of answer))
+  pub front : r.taken' ≡ with_bytes r.taken (take count (text_of answer))
+
+-- the shelf tells its files, and no fetch failed
+pub record ReadFrom (r : Run) (files : Files) : Type 0 where
+  pub tells : r.files ≡ Some files
+  pub steady : r.failures' ≡ r.failures
 
 -- where the shelf tells its files, the file of the name holds these bytes
 abbrev pub HoldsFile : Option Files → List ℕ → List ℕ → Type 0
@@ -99,24 +104,24 @@ pub record IsScriptOf (files : Option Files) (name : List ℕ) (script : Script)
 
 -- The script was run: its statements have the graphs to which the descriptions elaborate that the files hold, and
 -- what is shown of the report of their run was written. The run ended as the report says.
-pub record RanShowing (show : Report → List ℕ) (files : Option Files) (name : List ℕ) (own : Status) (taken taken' : Option (List ℕ))
-    : Type 0 where
+pub record RanShowing (schedule : Schedule) (show : Report → List ℕ) (files : Option Files) (name : List ℕ) (own : Status)
+    (taken taken' : Option (List ℕ)) : Type 0 where
   pub script : Script
   pub is_script : IsScriptOf files name script
   pub statements : List Statement
   pub have_graphs : StatementsOf (Elaborates (HoldsFile files)) script statements
   pub report : Report
-  pub is_report : IsReportOf statements report
+  pub is_report : IsReportBy schedule statements report
   pub ended : own ≡ run_status report.status
   pub written : taken' ≡ with_bytes taken (show report)
 
--- the same where all of the report is shown
+-- the same in rounds, where all of the report is shown
 abbrev pub Ran : Option Files → List ℕ → Status → Option (List ℕ) → Option (List ℕ) → Type 0
-Ran = RanShowing report_text
+Ran = RanShowing rounds report_text
 
 -- the script of so many lanes was run, with the files that were made, and the summary of its report was written
 abbrev pub SummedUp : ℕ → Status → Option (List ℕ) → Option (List ℕ) → Type 0
-SummedUp lanes = RanShowing (summary_text lanes) (Some (made_files lanes)) script_name
+SummedUp lanes = RanShowing rounds (summary_text lanes) (Some (made_files lanes)) script_name
 
 -- A line of the script is refused, the first that leads nowhere, and the line that says so was written.
 pub record LineRefused (files : Option Files) (name : List ℕ) (taken taken' : Option (List ℕ)) : Type 0 where
@@ -166,11 +171,11 @@ NothingRefusesLines files file =
     → ¬ AreRefused (HoldsFile (Some files)) (TellsTooLong (Some files)) (lines_of_script script.lines) begun used words))
 
 -- The words ask for this of the description in a file, where the shelf tells of events what the file of events holds.
-abbrev pub Wants : Option Files → List (List ℕ) → List ℕ → Query → Type 0
-Wants files words file (queries.Graph call) = Asks words (commands.Flat file call)
-Wants files words file (queries.Plan call target) = Asks words (commands.Plan file call target)
-Wants files words file (queries.Replay events_file) =
-    (name bytes : List ℕ) × Asks words (commands.Replay file name) × HoldsFile files name bytes
+abbrev pub Wants : (Command → Bool) → Option Files → List (List ℕ) → List ℕ → Query → Type 0
+Wants knows files words file (queries.Graph call) = AsksOf knows words (commands.Flat file call)
+Wants knows files words file (queries.Plan call target) = AsksOf knows words (commands.Plan file call target)
+Wants knows files words file (queries.Replay events_file) =
+    (name bytes : List ℕ) × AsksOf knows words (commands.Replay file name) × HoldsFile files name bytes
     × (length bytes ≤ file_limit) × IsEventFile bytes events_file
 
 -- The file holds a description that has a graph for the component and its arguments, and the text of this graph was
@@ -262,20 +267,22 @@ pub data ReportRefused (files : Option Files) (name : List ℕ) (taken taken' : 
 
 -- the words ask for a file of events, or for a report, or for the run of a script, their own or a made one, and it was
 -- refused
-abbrev pub RefusesFile : List (List ℕ) → Option Files → Option (List ℕ) → Option (List ℕ) → Type 0
-RefusesFile words files taken taken' =
-    ((file events : List ℕ) × Asks words (commands.Replay file events) × EventsRefused files events taken taken')
-    ⊎ ((file : List ℕ) × Asks words (commands.Upgrade file) × ReportRefused files file taken taken')
-    ⊎ ((name : List ℕ) × Asks words (commands.Step name) × ScriptRefused files name taken taken')
-    ⊎ ((lanes : ℕ) × Asks words (commands.Big lanes) × ScriptRefused (Some (made_files lanes)) script_name taken taken')
+abbrev pub RefusesFile : (Command → Bool) → Run → Type 0
+RefusesFile knows r =
+    ((file events : List ℕ) × AsksOf knows r.words (commands.Replay file events) × EventsRefused r.files events r.taken r.taken')
+    ⊎ ((file : List ℕ) × AsksOf knows r.words (commands.Upgrade file) × ReportRefused r.files file r.taken r.taken')
+    ⊎ ((name : List ℕ) × AsksOf knows r.words (commands.Step name) × ScriptRefused r.files name r.taken r.taken')
+    ⊎ ((lanes : ℕ) × AsksOf knows r.words (commands.Big lanes)
+    × ScriptRefused (Some (made_files lanes)) script_name r.taken r.taken')
 
 -- the words ask for something of a description, or for the run of a script, their own or a made one, and a description
 -- was refused
-abbrev pub RefusesDescription : List (List ℕ) → Option Files → Option (List ℕ) → Option (List ℕ) → Type 0
-RefusesDescription words files taken taken' =
-    ((file : List ℕ) × (query : Query) × Wants files words file query × DescriptionRefused files file query taken taken')
-    ⊎ ((name : List ℕ) × Asks words (commands.Step name) × LineRefused files name taken taken')
-    ⊎ ((lanes : ℕ) × Asks words (commands.Big lanes) × LineRefused (Some (made_files lanes)) script_name taken taken')
+abbrev pub RefusesDescription : (Command → Bool) → Run → Type 0
+RefusesDescription knows r =
+    ((file : List ℕ) × (query : Query) × Wants knows r.files r.words file query
+    × DescriptionRefused r.files file query r.taken r.taken')
+    ⊎ ((name : List ℕ) × AsksOf knows r.words (commands.Step name) × LineRefused r.files name r.taken r.taken')
+    ⊎ ((lanes : ℕ) × AsksOf knows r.words (commands.Big lanes) × LineRefused (Some (made_files lanes)) script_name r.taken r.taken')
 
 -- the file has more bytes than a report may have, or isn't one
 abbrev pub MustRefuseReport : Option (List ℕ) → Type 0

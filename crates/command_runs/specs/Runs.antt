@@ -1,5 +1,5 @@
 -- What a run of the program is, by its words: some fetches, an answer, and what was written of it.
-use Rattle.std.specs.Prelude.{◌≡◌, ◌<◌, ℕ, List, [], ◌++◌, Option, length, take}
+use Rattle.std.specs.Prelude.{◌≡◌, ◌<◌, ⊤, ℕ, Bool, List, [], ◌++◌, Option, length, take}
 use Rattle.std.specs.List.{AllByRecursion}
 use Rattle.cfg_io.specs.Shelf.{Files}
 use Rattle.cfg_io.specs.Sink.{with_bytes}
@@ -8,9 +8,28 @@ use Rattle.command_answers.specs.declared.status.Status.{Status}
 use Rattle.command_answers.specs.declared.status.Status.TheVariants.{WriteFault}
 use Rattle.command_answers.specs.Answers.{Answer, refusal, usage, no_memory, status_of, text_of}
 use Rattle.command_words.specs.declared.words.Command.{Command}
-use Rattle.command_words.specs.CommandLine.{Asks, HasNoForm}
+use Rattle.command_runs.specs.Known.{AsksOf, HasNoForm}
 use Rattle.command_runs.specs.Commands.{course_of}
 use Rattle.command_runs.specs.Fetches.{Fetch, failed_names, Gave}
+
+-- What is seen of a run from outside. What stands in two states has the name of the earlier one, and that name with a
+-- stroke for the later one.
+pub record Run : Type 0 where
+  -- the words with which the program was called
+  pub words : List (List ℕ)
+  -- the files of the shelf, where it tells them
+  pub files : Option Files
+  -- the names at which the shelf failed
+  pub failures : List (List ℕ)
+  pub failures' : List (List ℕ)
+  -- what the sink took, where it tells it
+  pub taken : Option (List ℕ)
+  pub taken' : Option (List ℕ)
+  -- how often the sink failed
+  pub faults : ℕ
+  pub faults' : ℕ
+  -- how the run ended
+  pub status : Status
 
 -- A text was written, and the run ends with its status; or the sink failed, and took no more than a front of the text.
 pub data Written (status : Status) (text : List ℕ) (taken taken' : Option (List ℕ)) (faults faults' : ℕ)
@@ -20,23 +39,30 @@ pub data Written (status : Status) (text : List ℕ) (taken taken' : Option (Lis
       (n : ℕ) → n < length text → taken' ≡ with_bytes taken (take n text) → Rose faults faults'
       → Written status text taken taken' faults faults' WriteFault
 
--- the answer to words with these fetches: words of no form are refused, and those that ask for a command have its
--- course; memory may run out as soon as they are read
-pub data AnswersWords (words : List (List ℕ)) : List Fetch → Answer → Type 0 where
-  no_form : HasNoForm words → AnswersWords words [] (refusal usage)
-  not_read : AnswersWords words [] (refusal no_memory)
+-- the answer to words with these fetches, by a call that knows these commands: words of no form are refused, and those
+-- that ask for a command have its course; memory may run out as soon as they are read
+pub data AnswersWords (knows : Command → Bool) (words : List (List ℕ)) : List Fetch → Answer → Type 0 where
+  no_form : HasNoForm knows words → AnswersWords knows words [] (refusal usage)
+  not_read : AnswersWords knows words [] (refusal no_memory)
   asked :
-      (command : Command) (fetches : List Fetch) (answer : Answer) → Asks words command
+      (command : Command) (fetches : List Fetch) (answer : Answer) → AsksOf knows words command
       → course_of command fetches answer
-      → AnswersWords words fetches answer
+      → AnswersWords knows words fetches answer
 
 -- What a run does: by some fetches, whose failures the shelf notes and which gave what its files hold, it has an
--- answer, and writes it.
-pub record Runs (words : List (List ℕ)) (files : Option Files) (failures failures' : List (List ℕ))
-    (taken taken' : Option (List ℕ)) (faults faults' : ℕ) (result : Status) : Type 0 where
+-- answer, which is of a kind, and writes it.
+pub record RunsWith (Is : Answer → Type 0) (knows : Command → Bool) (r : Run) : Type 0 where
   pub fetches : List Fetch
   pub answer : Answer
-  pub answers : AnswersWords words fetches answer
-  pub noted : failures' ≡ failures ++ failed_names fetches
-  pub told : AllByRecursion (Gave files) fetches
-  pub written : Written (status_of answer) (text_of answer) taken taken' faults faults' result
+  pub is : Is answer
+  pub answers : AnswersWords knows r.words fetches answer
+  pub noted : r.failures' ≡ r.failures ++ failed_names fetches
+  pub told : AllByRecursion (Gave r.files) fetches
+  pub written : Written (status_of answer) (text_of answer) r.taken r.taken' r.faults r.faults' r.status
+
+abbrev pub IsAny : Answer → Type 0
+IsAny answer = ⊤
+
+-- the same with any answer
+abbrev pub Runs : (Command → Bool) → Run → Type 0
+Runs = RunsWith IsAny

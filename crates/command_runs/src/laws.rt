@@ -1,7 +1,7 @@
 //! Laws of runs, by status. Whatever runs, as all commands do or the program over real files, has them.
 
 ghost use Rattle.std.specs.Prelude.{◌≡◌, ◌≢◌, ◌≤◌, ◌∷◌, ◌++◌, ◌⊎◌, ◌↔◌, [], ℕ, ℤ, List, Option, Some, length};
-ghost use Rattle.std.specs.Prelude.{true, false, is_some};
+ghost use Rattle.std.specs.Prelude.{Bool, true, false, is_some};
 ghost use Rattle.std.specs.List.{list_any};
 ghost use Rattle.base.specs.Count.{Rose};
 ghost use Rattle.cfg_io.specs.Shelf.{Files};
@@ -27,16 +27,17 @@ ghost use Rattle.command_answers.specs.declared.status.Status.{Status};
 ghost use Rattle.command_answers.specs.declared.status.Status.TheVariants.{Usage, ReadFault, WriteFault, Description};
 ghost use Rattle.command_answers.specs.declared.status.Status.TheVariants.{Script, Denied, NoMemory, Pending};
 ghost use Rattle.command_answers.specs.declared.status.Status.TheVariants.{Unfinished, Unlawful};
-ghost use Rattle.command_words.specs.CommandLine.{Asks, HasNoForm};
+ghost use Rattle.command_runs.specs.Known.{AsksOf, HasNoForm};
+ghost use Rattle.command_words.specs.declared.words.Command.{Command};
 ghost use Rattle.command_words.specs.declared.words.Command.TheVariants as commands;
 ghost use Rattle.command_words.specs.declared.words.TopCall.{TopCall};
 ghost use Rattle.command_runs.specs.Descriptions.{HasGraph, IsDescriptionRefusal};
 ghost use Rattle.change_script.specs.declared.report.Report.{Report};
 ghost use Rattle.report_parser.specs.Stages.{IsReportFault};
 ghost use Rattle.report_parser.specs.declared.error.ReportFault.{ReportFault};
-ghost use Rattle.command_runs.specs.Commands.{TellsReport, course_of, course_of_query};
+ghost use Rattle.command_runs.specs.Commands.{TellsReport, course_of, course_of_query, course_of_script};
 ghost use Rattle.command_runs.specs.Failures.{FailsLast, Uses};
-ghost use Rattle.command_runs.specs.Lines.{Aim, RunLine, Progress, FollowsLines, begun, running};
+ghost use Rattle.command_runs.specs.Lines.{Aim, RunLine, Progress, FollowsLines, begun, behind};
 ghost use Rattle.command_runs.specs.Fetches.{Fetch, WasHeld, fetch_of, file_limit, report_fetch};
 ghost use Rattle.command_runs.specs.OneFile.{DescriptionAnswers, EventsAnswers, ReportAnswers, ScriptAnswers};
 ghost use Rattle.command_runs.specs.declared.fetched.Fetched.{Fetched};
@@ -46,10 +47,11 @@ ghost use Rattle.command_runs.specs.Outcomes.{RefusesDescription, RefusesFile, M
 ghost use Rattle.command_runs.specs.Outcomes.{EndsAsRun, IsRunStatus, MustRefuseLine, MustRefuseScript};
 ghost use Rattle.command_runs.specs.Outcomes.{NothingRefuses, NothingRefusesLines, Ran, RanShowing, SummedUp};
 ghost use Rattle.big_files.specs.BigFiles.{made_files, script};
-ghost use Rattle.command_runs.specs.Outcomes.{EndsAsGiven, MustRefuseReport, NothingRefusesReport, Upgraded, Wants};
+ghost use Rattle.command_runs.specs.Outcomes.{EndsAsGiven, MustRefuseReport, NothingRefusesReport, ReadFrom, Upgraded, Wants};
 ghost use Rattle.command_runs.specs.Plans.{RefusesStart, Starts};
 ghost use Rattle.command_runs.specs.Queries.{AnswersQuery, IsRefused};
-ghost use Rattle.command_runs.specs.Runs.{AnswersWords, Runs};
+ghost use Rattle.command_runs.specs.Runs.{AnswersWords, Run, Runs};
+ghost use Rattle.command_runs.specs.Schedules.{Schedule};
 ghost use Rattle.command_runs.specs.Scripts.{lines_of_script};
 ghost use Rattle.command_runs.specs.Ways.{Elaborates, LeadTo};
 ghost use Rattle.command_runs.specs.declared.query.Query.{Query};
@@ -61,80 +63,61 @@ use report_parser::{a_text_tells_its_report, one_report_or_one_fault};
 
 /// A law of runs: Usage comes where the words have none of the forms, with its line, and nowhere else.
 pub fn usage_is_of_words_without_a_form()
-    ensures only { (words : List (List ℕ)) (files : Option Files) (failures failures' : List (List ℕ))
-        (taken taken' : Option (List ℕ)) (faults faults' : ℕ) (result : Status)
-        → Runs words files failures failures' taken taken' faults faults' result
-        → result ≡ Usage → HasNoForm words × (taken' ≡ with_bytes taken usage_line) }
-    ensures always { (words : List (List ℕ)) (files : Option Files) (failures failures' : List (List ℕ))
-        (taken taken' : Option (List ℕ)) (faults faults' : ℕ) (result : Status)
-        → Runs words files failures failures' taken taken' faults faults' result
-        → HasNoForm words → Ends result Usage }
+    ensures only { (knows : Command → Bool) (r : Run) → Runs knows r
+        → r.status ≡ Usage → HasNoForm knows r.words × (r.taken' ≡ with_bytes r.taken usage_line) }
+    ensures always { (knows : Command → Bool) (r : Run) → Runs knows r
+        → HasNoForm knows r.words → Ends r.status Usage }
 {}
 
 /// A law of runs: ReadFault comes where a fetch failed, and nowhere else. One fetch fails at most, of a file that the
 /// words name or a `use` line of the script that they name, and the line names it.
 pub fn read_faults_are_failed_fetches()
-    ensures only { (words : List (List ℕ)) (files : Option Files) (failures failures' : List (List ℕ))
-        (taken taken' : Option (List ℕ)) (faults faults' : ℕ) (result : Status)
-        → Runs words files failures failures' taken taken' faults faults' result
-        → result ≡ ReadFault → (file : List ℕ) × NamesFile (HoldsFile files) words file
-        × (failures' ≡ failures ++ file ∷ [])
-        × (taken' ≡ with_bytes taken (read_fault_line file)) }
-    ensures always { (words : List (List ℕ)) (files : Option Files) (failures failures' : List (List ℕ))
-        (taken taken' : Option (List ℕ)) (faults faults' : ℕ) (result : Status)
-        → Runs words files failures failures' taken taken' faults faults' result
-        → failures' ≢ failures → Ends result ReadFault }
+    ensures only { (knows : Command → Bool) (r : Run) → Runs knows r
+        → r.status ≡ ReadFault → (file : List ℕ) × NamesFile knows (HoldsFile r.files) r.words file
+        × (r.failures' ≡ r.failures ++ file ∷ [])
+        × (r.taken' ≡ with_bytes r.taken (read_fault_line file)) }
+    ensures always { (knows : Command → Bool) (r : Run) → Runs knows r
+        → r.failures' ≢ r.failures → Ends r.status ReadFault }
 {}
 
 /// A law of runs: WriteFault comes where a put failed, and nowhere else. A proper front went out of a text that
 /// another status could have had.
 pub fn write_faults_are_failed_puts()
-    ensures only { (words : List (List ℕ)) (files : Option Files) (failures failures' : List (List ℕ))
-        (taken taken' : Option (List ℕ)) (faults faults' : ℕ) (result : Status)
-        → Runs words files failures failures' taken taken' faults faults' result
-        → result ≡ WriteFault → Rose faults faults' × WroteFront words files failures failures' taken taken' }
-    ensures always { (words : List (List ℕ)) (files : Option Files) (failures failures' : List (List ℕ))
-        (taken taken' : Option (List ℕ)) (faults faults' : ℕ) (result : Status)
-        → Runs words files failures failures' taken taken' faults faults' result
-        → result ≢ WriteFault → faults' ≡ faults }
+    ensures only { (knows : Command → Bool) (r : Run) → Runs knows r
+        → r.status ≡ WriteFault → Rose r.faults r.faults' × WroteFront knows r }
+    ensures always { (knows : Command → Bool) (r : Run) → Runs knows r
+        → r.status ≢ WriteFault → r.faults' ≡ r.faults }
 {}
 
 /// A law of runs: with NoMemory goes its line, and no status of a command that is not here comes.
 pub fn want_of_memory_has_its_line()
-    ensures line { (words : List (List ℕ)) (files : Option Files) (failures failures' : List (List ℕ))
-        (taken taken' : Option (List ℕ)) (faults faults' : ℕ) (result : Status)
-        → Runs words files failures failures' taken taken' faults faults' result
-        → result ≡ NoMemory → taken' ≡ with_bytes taken no_memory_line }
-    ensures no_other { (words : List (List ℕ)) (files : Option Files) (failures failures' : List (List ℕ))
-        (taken taken' : Option (List ℕ)) (faults faults' : ℕ) (result : Status)
-        → Runs words files failures failures' taken taken' faults faults' result
-        → result ≢ Unlawful }
+    ensures line { (knows : Command → Bool) (r : Run) → Runs knows r
+        → r.status ≡ NoMemory → r.taken' ≡ with_bytes r.taken no_memory_line }
+    ensures no_other { (knows : Command → Bool) (r : Run) → Runs knows r
+        → r.status ≢ Unlawful }
 {}
 
 /// A law of runs: the run of a script ends with Ok, Pending or Unfinished, and comes with the text of its report, or
 /// with its summary where the script was made: Pending exactly where the report says that a change was given up,
 /// Unfinished exactly where it names a node that wasn't done and no such change. The two come for no other command.
 pub fn runs_end_by_their_reports()
-    ensures ran { (words : List (List ℕ)) (files : Option Files) (failures failures' : List (List ℕ))
-        (taken taken' : Option (List ℕ)) (faults faults' : ℕ) (result : Status)
-        → Runs words files failures failures' taken taken' faults faults' result
-        → (name : List ℕ) → Asks words (commands.Step name) → IsRunStatus result → Ran files name result taken taken' }
-    ensures summed { (words : List (List ℕ)) (files : Option Files) (failures failures' : List (List ℕ))
-        (taken taken' : Option (List ℕ)) (faults faults' : ℕ) (result : Status)
-        → Runs words files failures failures' taken taken' faults faults' result
-        → (lanes : ℕ) → Asks words (commands.Big lanes) → IsRunStatus result → SummedUp lanes result taken taken' }
-    ensures only { (words : List (List ℕ)) (files : Option Files) (failures failures' : List (List ℕ))
-        (taken taken' : Option (List ℕ)) (faults faults' : ℕ) (result : Status)
-        → Runs words files failures failures' taken taken' faults faults' result
-        → (result ≡ Pending) ⊎ (result ≡ Unfinished)
-        → ((name : List ℕ) × Asks words (commands.Step name)) ⊎ ((lanes : ℕ) × Asks words (commands.Big lanes)) }
-    ensures pending { (show : Report → List ℕ) (files : Option Files) (name : List ℕ) (own : Status)
-        (taken taken' : Option (List ℕ))
-        (r : RanShowing show files name own taken taken')
+    ensures ran { (knows : Command → Bool) (r : Run) → Runs knows r
+        → (name : List ℕ) → AsksOf knows r.words (commands.Step name) → IsRunStatus r.status
+        → Ran r.files name r.status r.taken r.taken' }
+    ensures summed { (knows : Command → Bool) (r : Run) → Runs knows r
+        → (lanes : ℕ) → AsksOf knows r.words (commands.Big lanes) → IsRunStatus r.status
+        → SummedUp lanes r.status r.taken r.taken' }
+    ensures only { (knows : Command → Bool) (r : Run) → Runs knows r
+        → (r.status ≡ Pending) ⊎ (r.status ≡ Unfinished)
+        → ((name : List ℕ) × AsksOf knows r.words (commands.Step name))
+        ⊎ ((lanes : ℕ) × AsksOf knows r.words (commands.Big lanes)) }
+    ensures pending { (schedule : Schedule) (show : Report → List ℕ) (files : Option Files) (name : List ℕ)
+        (own : Status) (taken taken' : Option (List ℕ))
+        (r : RanShowing schedule show files name own taken taken')
         → (own ≡ Pending) ↔ (list_any is_pending r.report.history ≡ true) }
-    ensures unfinished { (show : Report → List ℕ) (files : Option Files) (name : List ℕ) (own : Status)
-        (taken taken' : Option (List ℕ))
-        (r : RanShowing show files name own taken taken')
+    ensures unfinished { (schedule : Schedule) (show : Report → List ℕ) (files : Option Files) (name : List ℕ)
+        (own : Status) (taken taken' : Option (List ℕ))
+        (r : RanShowing schedule show files name own taken taken')
         → (own ≡ Unfinished)
         ↔ ((list_any is_pending r.report.history ≡ false) × (is_some r.report.unfinished ≡ true)) }
 {}
@@ -149,88 +132,63 @@ pub fn lines_that_lead_on_are_statements()
 
 /// A law of runs: the program's own texts are written where they are asked for.
 pub fn own_texts_are_written()
-    ensures helped { (words : List (List ℕ)) (files : Option Files) (failures failures' : List (List ℕ))
-        (taken taken' : Option (List ℕ)) (faults faults' : ℕ) (result : Status)
-        → Runs words files failures failures' taken taken' faults faults' result
-        → Asks words commands.Help
-        → Ends result Status.Ok × (result ≡ Status.Ok → taken' ≡ with_bytes taken help_text) }
-    ensures versioned { (words : List (List ℕ)) (files : Option Files) (failures failures' : List (List ℕ))
-        (taken taken' : Option (List ℕ)) (faults faults' : ℕ) (result : Status)
-        → Runs words files failures failures' taken taken' faults faults' result
-        → Asks words commands.Version
-        → Ends result Status.Ok × (result ≡ Status.Ok → taken' ≡ with_bytes taken version_text) }
+    ensures helped { (knows : Command → Bool) (r : Run) → Runs knows r
+        → AsksOf knows r.words commands.Help
+        → Ends r.status Status.Ok × (r.status ≡ Status.Ok → r.taken' ≡ with_bytes r.taken help_text) }
+    ensures versioned { (knows : Command → Bool) (r : Run) → Runs knows r
+        → AsksOf knows r.words commands.Version
+        → Ends r.status Status.Ok × (r.status ≡ Status.Ok → r.taken' ≡ with_bytes r.taken version_text) }
 {}
 
 /// A law of runs: Ok comes with the text of the graph, of the plan, of what events leave open and settled, or of the
 /// report.
 pub fn what_is_asked_for_is_written()
-    ensures flattened { (words : List (List ℕ)) (files : Option Files) (failures failures' : List (List ℕ))
-        (taken taken' : Option (List ℕ)) (faults faults' : ℕ) (result : Status)
-        → Runs words files failures failures' taken taken' faults faults' result
-        → (file : List ℕ) (call : TopCall) → Asks words (commands.Flat file call) → result ≡ Status.Ok
-        → Flattened files file call taken taken' }
-    ensures planned { (words : List (List ℕ)) (files : Option Files) (failures failures' : List (List ℕ))
-        (taken taken' : Option (List ℕ)) (faults faults' : ℕ) (result : Status)
-        → Runs words files failures failures' taken taken' faults faults' result
-        → (file : List ℕ) (call target : TopCall) → Asks words (commands.Plan file call target) → result ≡ Status.Ok
-        → Planned files file call target taken taken' }
-    ensures replayed { (words : List (List ℕ)) (files : Option Files) (failures failures' : List (List ℕ))
-        (taken taken' : Option (List ℕ)) (faults faults' : ℕ) (result : Status)
-        → Runs words files failures failures' taken taken' faults faults' result
-        → (file events : List ℕ) → Asks words (commands.Replay file events) → result ≡ Status.Ok
-        → Replayed files file events Status.Ok taken taken' }
-    ensures upgraded { (words : List (List ℕ)) (files : Option Files) (failures failures' : List (List ℕ))
-        (taken taken' : Option (List ℕ)) (faults faults' : ℕ) (result : Status)
-        → Runs words files failures failures' taken taken' faults faults' result
-        → (file : List ℕ) → Asks words (commands.Upgrade file) → result ≡ Status.Ok → Upgraded files file taken taken' }
+    ensures flattened { (knows : Command → Bool) (r : Run) → Runs knows r
+        → (file : List ℕ) (call : TopCall) → AsksOf knows r.words (commands.Flat file call) → r.status ≡ Status.Ok
+        → Flattened r.files file call r.taken r.taken' }
+    ensures planned { (knows : Command → Bool) (r : Run) → Runs knows r
+        → (file : List ℕ) (call target : TopCall) → AsksOf knows r.words (commands.Plan file call target)
+        → r.status ≡ Status.Ok → Planned r.files file call target r.taken r.taken' }
+    ensures replayed { (knows : Command → Bool) (r : Run) → Runs knows r
+        → (file events : List ℕ) → AsksOf knows r.words (commands.Replay file events) → r.status ≡ Status.Ok
+        → Replayed r.files file events Status.Ok r.taken r.taken' }
+    ensures upgraded { (knows : Command → Bool) (r : Run) → Runs knows r
+        → (file : List ℕ) → AsksOf knows r.words (commands.Upgrade file) → r.status ≡ Status.Ok
+        → Upgraded r.files file r.taken r.taken' }
 {}
 
 /// A law of runs: Denied comes where an event is no step from the state before it, and nowhere else; the line has the
 /// first such event and its first failing rule.
 pub fn denials_are_of_first_events()
-    ensures only { (words : List (List ℕ)) (files : Option Files) (failures failures' : List (List ℕ))
-        (taken taken' : Option (List ℕ)) (faults faults' : ℕ) (result : Status)
-        → Runs words files failures failures' taken taken' faults faults' result
-        → result ≡ Denied → (file events : List ℕ) × Asks words (commands.Replay file events)
-        × Replayed files file events Denied taken taken' }
-    ensures always { (words : List (List ℕ)) (files : Files) (failures failures' : List (List ℕ))
-        (taken taken' : Option (List ℕ)) (faults faults' : ℕ) (result : Status)
-        → Runs words (Some files) failures failures' taken taken' faults faults' result
-        → failures' ≡ failures
+    ensures only { (knows : Command → Bool) (r : Run) → Runs knows r
+        → r.status ≡ Denied → (file events : List ℕ) × AsksOf knows r.words (commands.Replay file events)
+        × Replayed r.files file events Denied r.taken r.taken' }
+    ensures always { (knows : Command → Bool) (r : Run) (files : Files) → Runs knows r → ReadFrom r files
         → (file : List ℕ) (events_file : EventFile) (text : List ℕ) (graph : Graph) (number rule : ℕ)
-        → Wants (Some files) words file (queries.Replay events_file) → files file ≡ Some text → length text ≤ file_limit
+        → Wants knows (Some files) r.words file (queries.Replay events_file)
+        → files file ≡ Some text → length text ≤ file_limit
         → Starts text events_file.name events_file.args graph → IsDenied (started graph) events_file.events number rule
-        → Ends result Denied }
+        → Ends r.status Denied }
 {}
 
 /// A law of runs: Script comes where the script, the file of events or the report is too long or isn't one, and nowhere
 /// else; the line names the first fault, or what a script lacks.
 pub fn scripts_are_refused_for_their_first_fault()
-    ensures only { (words : List (List ℕ)) (files : Option Files) (failures failures' : List (List ℕ))
-        (taken taken' : Option (List ℕ)) (faults faults' : ℕ) (result : Status)
-        → Runs words files failures failures' taken taken' faults faults' result
-        → result ≡ Script → RefusesFile words files taken taken' }
-    ensures always { (words : List (List ℕ)) (files : Files) (failures failures' : List (List ℕ))
-        (taken taken' : Option (List ℕ)) (faults faults' : ℕ) (result : Status)
-        → Runs words (Some files) failures failures' taken taken' faults faults' result
-        → failures' ≡ failures → (file events : List ℕ) → Asks words (commands.Replay file events)
+    ensures only { (knows : Command → Bool) (r : Run) → Runs knows r
+        → r.status ≡ Script → RefusesFile knows r }
+    ensures always { (knows : Command → Bool) (r : Run) (files : Files) → Runs knows r → ReadFrom r files
+        → (file events : List ℕ) → AsksOf knows r.words (commands.Replay file events)
         → MustRefuseEvents (files events)
-        → Ends result Script }
-    ensures always_report { (words : List (List ℕ)) (files : Files) (failures failures' : List (List ℕ))
-        (taken taken' : Option (List ℕ)) (faults faults' : ℕ) (result : Status)
-        → Runs words (Some files) failures failures' taken taken' faults faults' result
-        → failures' ≡ failures → (file : List ℕ) → Asks words (commands.Upgrade file) → MustRefuseReport (files file)
-        → Ends result Script }
-    ensures always_script { (words : List (List ℕ)) (files : Files) (failures failures' : List (List ℕ))
-        (taken taken' : Option (List ℕ)) (faults faults' : ℕ) (result : Status)
-        → Runs words (Some files) failures failures' taken taken' faults faults' result
-        → failures' ≡ failures → (name : List ℕ) → Asks words (commands.Step name) → MustRefuseScript (files name)
-        → Ends result Script }
-    ensures always_made { (words : List (List ℕ)) (files : Option Files) (failures failures' : List (List ℕ))
-        (taken taken' : Option (List ℕ)) (faults faults' : ℕ) (result : Status)
-        → Runs words files failures failures' taken taken' faults faults' result
-        → (lanes : ℕ) → Asks words (commands.Big lanes) → MustRefuseScript (Some (script lanes))
-        → Ends result Script }
+        → Ends r.status Script }
+    ensures always_report { (knows : Command → Bool) (r : Run) (files : Files) → Runs knows r → ReadFrom r files
+        → (file : List ℕ) → AsksOf knows r.words (commands.Upgrade file) → MustRefuseReport (files file)
+        → Ends r.status Script }
+    ensures always_script { (knows : Command → Bool) (r : Run) (files : Files) → Runs knows r → ReadFrom r files
+        → (name : List ℕ) → AsksOf knows r.words (commands.Step name) → MustRefuseScript (files name)
+        → Ends r.status Script }
+    ensures always_made { (knows : Command → Bool) (r : Run) → Runs knows r
+        → (lanes : ℕ) → AsksOf knows r.words (commands.Big lanes) → MustRefuseScript (Some (script lanes))
+        → Ends r.status Script }
 {
     one_report_or_one_fault();
 }
@@ -238,26 +196,19 @@ pub fn scripts_are_refused_for_their_first_fault()
 /// A law of runs: Description comes where a description is too long or something refuses what is wanted of it, and
 /// nowhere else; the line names a fault that holds, of a script the first line that leads nowhere.
 pub fn descriptions_are_refused_for_faults_that_hold()
-    ensures only { (words : List (List ℕ)) (files : Option Files) (failures failures' : List (List ℕ))
-        (taken taken' : Option (List ℕ)) (faults faults' : ℕ) (result : Status)
-        → Runs words files failures failures' taken taken' faults faults' result
-        → result ≡ Description → RefusesDescription words files taken taken' }
-    ensures always { (words : List (List ℕ)) (files : Files) (failures failures' : List (List ℕ))
-        (taken taken' : Option (List ℕ)) (faults faults' : ℕ) (result : Status)
-        → Runs words (Some files) failures failures' taken taken' faults faults' result
-        → failures' ≡ failures → (file : List ℕ) (query : Query) → Wants (Some files) words file query
+    ensures only { (knows : Command → Bool) (r : Run) → Runs knows r
+        → r.status ≡ Description → RefusesDescription knows r }
+    ensures always { (knows : Command → Bool) (r : Run) (files : Files) → Runs knows r → ReadFrom r files
+        → (file : List ℕ) (query : Query) → Wants knows (Some files) r.words file query
         → MustRefuse query (files file)
-        → Ends result Description }
-    ensures always_line { (words : List (List ℕ)) (files : Files) (failures failures' : List (List ℕ))
-        (taken taken' : Option (List ℕ)) (faults faults' : ℕ) (result : Status)
-        → Runs words (Some files) failures failures' taken taken' faults faults' result
-        → failures' ≡ failures → (name : List ℕ) → Asks words (commands.Step name) → MustRefuseLine files (files name)
-        → Ends result Description }
-    ensures always_made_line { (words : List (List ℕ)) (files : Option Files) (failures failures' : List (List ℕ))
-        (taken taken' : Option (List ℕ)) (faults faults' : ℕ) (result : Status)
-        → Runs words files failures failures' taken taken' faults faults' result
-        → (lanes : ℕ) → Asks words (commands.Big lanes) → MustRefuseLine (made_files lanes) (Some (script lanes))
-        → Ends result Description }
+        → Ends r.status Description }
+    ensures always_line { (knows : Command → Bool) (r : Run) (files : Files) → Runs knows r → ReadFrom r files
+        → (name : List ℕ) → AsksOf knows r.words (commands.Step name) → MustRefuseLine files (files name)
+        → Ends r.status Description }
+    ensures always_made_line { (knows : Command → Bool) (r : Run) → Runs knows r
+        → (lanes : ℕ) → AsksOf knows r.words (commands.Big lanes)
+        → MustRefuseLine (made_files lanes) (Some (script lanes))
+        → Ends r.status Description }
 {
     a_graph_or_a_fault();
 }
@@ -265,42 +216,31 @@ pub fn descriptions_are_refused_for_faults_that_hold()
 /// A law of runs: where nothing refuses the description, the run ends with what its bytes give; where no line of a
 /// report is at fault, with its text; and where nothing refuses a script and its lines, with the report of its run.
 pub fn what_is_not_refused_is_answered()
-    ensures complete { (words : List (List ℕ)) (files : Files) (failures failures' : List (List ℕ))
-        (taken taken' : Option (List ℕ)) (faults faults' : ℕ) (result : Status)
-        → Runs words (Some files) failures failures' taken taken' faults faults' result
-        → failures' ≡ failures → (file : List ℕ) (query : Query) → Wants (Some files) words file query
+    ensures complete { (knows : Command → Bool) (r : Run) (files : Files) → Runs knows r → ReadFrom r files
+        → (file : List ℕ) (query : Query) → Wants knows (Some files) r.words file query
         → NothingRefuses query (files file)
-        → EndsAsGiven query (files file) result }
-    ensures every_answer { (words : List (List ℕ)) (files : Files) (failures failures' : List (List ℕ))
-        (taken taken' : Option (List ℕ)) (faults faults' : ℕ) (result : Status)
-        → Runs words (Some files) failures failures' taken taken' faults faults' result
-        → failures' ≡ failures → (file : List ℕ) (query : Query) (text : List ℕ) (own : Status) (written : List ℕ)
-        → Wants (Some files) words file query → files file ≡ Some text → length text ≤ file_limit
-        → AnswersQuery query text own written → Ends result own }
-    ensures every_graph { (words : List (List ℕ)) (files : Files) (failures failures' : List (List ℕ))
-        (taken taken' : Option (List ℕ)) (faults faults' : ℕ) (result : Status)
-        → Runs words (Some files) failures failures' taken taken' faults faults' result
-        → failures' ≡ failures → (file : List ℕ) (call : TopCall) (text : List ℕ) (graph : Graph)
-        → Asks words (commands.Flat file call)
+        → EndsAsGiven query (files file) r.status }
+    ensures every_answer { (knows : Command → Bool) (r : Run) (files : Files) → Runs knows r → ReadFrom r files
+        → (file : List ℕ) (query : Query) (text : List ℕ) (own : Status) (written : List ℕ)
+        → Wants knows (Some files) r.words file query → files file ≡ Some text → length text ≤ file_limit
+        → AnswersQuery query text own written → Ends r.status own }
+    ensures every_graph { (knows : Command → Bool) (r : Run) (files : Files) → Runs knows r → ReadFrom r files
+        → (file : List ℕ) (call : TopCall) (text : List ℕ) (graph : Graph)
+        → AsksOf knows r.words (commands.Flat file call)
         → files file ≡ Some text → length text ≤ file_limit → HasGraph text call.top call.args graph
-        → Ends result Status.Ok }
-    ensures complete_report { (words : List (List ℕ)) (files : Files) (failures failures' : List (List ℕ))
-        (taken taken' : Option (List ℕ)) (faults faults' : ℕ) (result : Status)
-        → Runs words (Some files) failures failures' taken taken' faults faults' result
-        → failures' ≡ failures → (file : List ℕ) → Asks words (commands.Upgrade file)
+        → Ends r.status Status.Ok }
+    ensures complete_report { (knows : Command → Bool) (r : Run) (files : Files) → Runs knows r → ReadFrom r files
+        → (file : List ℕ) → AsksOf knows r.words (commands.Upgrade file)
         → NothingRefusesReport (files file)
-        → Ends result Status.Ok }
-    ensures complete_script { (words : List (List ℕ)) (files : Files) (failures failures' : List (List ℕ))
-        (taken taken' : Option (List ℕ)) (faults faults' : ℕ) (result : Status)
-        → Runs words (Some files) failures failures' taken taken' faults faults' result
-        → failures' ≡ failures → (name : List ℕ) → Asks words (commands.Step name)
+        → Ends r.status Status.Ok }
+    ensures complete_script { (knows : Command → Bool) (r : Run) (files : Files) → Runs knows r → ReadFrom r files
+        → (name : List ℕ) → AsksOf knows r.words (commands.Step name)
         → NothingRefusesLines files (files name)
-        → EndsAsRun result }
-    ensures complete_big { (words : List (List ℕ)) (files : Option Files) (failures failures' : List (List ℕ))
-        (taken taken' : Option (List ℕ)) (faults faults' : ℕ) (result : Status)
-        → Runs words files failures failures' taken taken' faults faults' result
-        → (lanes : ℕ) → Asks words (commands.Big lanes) → NothingRefusesLines (made_files lanes) (Some (script lanes))
-        → EndsAsRun result }
+        → EndsAsRun r.status }
+    ensures complete_big { (knows : Command → Bool) (r : Run) → Runs knows r
+        → (lanes : ℕ) → AsksOf knows r.words (commands.Big lanes)
+        → NothingRefusesLines (made_files lanes) (Some (script lanes))
+        → EndsAsRun r.status }
 {}
 
 /// A law: the course of what is wanted of a description is what is answered of its file, by what one fetch gave,
@@ -331,18 +271,19 @@ pub fn courses_of_replays_are_by_two_files()
         × course_of (commands.Replay file name) (fetch_of name given ∷ []) (refusal no_memory) }
 {}
 
-/// A law: the course of a run is what is answered of its script, where that isn't one, and else that of its lines.
+/// A law: the course of a script, whatever its lines are followed for, is what is answered of it, where it isn't one,
+/// and else that of its lines.
 pub fn courses_of_runs_are_by_their_lines()
-    ensures refused { (name : List ℕ) (given : Fetched) (own : Status) (text : List ℕ)
+    ensures refused { (aim : Aim) (name : List ℕ) (given : Fetched) (own : Status) (text : List ℕ)
         → ScriptAnswers name given own text
-        → ShowsAnswer (course_of (commands.Step name) (fetch_of name given ∷ [])) own text }
-    ensures read { (name bytes : List ℕ) (script : ScriptOf) (fetches : List Fetch) (answer : Answer)
+        → ShowsAnswer (course_of_script (behind aim) name (fetch_of name given ∷ [])) own text }
+    ensures read { (aim : Aim) (name bytes : List ℕ) (script : ScriptOf) (fetches : List Fetch) (answer : Answer)
         → IsScript bytes script
-        → FollowsLines running begun (lines_of_script script.lines) fetches answer
-        → course_of (commands.Step name) (fetch_of name (Held bytes) ∷ fetches) answer }
-    ensures short { (name : List ℕ) (given : Fetched)
-        → course_of (commands.Step name) [] (refusal no_memory)
-        × course_of (commands.Step name) (fetch_of name given ∷ []) (refusal no_memory) }
+        → FollowsLines (behind aim) begun (lines_of_script script.lines) fetches answer
+        → course_of_script (behind aim) name (fetch_of name (Held bytes) ∷ fetches) answer }
+    ensures short { (aim : Aim) (name : List ℕ) (given : Fetched)
+        → course_of_script (behind aim) name [] (refusal no_memory)
+        × course_of_script (behind aim) name (fetch_of name given ∷ []) (refusal no_memory) }
 {}
 
 /// A law: the course of a report is what is answered of its file.
@@ -358,9 +299,10 @@ pub fn courses_of_reports_are_by_one_file()
 /// line of the script that was fetched, and the answer says so unless memory ran out.
 pub fn a_failed_fetch_is_the_last()
     ensures of_lines { (aim : Aim) (p : Progress) (lines : List RunLine) (fetches : List Fetch) (answer : Answer)
-        → FollowsLines aim p lines fetches answer → FailsLast (Uses lines) fetches answer }
-    ensures of_words { (words : List (List ℕ)) (fetches : List Fetch) (answer : Answer)
-        → AnswersWords words fetches answer → FailsLast (NamesFile (WasHeld fetches) words) fetches answer }
+        → FollowsLines (behind aim) p lines fetches answer → FailsLast (Uses lines) fetches answer }
+    ensures of_words { (knows : Command → Bool) (words : List (List ℕ)) (fetches : List Fetch) (answer : Answer)
+        → AnswersWords knows words fetches answer
+        → FailsLast (NamesFile knows (WasHeld fetches) words) fetches answer }
 {}
 
 /// A law: what bytes give is one, status and text, and they aren't refused too.

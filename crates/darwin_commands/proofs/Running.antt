@@ -1,18 +1,17 @@
 -- A run from what its parts answer.
-use Rattle.std.proofs.Common.{◌≡◌, ◌∙◌, ℕ, List, [], ◌∷◌, ◌++◌, Option, Result, Ok, Err, IfOk, append-nil, sym, subst, ap}
+use Rattle.std.proofs.Common.{◌≡◌, ◌∙◌, ℕ, Bool, List, [], ◌∷◌, ◌++◌, Option, Result, Ok, Err, IfOk, append-nil, sym, subst, ap}
 use Rattle.cfg_io.specs.Shelf.{Files}
 use Rattle.change_script.specs.declared.event_files.EventFile.{EventFile}
 use Rattle.change_script.specs.EventFiles.{IsEventFile}
 use Rattle.command_answers.specs.Answers as values
 use Rattle.command_answers.specs.Answers.{refusal, status_of, text_of}
-use Rattle.command_answers.specs.declared.status.Status.{Status}
 use Rattle.command_words.specs.declared.words.Command.{Command}
 use Rattle.command_words.specs.declared.words.Command.TheVariants as commands
-use Rattle.command_words.specs.CommandLine.{Asks}
+use Rattle.command_runs.specs.Known.{AsksOf}
 use Rattle.command_runs.specs.Commands.{course_of, course_of_query}
 use Rattle.command_runs.specs.Fetches.{fetch_of, failed_name, failed_names, Gave, report_fetch}
 use Rattle.command_runs.specs.OneFile.{DescriptionAnswers, ReportAnswers}
-use Rattle.command_runs.specs.Runs.{Written, AnswersWords, asked, Runs}
+use Rattle.command_runs.specs.Runs.{Written, AnswersWords, asked, Run, Runs}
 use Rattle.command_runs.specs.declared.fetched.Fetched.{Fetched}
 use Rattle.command_runs.specs.declared.fetched.Fetched.TheVariants.{Held}
 use Rattle.command_runs.specs.declared.query.Query.{Query}
@@ -25,14 +24,14 @@ use Rattle.darwin_commands.specs.Coming.{result_status, result_text, EndsBy, Com
 
 -- a run by no fetch
 pub runs_alone :
-    (words : List (List ℕ)) (files : Option Files) (failures : List (List ℕ)) (taken taken' : Option (List ℕ)) (faults faults' : ℕ) (answer : values.Answer)
-    (result : Status) → AnswersWords words [] answer → Written (status_of answer) (text_of answer) taken taken' faults faults' result
-    → Runs words files failures failures taken taken' faults faults' result
-runs_alone words files failures taken taken' faults faults' answer result is written = record {
+    (knows : Command → Bool) (seen : Run) (answer : values.Answer) → seen.failures' ≡ seen.failures → AnswersWords knows seen.words [] answer
+    → Written (status_of answer) (text_of answer) seen.taken seen.taken' seen.faults seen.faults' seen.status → Runs knows seen
+runs_alone knows seen answer none is written = record {
   fetches = [];
   answer = answer;
+  is = tt;
   answers = is;
-  noted = sym (append-nil failures);
+  noted = none ∙ sym (append-nil seen.failures);
   told = tt;
   written = written;
 }
@@ -44,26 +43,28 @@ one_noted names failures failures' noted = noted ∙ ap (λ ns. failures ++ ns) 
 module _ {E : Type 0} where
   -- a run, from the answer to its command
   pub runs_by :
-      (words : List (List ℕ)) (command : Command) (files : Option Files) (failures failures' : List (List ℕ)) (taken taken' : Option (List ℕ)) (faults faults' : ℕ)
-      (r : Result Answer E) (result : Status) → Asks words command → ComesBy files (course_of command) failures failures' r
-      → Written (result_status r) (result_text r) taken taken' faults faults' result → Runs words files failures failures' taken taken' faults faults' result
-  runs_by words command files failures failures' taken taken' faults faults' r result asks by written = of r by.ends written
+      (knows : Command → Bool) (seen : Run) (command : Command) (r : Result Answer E) → AsksOf knows seen.words command
+      → ComesBy seen.files (course_of command) seen.failures seen.failures' r
+      → Written (result_status r) (result_text r) seen.taken seen.taken' seen.faults seen.faults' seen.status → Runs knows seen
+  runs_by knows seen command r asks by written = of r by.ends written
     where
-      of : (r : Result Answer E) → EndsBy (course_of command) by.fetches r → Written (result_status r) (result_text r) taken taken' faults faults' result
-          → Runs words files failures failures' taken taken' faults faults' result
+      of : (r : Result Answer E) → EndsBy (course_of command) by.fetches r
+          → Written (result_status r) (result_text r) seen.taken seen.taken' seen.faults seen.faults' seen.status → Runs knows seen
       of (Ok answer) ends written = record {
         fetches = by.fetches;
         answer = ends.answer;
+        is = tt;
         answers = asked command by.fetches ends.answer asks ends.is;
         noted = by.noted;
         told = by.told;
         written =
-            subst (λ s. Written s (text_of ends.answer) taken taken' faults faults' result) ends.has_status
-            (subst (λ t. Written answer.status t taken taken' faults faults' result) ends.has_text written);
+            subst (λ s. Written s (text_of ends.answer) seen.taken seen.taken' seen.faults seen.faults' seen.status) ends.has_status
+            (subst (λ t. Written answer.status t seen.taken seen.taken' seen.faults seen.faults' seen.status) ends.has_text written);
       }
       of (Err e) ends written = record {
         fetches = by.fetches;
         answer = refusal values.no_memory;
+        is = tt;
         answers = asked command by.fetches (refusal values.no_memory) asks ends;
         noted = by.noted;
         told = by.told;
@@ -72,12 +73,11 @@ module _ {E : Type 0} where
 
   -- a run that fetches nothing
   pub runs_unfetched :
-      (words : List (List ℕ)) (command : Command) (files : Option Files) (failures : List (List ℕ)) (taken taken' : Option (List ℕ)) (faults faults' : ℕ)
-      (r : Result Answer E) (result : Status) → Asks words command → EndsBy (course_of command) [] r
-      → Written (result_status r) (result_text r) taken taken' faults faults' result → Runs words files failures failures taken taken' faults faults' result
-  runs_unfetched words command files failures taken taken' faults faults' r result asks ends written =
-      runs_by words command files failures failures taken taken' faults faults' r result asks
-      (record { fetches = []; noted = sym (append-nil failures); told = tt; ends = ends }) written
+      (knows : Command → Bool) (seen : Run) (command : Command) (r : Result Answer E) → seen.failures' ≡ seen.failures → AsksOf knows seen.words command
+      → EndsBy (course_of command) [] r
+      → Written (result_status r) (result_text r) seen.taken seen.taken' seen.faults seen.faults' seen.status → Runs knows seen
+  runs_unfetched knows seen command r none asks ends written =
+      runs_by knows seen command r asks (record { fetches = []; noted = none ∙ sym (append-nil seen.failures); told = tt; ends = ends }) written
 
   -- a description by one fetch
   pub described_by :

@@ -4,6 +4,7 @@ ghost use Rattle.std.specs.Prelude.{◌≡◌, ℕ, List, [], map, string_bytes,
 ghost use Rattle.change_script.specs.Reports.{LogsAreMade};
 ghost use Rattle.command_answers.specs.Answers.{ShowsAnswer};
 ghost use Rattle.command_words.specs.CommandLine.{Asks};
+ghost use Rattle.command_runs.specs.Known.{on_one_thread};
 ghost use Rattle.command_words.specs.declared.words.Command.TheVariants as commands;
 ghost use Rattle.command_runs.specs.Commands.{SumsUp, course_of, course_of_query};
 ghost use Rattle.command_runs.specs.RunReports.{IsReportOf};
@@ -42,9 +43,17 @@ pub fn run_words<H: Shelf, K: Sink>(
     shelf: &mut H,
     out: &mut K,
 ) -> Status
-    ensures runs { Runs (map string_bytes words.now) (H.files shelf.old)
-        (H.failed shelf.old) (H.failed shelf.new)
-        (K.taken out.old) (K.taken out.new) (K.faults out.old) (K.faults out.new) result }
+    ensures runs { Runs on_one_thread (record {
+      words = map string_bytes words.now;
+      files = H.files shelf.old;
+      failures = H.failed shelf.old;
+      failures' = H.failed shelf.new;
+      taken = K.taken out.old;
+      taken' = K.taken out.new;
+      faults = K.faults out.old;
+      faults' = K.faults out.new;
+      status = result;
+    }) }
     ensures kept { H.files shelf.new ≡ H.files shelf.old }
     ensures untouched { AskForNoFile (map string_bytes words.now) → shelf.new ≡ shelf.old }
 {
@@ -63,8 +72,17 @@ fn run_command<H: Shelf, K: Sink>(
     command: Command<'_>,
 ) -> Status
     ensures runs { (words : List (List ℕ)) → Asks words command.entry
-        → Runs words (H.files shelf.old) (H.failed shelf.old) (H.failed shelf.new)
-        (K.taken out.old) (K.taken out.new) (K.faults out.old) (K.faults out.new) result }
+        → Runs on_one_thread (record {
+          words = words;
+          files = H.files shelf.old;
+          failures = H.failed shelf.old;
+          failures' = H.failed shelf.new;
+          taken = K.taken out.old;
+          taken' = K.taken out.new;
+          faults = K.faults out.old;
+          faults' = K.faults out.new;
+          status = result;
+        }) }
     ensures kept { H.files shelf.new ≡ H.files shelf.old }
     ensures untouched { NamesNoFile command.entry → shelf.new ≡ shelf.old }
 {

@@ -5,6 +5,7 @@ ghost use Rattle.cfg_io.specs.Shelf.{Files};
 ghost use Rattle.command_answers.specs.declared.status.Status.{Status};
 ghost use Rattle.command_answers.specs.declared.status.Status.TheVariants.{Denied};
 ghost use Rattle.command_words.specs.CommandLine.{Asks};
+ghost use Rattle.command_runs.specs.Known.{on_one_thread};
 ghost use Rattle.command_words.specs.declared.words.Command.TheVariants as commands;
 ghost use Rattle.command_words.specs.declared.words.TopCall.{TopCall};
 ghost use Rattle.command_runs.specs.Outcomes.{Flattened, Planned, Replayed, Upgraded, NothingRefuses, EndsAsGiven, Wants};
@@ -30,8 +31,17 @@ pub fn still<H: Shelf, K: Sink>(
     out: &mut K,
 ) -> Status
     // The fetches, the answer and what was written of it.
-    ensures runs { Runs (map string_bytes words.now) (H.files shelf.old) (H.failed shelf.old) (H.failed shelf.new)
-        (K.taken out.old) (K.taken out.new) (K.faults out.old) (K.faults out.new) result }
+    ensures runs { Runs on_one_thread (record {
+      words = map string_bytes words.now;
+      files = H.files shelf.old;
+      failures = H.failed shelf.old;
+      failures' = H.failed shelf.new;
+      taken = K.taken out.old;
+      taken' = K.taken out.new;
+      faults = K.faults out.old;
+      faults' = K.faults out.new;
+      status = result;
+    }) }
     // No fetch changes the files.
     ensures kept { H.files shelf.new ≡ H.files shelf.old }
     // Of `flat` the text of the graph, of `plan` that of the plan, of `replay` that of what is open and settled, and of
@@ -59,7 +69,7 @@ pub fn still<H: Shelf, K: Sink>(
         × Replayed (H.files shelf.old) file events Denied (K.taken out.old) (K.taken out.new) }
     // Where nothing refuses the description, the run ends with what its bytes give.
     ensures complete { (file : List ℕ) (query : Query) (files : Files)
-        → Wants (Some files) (map string_bytes words.now) file query
+        → Wants on_one_thread (Some files) (map string_bytes words.now) file query
         → H.files shelf.old ≡ Some files → H.failed shelf.new ≡ H.failed shelf.old → NothingRefuses query (files file)
         → EndsAsGiven query (files file) result }
     // Where the file holds a report that nothing refuses, the run ends with Ok.

@@ -7,6 +7,7 @@ ghost use Rattle.std.specs.Vec.Iter.{into_iter_items};
 ghost use Rattle.command_answers.specs.Answers.{no_memory_line};
 ghost use Rattle.command_answers.specs.Statuses.{status_number};
 ghost use Rattle.command_runs.specs.Runs.{Runs, Written};
+ghost use Rattle.command_runs.specs.Known.{on_one_thread};
 ghost use Rattle.darwin_commands.specs.Exits.{Exits};
 ghost use Rattle.darwin_commands.specs.Naming.{AskForNoFile};
 
@@ -31,12 +32,28 @@ pub fn run_program<H: Shelf, K: Sink>(
     out: &mut K,
 ) -> ExitCode
     // All words but the first are asked, and none is left out.
-    ensures given { IfOk args (λ args. Exits (λ own. Runs (map string_bytes (drop 1 (into_iter_items args)))
-        (H.files shelf.old) (H.failed shelf.old) (H.failed shelf.new)
-        (K.taken out.old) (K.taken out.new) (K.faults out.old) (K.faults out.new) own) result) }
-    ensures unreadable { IfErr args (λ fault. Exits (λ own. Runs []
-        (H.files shelf.old) (H.failed shelf.old) (H.failed shelf.new)
-        (K.taken out.old) (K.taken out.new) (K.faults out.old) (K.faults out.new) own) result) }
+    ensures given { IfOk args (λ args. Exits (λ own. Runs on_one_thread (record {
+      words = map string_bytes (drop 1 (into_iter_items args));
+      files = H.files shelf.old;
+      failures = H.failed shelf.old;
+      failures' = H.failed shelf.new;
+      taken = K.taken out.old;
+      taken' = K.taken out.new;
+      faults = K.faults out.old;
+      faults' = K.faults out.new;
+      status = own;
+    })) result) }
+    ensures unreadable { IfErr args (λ fault. Exits (λ own. Runs on_one_thread (record {
+      words = [];
+      files = H.files shelf.old;
+      failures = H.failed shelf.old;
+      failures' = H.failed shelf.new;
+      taken = K.taken out.old;
+      taken' = K.taken out.new;
+      faults = K.faults out.old;
+      faults' = K.faults out.new;
+      status = own;
+    })) result) }
     // With no memory for the words nothing is fetched.
     ensures no_memory { IfErr args (λ fault. error_kind fault ≡ ErrorKind.OutOfMemory
         → Exits (λ own. Written Status.NoMemory no_memory_line
@@ -58,12 +75,28 @@ fn run_args<H: Shelf, K: Sink>(
     shelf: &mut H,
     out: &mut K,
 ) -> Status
-    ensures given { IfOk args (λ args. Runs (map string_bytes (drop 1 (into_iter_items args)))
-        (H.files shelf.old) (H.failed shelf.old) (H.failed shelf.new)
-        (K.taken out.old) (K.taken out.new) (K.faults out.old) (K.faults out.new) result) }
-    ensures unreadable { IfErr args (λ fault. Runs []
-        (H.files shelf.old) (H.failed shelf.old) (H.failed shelf.new)
-        (K.taken out.old) (K.taken out.new) (K.faults out.old) (K.faults out.new) result) }
+    ensures given { IfOk args (λ args. Runs on_one_thread (record {
+      words = map string_bytes (drop 1 (into_iter_items args));
+      files = H.files shelf.old;
+      failures = H.failed shelf.old;
+      failures' = H.failed shelf.new;
+      taken = K.taken out.old;
+      taken' = K.taken out.new;
+      faults = K.faults out.old;
+      faults' = K.faults out.new;
+      status = result;
+    })) }
+    ensures unreadable { IfErr args (λ fault. Runs on_one_thread (record {
+      words = [];
+      files = H.files shelf.old;
+      failures = H.failed shelf.old;
+      failures' = H.failed shelf.new;
+      taken = K.taken out.old;
+      taken' = K.taken out.new;
+      faults = K.faults out.old;
+      faults' = K.faults out.new;
+      status = result;
+    })) }
     ensures no_memory { IfErr args (λ fault. error_kind fault ≡ ErrorKind.OutOfMemory
         → Written Status.NoMemory no_memory_line
         (K.taken out.old) (K.taken out.new) (K.faults out.old) (K.faults out.new) result
@@ -82,9 +115,17 @@ fn run_args<H: Shelf, K: Sink>(
 
 /// The same for words that can be read.
 fn run_given<H: Shelf, K: Sink>(alloc: Global, args: Args, shelf: &mut H, out: &mut K) -> Status
-    ensures runs { Runs (map string_bytes (drop 1 (into_iter_items args)))
-        (H.files shelf.old) (H.failed shelf.old) (H.failed shelf.new)
-        (K.taken out.old) (K.taken out.new) (K.faults out.old) (K.faults out.new) result }
+    ensures runs { Runs on_one_thread (record {
+      words = map string_bytes (drop 1 (into_iter_items args));
+      files = H.files shelf.old;
+      failures = H.failed shelf.old;
+      failures' = H.failed shelf.new;
+      taken = K.taken out.old;
+      taken' = K.taken out.new;
+      faults = K.faults out.old;
+      faults' = K.faults out.new;
+      status = result;
+    }) }
     ensures kept { H.files shelf.new ≡ H.files shelf.old }
     ensures untouched { AskForNoFile (map string_bytes (drop 1 (into_iter_items args))) → shelf.new ≡ shelf.old }
 {

@@ -1,14 +1,13 @@
 //! Laws of the description that `big` makes, each as the contract of a function that does nothing.
 
-ghost use Rattle.std.specs.Prelude.{[], ◌∷◌, ◌≤◌, ℕ, List, Option, Some, codes, pos};
+ghost use Rattle.std.specs.Prelude.{[], ◌∷◌, ◌≤◌, ℕ, Bool, Some, codes, pos};
 ghost use Rattle.big_files.specs.BigFiles.{description, made_files, script};
 ghost use Rattle.big_files.specs.declared.texts.TheConstants.{MAX_LANES};
-ghost use Rattle.cfg_io.specs.Shelf.{Files};
-ghost use Rattle.command_answers.specs.declared.status.Status.{Status};
 ghost use Rattle.command_runs.specs.Descriptions.{IsChecked};
 ghost use Rattle.command_runs.specs.Outcomes.{EndsAsRun, NothingRefusesLines};
-ghost use Rattle.command_runs.specs.Runs.{Runs};
-ghost use Rattle.command_words.specs.CommandLine.{Asks};
+ghost use Rattle.command_runs.specs.Runs.{Run, Runs};
+ghost use Rattle.command_runs.specs.Known.{AsksOf};
+ghost use Rattle.command_words.specs.declared.words.Command.{Command};
 ghost use Rattle.command_words.specs.declared.words.Command.TheVariants as commands;
 ghost use Rattle.elaborator.specs.Elaboration.{HasNoFault};
 ghost use Rattle.made_runs.specs.MadeTrees.{made_tree};
@@ -41,10 +40,8 @@ pub fn made_lines_are_not_refused()
 /// A law of runs: what is made is run, and ends by its report, unless memory ran out or the sink failed. So nothing
 /// that is made is ever refused.
 pub fn made_runs_are_not_refused()
-    ensures { (words : List (List ℕ)) (files : Option Files) (failures failures' : List (List ℕ))
-        (taken taken' : Option (List ℕ)) (faults faults' : ℕ) (result : Status)
-        → Runs words files failures failures' taken taken' faults faults' result
-        → (lanes : ℕ) → Asks words (commands.Big lanes) → EndsAsRun result }
+    ensures { (knows : Command → Bool) (r : Run) → Runs knows r
+        → (lanes : ℕ) → AsksOf knows r.words (commands.Big lanes) → EndsAsRun r.status }
 {
     made_lines_are_not_refused();
     what_is_not_refused_is_answered();

@@ -12,12 +12,13 @@ use Rattle.report_laws.specs.SoundStatements.{AreSound}
 use Rattle.waiting_laws.specs.Waits.{DrainsInTime}
 use Rattle.command_answers.specs.declared.status.Status.{Status}
 use Rattle.command_runs.specs.Outcomes.{HoldsFile, RanShowing}
+use Rattle.command_runs.specs.Schedules.{rounds}
 use Rattle.command_runs.specs.Ways.{Elaborates}
 
 pub drained :
     (sound : (files : Option Files) (bytes : List ℕ) (script : Script) (statements : List Statement) → IsScript bytes script → StatementsOf (Elaborates (HoldsFile files)) script statements → AreSound statements)
     → (each : (statements : List Statement) (report : Report) → AreSound statements → (serial : Serial statements report) → Each DrainsInTime serial.parts)
-    → (show : Report → List ℕ) (files : Option Files) (name : List ℕ) (own : Status) (taken t : Option (List ℕ)) (ran : RanShowing show files name own taken t)
+    → (show : Report → List ℕ) (files : Option Files) (name : List ℕ) (own : Status) (taken t : Option (List ℕ)) (ran : RanShowing rounds show files name own taken t)
     → Each DrainsInTime ran.is_report.serial.parts
 drained sound each show files name own taken t ran =
     let are_sound = sound files ran.is_script.bytes ran.script ran.statements ran.is_script.is_script ran.have_graphs in

@@ -1,5 +1,5 @@
 -- The made script of each number of lanes is one, with the statements that are meant: each number is tried.
-use Rattle.std.proofs.Common.{◌≡◌, ◌≢◌, ◌∙◌, ◌≤◌, ◌<◌, ◌⊎◌, inl, inr, ℕ, zero, suc, nat_le, true, List, [], ◌∷◌, Option, Some, length, refl, sym, ap, subst, arith}
+use Rattle.std.proofs.Common.{◌≡◌, ◌≢◌, ◌∙◌, ◌≤◌, ◌<◌, ◌⊎◌, inl, inr, ℕ, zero, suc, nat_le, Bool, true, List, [], ◌∷◌, Option, Some, length, refl, sym, ap, subst, arith}
 use Rattle.std.proofs.lemmas.Bool.{cases_lt, leb-true}
 use Rattle.std.specs.Char.{encode_utf8}
 use Rattle.std.specs.Fmt.{digits}
@@ -10,10 +10,12 @@ use Rattle.change_script.specs.ScriptFiles.{IsScript, fault_in_lines}
 use Rattle.change_script.specs.Lines.{statements}
 use Rattle.command_runs.specs.Fetches.{file_limit}
 use Rattle.command_runs.specs.Outcomes.{ScriptRefused, script_too_long, script_at_fault, RefusesFile}
+use Rattle.command_runs.specs.Runs.{Run}
 use Rattle.command_words.specs.CommandLine.{Asks}
+use Rattle.command_runs.specs.Known.{AsksOf}
+use Rattle.command_words.specs.declared.words.Command.{Command}
 use Rattle.command_words.specs.declared.words.Command.TheVariants as commands
 use Rattle.command_words.proofs.WordsLaws.{one_command}
-use Rattle.cfg_io.specs.Shelf.{Files}
 use Rattle.run_laws.specs.MadeScripts.{made_script}
 
 -- it holds of each number from 1 on
@@ -62,10 +64,8 @@ not_refused lanes is taken taken' (script_at_fault bytes fault holds within firs
     none-some fault (sym is.0.0 ∙ ap (λ text. fault_in_lines (statements text)) (same_Some (script lanes) bytes holds) ∙ first)
 
 -- no other command refuses a script there
-pub never_refused :
-    (words : List (List ℕ)) (files : Option Files) (taken taken' : Option (List ℕ)) (lanes : ℕ) → Asks words (commands.Big lanes)
-    → RefusesFile words files taken taken' → ⊥
-never_refused words files taken taken' lanes asks refuses = by refuses
+pub never_refused : (knows : Command → Bool) (seen : Run) (lanes : ℕ) → AsksOf knows seen.words (commands.Big lanes) → RefusesFile knows seen → ⊥
+never_refused knows seen lanes asks refuses = by refuses
   where
     replay_or_big : (file events : List ℕ) → commands.Replay file events ≢ commands.Big lanes
     replay_or_big file events is = cc
@@ -76,13 +76,17 @@ never_refused words files taken taken' lanes asks refuses = by refuses
     step_or_big : (name : List ℕ) → commands.Step name ≢ commands.Big lanes
     step_or_big name is = cc
 
+    -- words that ask for a command ask for no other
+    is_big : (other : Command) → AsksOf knows seen.words other → other ≡ commands.Big lanes
+    is_big other also = one_command seen.words other (commands.Big lanes) also.1 asks.1
+
     of_words : (ws : List (List ℕ)) (n : ℕ) → Asks ws (commands.Big n) → IsMade n
     of_words [] n none = absurd none
     of_words (word ∷ body) n (named, (count, body_is, is, value)) =
         one_of IsMade 40 n all_made (subst (λ k. 1 ≤ k) (sym value) is.1) (subst (λ k. k ≤ 40) (sym value) is.2)
 
-    by : RefusesFile words files taken taken' → ⊥
-    by (inl (file, events, other, why)) = replay_or_big file events (one_command words (commands.Replay file events) (commands.Big lanes) other asks)
-    by (inr (inl (file, other, why))) = upgrade_or_big file (one_command words (commands.Upgrade file) (commands.Big lanes) other asks)
-    by (inr (inr (inl (name, other, why)))) = step_or_big name (one_command words (commands.Step name) (commands.Big lanes) other asks)
-    by (inr (inr (inr (n, other, why)))) = not_refused n (of_words words n other) taken taken' why
+    by : RefusesFile knows seen → ⊥
+    by (inl (file, events, other, why)) = replay_or_big file events (is_big (commands.Replay file events) other)
+    by (inr (inl (file, other, why))) = upgrade_or_big file (is_big (commands.Upgrade file) other)
+    by (inr (inr (inl (name, other, why)))) = step_or_big name (is_big (commands.Step name) other)
+    by (inr (inr (inr (n, other, why)))) = not_refused n (of_words seen.words n other.1) seen.taken seen.taken' why

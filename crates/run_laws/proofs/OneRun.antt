@@ -13,6 +13,7 @@ use Rattle.report_laws.proofs.StatementLaws.{one_list}
 use Rattle.command_answers.specs.Answers.{run_status}
 use Rattle.command_answers.specs.declared.status.Status.{Status}
 use Rattle.command_runs.specs.Outcomes.{HoldsFile, RanShowing}
+use Rattle.command_runs.specs.Schedules.{rounds}
 use Rattle.command_runs.specs.Ways.{Elaborates}
 use Rattle.command_runs.proofs.WayLaws.{one_elaborated}
 
@@ -21,8 +22,8 @@ pub one_text : (f : Files) (file text other : List ℕ) → HoldsFile (Some f) f
 one_text f file text other a b = same_Some text other (sym a ∙ b)
 
 pub one_run :
-    (show : Report → List ℕ) (f : Files) (name : List ℕ) (own other : Status) (taken t also : Option (List ℕ)) → RanShowing show (Some f) name own taken t
-    → RanShowing show (Some f) name other taken also → (own ≡ other) × (t ≡ also)
+    (show : Report → List ℕ) (f : Files) (name : List ℕ) (own other : Status) (taken t also : Option (List ℕ)) → RanShowing rounds show (Some f) name own taken t
+    → RanShowing rounds show (Some f) name other taken also → (own ≡ other) × (t ≡ also)
 one_run show f name own other taken t also x y =
     let elab = Elaborates (HoldsFile (Some f)) in
     let bytes = one_text f name x.is_script.bytes y.is_script.bytes x.is_script.told y.is_script.told in

@@ -1,6 +1,6 @@
 //! Laws of runs of scripts; those of which lines are refused are of a shelf that tells its files.
 
-ghost use Rattle.std.specs.Prelude.{◌≡◌, ◌≢◌, ◌≤◌, ℕ, List, Option, Some};
+ghost use Rattle.std.specs.Prelude.{◌≡◌, ◌≢◌, ◌≤◌, ℕ, Bool, List, Option, Some};
 ghost use Rattle.base.specs.Each.{Each};
 ghost use Rattle.big_files.specs.BigFiles.{script};
 ghost use Rattle.big_files.specs.declared.texts.TheConstants.{MAX_LANES};
@@ -12,14 +12,15 @@ ghost use Rattle.command_runs.specs.Failures.{Uses};
 ghost use Rattle.command_runs.specs.Lines.{RunLine, Progress, begun};
 ghost use Rattle.command_runs.specs.Outcomes.{HoldsFile, MustRefuseLine, MustRefuseScript};
 ghost use Rattle.command_runs.specs.Outcomes.{NothingRefusesLines, Ran, SummedUp, TellsTooLong};
-ghost use Rattle.command_runs.specs.Runs.{Runs};
+ghost use Rattle.command_runs.specs.Runs.{Run, Runs};
 ghost use Rattle.command_runs.specs.Scripts.{lines_of_script};
 ghost use Rattle.command_runs.specs.RunReports.{IsReportOf};
 ghost use Rattle.command_runs.specs.Ways.{AreRefused, Elaborates, LeadTo};
 ghost use Rattle.change_law.specs.Scripts.{StatementsOf};
 ghost use Rattle.change_law.specs.Statements.{Statement};
 ghost use Rattle.change_script.specs.declared.report.Report.{Report};
-ghost use Rattle.command_words.specs.CommandLine.{Asks};
+ghost use Rattle.command_runs.specs.Known.{AsksOf};
+ghost use Rattle.command_words.specs.declared.words.Command.{Command};
 ghost use Rattle.command_words.specs.declared.words.Command.TheVariants as commands;
 ghost use Rattle.report_laws.specs.SoundStatements.{AreSound};
 ghost use Rattle.run_laws.specs.MadeScripts.{made_script};
@@ -93,7 +94,7 @@ pub fn lines_lead_or_are_refused()
 /// A law: what is asked of a file so that it must be refused as a script, that a line of it must be refused, or that
 /// nothing is refused: no two of these hold of the same bytes, and that none holds can't be. So for each text one of
 /// three answers is due, where memory lasts.
-pub fn each_script_is_refused_or_run()
+pub fn three_things_are_asked_of_a_script()
     ensures whole_or_line { (files : Files) (bytes : List ℕ) → MustRefuseScript (Some bytes)
         → ¬ MustRefuseLine files (Some bytes) }
     ensures whole_or_nothing { (files : Files) (bytes : List ℕ) → MustRefuseScript (Some bytes)
@@ -111,10 +112,8 @@ pub fn made_scripts_are_scripts()
 
 /// A law of runs: what is made is never refused as a script.
 pub fn made_scripts_are_not_refused()
-    ensures { (words : List (List ℕ)) (files : Option Files) (failures failures' : List (List ℕ))
-        (taken taken' : Option (List ℕ)) (faults faults' : ℕ) (result : Status)
-        → Runs words files failures failures' taken taken' faults faults' result
-        → (lanes : ℕ) → Asks words (commands.Big lanes) → result ≢ Status.Script }
+    ensures { (knows : Command → Bool) (r : Run) → Runs knows r
+        → (lanes : ℕ) → AsksOf knows r.words (commands.Big lanes) → r.status ≢ Status.Script }
 {
     scripts_are_refused_for_their_first_fault();
 }

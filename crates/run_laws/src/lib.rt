@@ -5,6 +5,6 @@ mod laws;
 
 pub use laws::{
     a_script_has_a_report, a_script_has_one_run, changes_of_a_run_drain_in_time,
-    each_script_is_refused_or_run, lines_lead_or_are_refused, made_scripts_are_not_refused,
-    made_scripts_are_scripts,
+    lines_lead_or_are_refused, made_scripts_are_not_refused, made_scripts_are_scripts,
+    three_things_are_asked_of_a_script,
 };

@@ -6,9 +6,10 @@ use Rattle.std.proofs.lemmas.Grind.{flat_map-append}
 use Rattle.cfg_io.specs.Shelf.{Files}
 use Rattle.command_answers.specs.Answers.{no_memory, refusal}
 use Rattle.command_answers.specs.Answers as values
-use Rattle.command_runs.specs.Courses.{not_fetched, not_judged}
+use Rattle.command_runs.specs.Courses.{not_fetched, not_judged, not_made}
 use Rattle.command_runs.specs.Fetches.{Fetch, Gave, failed_name, failed_names, fetch_of}
-use Rattle.command_runs.specs.Lines.{Aim, RunLine, uses, calls, does, FollowsLines, Progress, running, with_statement}
+use Rattle.command_runs.specs.Lines.{Aim, RunLine, uses, calls, does, behind, FollowsLines, Progress, running, with_statement}
+use Rattle.command_runs.specs.Schedules.{rounds}
 use Rattle.command_runs.specs.declared.fetched.Fetched.{Fetched}
 use Rattle.file_answers.specs.declared.answer.Answer.{Answer}
 use Rattle.script_answers.specs.Leading.{LeadOn, Took}
@@ -16,8 +17,8 @@ use Rattle.script_answers.specs.Ways.{IsAt}
 use Rattle.script_answers.specs.declared.way.Way.{Way}
 
 -- memory may run out before any line
-pub always_short : (aim : Aim) (p : Progress) (rest : List RunLine) → FollowsLines aim p rest [] (refusal no_memory)
-always_short aim p [] = not_judged
+pub always_short : (aim : Aim) (p : Progress) (rest : List RunLine) → FollowsLines (behind aim) p rest [] (refusal no_memory)
+always_short aim p [] = not_made
 always_short aim p (uses file ∷ rest) = not_fetched
 always_short aim p (calls deed name args ∷ rest) = not_judged
 always_short aim p (does what ∷ rest) = always_short aim (with_statement p what) rest
@@ -59,19 +60,19 @@ module _ {E F : Type 0} (files : Option Files) (p : Progress) (lines below : Lis
         (t.lead.2 (below ++ rest) (fetches ++ more) answer (u.2 rest more answer follows)),
   )
     where
-      moved : (rest : List RunLine) (fs gs : List Fetch) (answer : values.Answer) → fs ≡ gs → FollowsLines running p (lines ++ (below ++ rest)) gs answer → FollowsLines running p ((lines ++ below) ++ rest) fs answer
+      moved : (rest : List RunLine) (fs gs : List Fetch) (answer : values.Answer) → fs ≡ gs → FollowsLines (behind (running rounds)) p (lines ++ (below ++ rest)) gs answer → FollowsLines (behind (running rounds)) p ((lines ++ below) ++ rest) fs answer
       moved rest fs gs answer same follows =
-          subst (λ ls. FollowsLines running p ls fs answer) (sym (append_assoc lines below rest)) (subst (λ hs. FollowsLines running p (lines ++ (below ++ rest)) hs answer) (sym same) follows)
+          subst (λ ls. FollowsLines (behind (running rounds)) p ls fs answer) (sym (append_assoc lines below rest)) (subst (λ hs. FollowsLines (behind (running rounds)) p (lines ++ (below ++ rest)) hs answer) (sym same) follows)
   lead_joined t fetches (Ok (Some a)) u =
       λ rest. let s = u rest in
       record {
         answer = s.answer;
-        is = subst (λ ls. FollowsLines running p ls (t.fetches ++ fetches) s.answer) (sym (append_assoc lines below rest)) (t.lead.2 (below ++ rest) fetches s.answer s.is);
+        is = subst (λ ls. FollowsLines (behind (running rounds)) p ls (t.fetches ++ fetches) s.answer) (sym (append_assoc lines below rest)) (t.lead.2 (below ++ rest) fetches s.answer s.is);
         has_status = s.has_status;
         has_text = s.has_text;
       }
   lead_joined t fetches (Err e) u =
-      λ rest. subst (λ ls. FollowsLines running p ls (t.fetches ++ fetches) (refusal no_memory)) (sym (append_assoc lines below rest))
+      λ rest. subst (λ ls. FollowsLines (behind (running rounds)) p ls (t.fetches ++ fetches) (refusal no_memory)) (sym (append_assoc lines below rest))
       (t.lead.2 (below ++ rest) fetches (refusal no_memory) (u rest))
 
   pub joined : (r : Result (Option Answer) F) → Took {E = E} files p lines failures between mid (Ok None)

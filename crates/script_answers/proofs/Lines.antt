@@ -20,7 +20,8 @@ use Rattle.command_answers.specs.declared.status.Status.TheVariants as status
 use Rattle.command_runs.specs.Courses.{failed, gives, leads_on, refused, too_long}
 use Rattle.command_runs.specs.Descriptions.{IsChecked, IsTextRefusal}
 use Rattle.command_runs.specs.Fetches.{fetch_of}
-use Rattle.command_runs.specs.Lines.{Deed, RunLine, calls, changes, does, starts, uses, FollowsLines, IsCallRefusal, Progress, running, with_called_graph, with_description, with_statement}
+use Rattle.command_runs.specs.Lines.{Deed, RunLine, calls, changes, does, starts, uses, behind, FollowsLines, IsCallRefusal, Progress, running, with_called_graph, with_description, with_statement}
+use Rattle.command_runs.specs.Schedules.{rounds}
 use Rattle.command_runs.specs.declared.fetched.Fetched.TheVariants.{Failed, Held, TooLong}
 use Rattle.darwin_types.specs.Checked as of_checked
 use Rattle.darwin_types.specs.declared.checked.Checked.{Checked}
@@ -158,7 +159,7 @@ found_marks way next body (Err e) found = tt
 
 -- a description that is refused
 pub text_refused : (file text : List ℕ) (fault : DescriptionFault) (answer : Answer) → MayRefuse (IsTextRefusal text) fault → IsRefusalFor file fault answer → (p : Progress) (rest : List RunLine)
-    → ShowsAnswer (FollowsLines running p (uses file ∷ rest) (fetch_of file (Held text) ∷ [])) answer.status answer.text.items
+    → ShowsAnswer (FollowsLines (behind (running rounds)) p (uses file ∷ rest) (fetch_of file (Held text) ∷ [])) answer.status answer.text.items
 text_refused file text fault answer may is p rest = record {
   answer = refusal (description file (fault_words fault));
   is = leads_on text [] (refusal (description file (fault_words fault))) (refused (fault_words fault) (may is.plain));
@@ -167,11 +168,11 @@ text_refused file text fault answer may is p rest = record {
 }
 
 pub too_long_refused : (file : List ℕ) (p : Progress) (rest : List RunLine)
-    → ShowsAnswer (FollowsLines running p (uses file ∷ rest) (fetch_of file TooLong ∷ [])) status.Description (description_line file (codes "TooLong" ∷ []))
+    → ShowsAnswer (FollowsLines (behind (running rounds)) p (uses file ∷ rest) (fetch_of file TooLong ∷ [])) status.Description (description_line file (codes "TooLong" ∷ []))
 too_long_refused file p rest = record { answer = refusal (description file (codes "TooLong" ∷ [])); is = too_long; has_status = refl; has_text = refl }
 
 pub failed_refused : (file : List ℕ) (p : Progress) (rest : List RunLine)
-    → ShowsAnswer (FollowsLines running p (uses file ∷ rest) (fetch_of file Failed ∷ [])) status.ReadFault (read_fault_line file)
+    → ShowsAnswer (FollowsLines (behind (running rounds)) p (uses file ∷ rest) (fetch_of file Failed ∷ [])) status.ReadFault (read_fault_line file)
 failed_refused file p rest = record { answer = refusal (read_fault file); is = failed; has_status = refl; has_text = refl }
 
 -- room for what a change creates

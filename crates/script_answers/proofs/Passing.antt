@@ -8,7 +8,8 @@ use Rattle.change_script.specs.ScriptFiles.{is_file}
 use Rattle.change_script.specs.declared.script.ScriptLine.{ScriptLine}
 use Rattle.command_answers.specs.Answers.{refusal, no_memory}
 use Rattle.command_runs.specs.Fetches.{Fetch}
-use Rattle.command_runs.specs.Lines.{RunLine, FollowsLines, Progress, running}
+use Rattle.command_runs.specs.Lines.{RunLine, behind, FollowsLines, Progress, running}
+use Rattle.command_runs.specs.Schedules.{rounds}
 use Rattle.command_runs.specs.Scripts.{lines_of_body, lines_of_script}
 use Rattle.file_answers.specs.declared.answer.Answer.{Answer}
 use Rattle.script_answers.specs.Fitting.{MayAllStand}
@@ -50,12 +51,12 @@ stopped_lead p lines more_ fetches way (Ok (Some answer)) stopped lead =
     λ rest. let s = lead (more_ ++ rest) in
     record {
       answer = s.answer;
-      is = subst (λ ls. FollowsLines running p ls fetches s.answer) (sym (append_assoc lines more_ rest)) s.is;
+      is = subst (λ ls. FollowsLines (behind (running rounds)) p ls fetches s.answer) (sym (append_assoc lines more_ rest)) s.is;
       has_status = s.has_status;
       has_text = s.has_text;
     }
 stopped_lead p lines more_ fetches way (Err e) stopped lead =
-    λ rest. subst (λ ls. FollowsLines running p ls fetches (refusal no_memory)) (sym (append_assoc lines more_ rest)) (lead (more_ ++ rest))
+    λ rest. subst (λ ls. FollowsLines (behind (running rounds)) p ls fetches (refusal no_memory)) (sym (append_assoc lines more_ rest)) (lead (more_ ++ rest))
 
 module _ {E : Type 0} (files files' : Option Files) (way mid next : Way) (ys rest : List ScriptLine) (line : ScriptLine) (failures between failures' : List (List ℕ))
     (before : IsPassed files files' way mid ys (line ∷ rest) failures between) where

@@ -9,7 +9,8 @@ use Rattle.command_answers.specs.Statuses.{is_of_run}
 use Rattle.command_answers.specs.Answers.{ShowsAnswer, no_memory, refusal}
 use Rattle.command_runs.specs.Descriptions.{IsChecked}
 use Rattle.command_runs.specs.Fetches.{Fetch, Gave, failed_names, fetch_of}
-use Rattle.command_runs.specs.Lines.{RunLine, uses, FollowsLines, Progress, running}
+use Rattle.command_runs.specs.Lines.{RunLine, uses, behind, FollowsLines, Progress, running}
+use Rattle.command_runs.specs.Schedules.{rounds}
 use Rattle.command_runs.specs.declared.fetched.Fetched.{Fetched}
 use Rattle.command_runs.specs.declared.fetched.Fetched.TheVariants.{Held}
 use Rattle.darwin_types.specs.Checked.{description}
@@ -23,11 +24,11 @@ use Rattle.script_answers.specs.declared.way.Way.{Way}
 abbrev pub LeadOn : {E : Type 0} → Progress → List RunLine → List Fetch → Way → Result (Option Answer) E → Type 0
 LeadOn p lines fetches way (Ok None) =
     (q : Progress) × IsAt way q
-    × ((rest : List RunLine) (more : List Fetch) (answer : values.Answer) → FollowsLines running q rest more answer
-    → FollowsLines running p (lines ++ rest) (fetches ++ more) answer)
+    × ((rest : List RunLine) (more : List Fetch) (answer : values.Answer) → FollowsLines (behind (running rounds)) q rest more answer
+    → FollowsLines (behind (running rounds)) p (lines ++ rest) (fetches ++ more) answer)
 LeadOn p lines fetches way (Ok (Some answer)) =
-    (rest : List RunLine) → ShowsAnswer (FollowsLines running p (lines ++ rest) fetches) answer.status answer.text.items
-LeadOn p lines fetches way (Err _) = (rest : List RunLine) → FollowsLines running p (lines ++ rest) fetches (refusal no_memory)
+    (rest : List RunLine) → ShowsAnswer (FollowsLines (behind (running rounds)) p (lines ++ rest) fetches) answer.status answer.text.items
+LeadOn p lines fetches way (Err _) = (rest : List RunLine) → FollowsLines (behind (running rounds)) p (lines ++ rest) fetches (refusal no_memory)
 
 -- the same by fetches whose failures the shelf notes, and which gave what its files hold
 pub record Took {E : Type 0} (files : Option Files) (p : Progress) (lines : List RunLine) (failures failures' : List (List ℕ))
@@ -57,4 +58,4 @@ Describes file given (described.Checked checked) = (bytes : List ℕ) × (given 
 Describes file given (described.Refused answer) =
     IsOfNoRun answer
     × ((p : Progress) (rest : List RunLine)
-    → ShowsAnswer (FollowsLines running p (uses file ∷ rest) (fetch_of file given ∷ [])) answer.status answer.text.items)
+    → ShowsAnswer (FollowsLines (behind (running rounds)) p (uses file ∷ rest) (fetch_of file given ∷ [])) answer.status answer.text.items)

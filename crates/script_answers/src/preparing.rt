@@ -2,7 +2,8 @@
 
 ghost use Rattle.std.specs.Prelude.{◌≡◌, ℕ, List, IfOk, IsSome};
 ghost use Rattle.change_script.specs.ScriptFiles.{IsScript};
-ghost use Rattle.command_runs.specs.Lines.{begun, running, FollowsLines};
+ghost use Rattle.command_runs.specs.Lines.{begun, behind, running, FollowsLines};
+ghost use Rattle.command_runs.specs.Schedules.{rounds};
 ghost use Rattle.command_runs.specs.Scripts.{lines_of_script};
 ghost use Rattle.script_answers.specs.Preparing.{CanRun, IsAskedBy, Prepares, PreparesIn, RefusesRun};
 
@@ -45,7 +46,7 @@ fn prepare_lines<H: Shelf>(
     script: Script,
 ) -> Result<Prepared, NoMemory>
     requires { (text : List ℕ) × IsScript text script }
-    ensures prepares { PreparesIn (H.files shelf.old) (FollowsLines running begun (lines_of_script script.lines))
+    ensures prepares { PreparesIn (H.files shelf.old) (FollowsLines (behind (running rounds)) begun (lines_of_script script.lines))
         (H.failed shelf.old) (H.failed shelf.new) result }
     ensures kept { H.files shelf.new ≡ H.files shelf.old }
     ensures can_run { IfOk result CanRun }

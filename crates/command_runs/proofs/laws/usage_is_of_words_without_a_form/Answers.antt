@@ -4,6 +4,6 @@ use Rattle.command_runs.proofs.laws.usage_is_of_words_without_a_form.Goals as go
 
 pub returns : goal.returns
 returns c = record {
-  only = λ words files failures failures' taken taken' faults faults' result run. ending.usage words files failures failures' taken taken' faults faults' result (ran words files failures failures' taken taken' faults faults' result run);
-  always = λ words files failures failures' taken taken' faults faults' result run. ending.every_usage words files failures failures' taken taken' faults faults' result (ran words files failures failures' taken taken' faults faults' result run);
+  only = λ knows seen run. ending.usage knows seen (ran knows seen run);
+  always = λ knows seen run. ending.every_usage knows seen (ran knows seen run);
 }

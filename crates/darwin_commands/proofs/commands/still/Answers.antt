@@ -1,4 +1,6 @@
--- Each clause follows from the one relation of runs.
+-- Each clause follows from the one relation of runs, as all commands that there are are known.
+use Rattle.std.proofs.Common.{refl}
+use Rattle.command_runs.specs.Known.{on_one_thread}
 use Rattle.command_runs.proofs.RunLaws as laws
 use Rattle.darwin_commands.proofs.commands.still.Goals as goal
 
@@ -8,16 +10,16 @@ returns g c =
     record {
       runs = run;
       kept = c.run_words.ensures.kept;
-      flattened = laws.flattens _ _ _ _ _ _ _ _ _ run;
-      planned = laws.plans _ _ _ _ _ _ _ _ _ run;
-      replayed = laws.replays _ _ _ _ _ _ _ _ _ run;
-      upgraded = laws.upgrades _ _ _ _ _ _ _ _ _ run;
-      ran = laws.runs _ _ _ _ _ _ _ _ _ run;
-      summed = laws.sums_up _ _ _ _ _ _ _ _ _ run;
-      denied = laws.denies _ _ _ _ _ _ _ _ _ run;
-      complete = λ file query files wants telling steady. laws.completes _ _ _ _ _ _ _ _ _ run files telling steady file query wants;
-      complete_report = λ file files asks telling steady. laws.completes_report _ _ _ _ _ _ _ _ _ run files telling steady file asks;
-      complete_big = c.made_runs_are_not_refused.ensures _ _ _ _ _ _ _ _ _ run;
+      flattened = λ file call asks. laws.flattens on_one_thread _ run file call (refl, asks);
+      planned = λ file call target asks. laws.plans on_one_thread _ run file call target (refl, asks);
+      replayed = λ file events asks. laws.replays on_one_thread _ run file events (refl, asks);
+      upgraded = λ file asks. laws.upgrades on_one_thread _ run file (refl, asks);
+      ran = λ name asks. laws.runs on_one_thread _ run name (refl, asks);
+      summed = λ lanes asks. laws.sums_up on_one_thread _ run lanes (refl, asks);
+      denied = λ is. let d = laws.denies on_one_thread _ run is in (d.0, d.1, d.2.1, d.3);
+      complete = λ file query files wants tells steady. laws.completes on_one_thread _ run files (record { tells = tells; steady = steady }) file query wants;
+      complete_report = λ file files asks tells steady. laws.completes_report on_one_thread _ run files (record { tells = tells; steady = steady }) file (refl, asks);
+      complete_script = λ name files asks tells steady. laws.completes_script on_one_thread _ run files (record { tells = tells; steady = steady }) name (refl, asks);
+      complete_big = λ lanes asks. c.made_runs_are_not_refused.ensures on_one_thread _ run lanes (refl, asks);
       untouched = c.run_words.ensures.untouched;
-      complete_script = λ name files asks telling steady. laws.completes_script _ _ _ _ _ _ _ _ _ run files telling steady name asks;
     }

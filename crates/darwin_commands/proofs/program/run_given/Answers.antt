@@ -1,8 +1,10 @@
 -- Where there is no memory for the words, they aren't read.
+use Rattle.std.proofs.Common.{refl}
 use Rattle.command_answers.specs.Answers.{refusal, no_memory}
 use Rattle.command_runs.specs.Runs.{not_read}
+use Rattle.command_runs.specs.Known.{on_one_thread}
 use Rattle.darwin_commands.proofs.Running.{runs_alone}
 use Rattle.darwin_commands.proofs.program.run_given.Goals as goal
 
 pub returns-in-Err-clause-runs : goal.returns-in-Err-clause-runs
-returns-in-Err-clause-runs g c = runs_alone _ _ _ _ _ _ _ (refusal no_memory) _ not_read c.no_memory.ensures
+returns-in-Err-clause-runs g c = runs_alone on_one_thread _ (refusal no_memory) refl not_read c.no_memory.ensures

@@ -1,6 +1,7 @@
 -- What the run does of itself refuses nothing.
 use Rattle.std.proofs.lemmas.Result.{err_from_is_err_and}
 use Rattle.command_runs.specs.Lines.{running, with_statement}
+use Rattle.command_runs.specs.Schedules.{rounds}
 use Rattle.script_answers.proofs.Courses.{always_short}
 use Rattle.script_answers.proofs.Lines.{did, step_marks}
 use Rattle.script_steps.specs.Asked.{statement_of}
@@ -15,4 +16,4 @@ returns-clause-marks c = λ body no_file no_start. step_marks _ _ _ _ body c.in_
 pub returns-in_err-add_step-clause-lead : goal.returns-in_err-add_step-clause-lead
 returns-in_err-add_step-clause-lead c = λ p at.
     let q = err_from_is_err_and c.from_residual.result c.from_residual.ensures.1 in
-    rw q.1 (λ rest. always_short running (with_statement p (statement_of c.args.step)) rest)
+    rw q.1 (λ rest. always_short (running rounds) (with_statement p (statement_of c.args.step)) rest)

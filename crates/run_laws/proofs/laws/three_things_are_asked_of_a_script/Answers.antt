@@ -1,5 +1,5 @@
 use Rattle.run_laws.proofs.Premises as premises
-use Rattle.run_laws.proofs.laws.each_script_is_refused_or_run.Goals as goal
+use Rattle.run_laws.proofs.laws.three_things_are_asked_of_a_script.Goals as goal
 
 pub returns : goal.returns
 returns c = record {
