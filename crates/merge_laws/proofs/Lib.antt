@@ -1,0 +1,17 @@
+mod ConfluenceLemmas
+mod SwapLemmas
+mod GoingLemmas
+mod GuidedLemmas
+mod SerialLemmas
+mod GuideLemmas
+mod MergeLemmas
+mod OpenRootLemmas
+mod RootPortLemmas
+mod ApartLemmas
+mod LawfulLemmas
+mod ClosingPortLemmas
+mod DescentLemmas
+mod CalmLemmas
+mod TellingLemmas
+mod FrontLemmas
+mod ReadingLemmas
