@@ -15,3 +15,4 @@ mod CalmLemmas
 mod TellingLemmas
 mod FrontLemmas
 mod ReadingLemmas
+mod LogLemmas

@@ -15,6 +15,8 @@ use Rattle.quiescence_laws.specs.Drained.{is_drained}
 use Rattle.quiescence_laws.specs.Roots.{has_root}
 use Rattle.change_script.specs.declared.report.HistoryLine.{HistoryLine}
 use Rattle.change_script.specs.declared.report.HistoryLine.TheVariants as to
+use Rattle.change_script.specs.declared.report.NodeLog.{NodeLog}
+use Rattle.change_script.specs.declared.report.Report.{Report}
 use Rattle.change_law.specs.Members.{event_of, is_close}
 
 -- ---- what is told ahead
@@ -120,6 +122,9 @@ left x = length x.lines + amount x.logs
 -- nothing has come yet
 abbrev pub all_left : List HistoryLine → List (List Event) → Left
 all_left history logs = record { state = empty; lines = history; logs = logs }
+
+abbrev pub left_of : Report → Left
+left_of report = all_left report.history (map (λ (l : NodeLog). l.events) report.logs)
 
 -- whether members may come one after the other, by their chains
 abbrev pub can_go : Left → List ℕ → Bool

@@ -13,7 +13,7 @@ pub use following::{
     looks_are_found_by_descents, readers_have_no_choice,
 };
 pub use going::{all_ways_end_where_one_does, guided_merges_are_found, ways_are_merges};
-pub use lawful::lawful_lists_are_merges;
+pub use lawful::{lawful_lists_are_merges, lawful_reports_are_found};
 pub use merging::{
     going_decides_merges, merges_meet_the_guards, roots_are_of_ports_that_no_service_calls,
 };
