@@ -1,0 +1,19 @@
+//! Laws of merges: a history and the nodes' logs are parts of one run exactly where a simulation, in which each member
+//! comes as soon as the machine's rules and a few guards let it, ends with nothing left. So whether there is such a run is
+//! found without a search: members that may come next never bar each other, and either order comes to the same.
+#![tactic(auto)]
+
+mod following;
+mod going;
+mod lawful;
+mod merging;
+
+pub use following::{
+    a_statement_has_one_front, changes_are_read_so, histories_tell_their_closes,
+    looks_are_found_by_descents, readers_have_no_choice,
+};
+pub use going::{all_ways_end_where_one_does, guided_merges_are_found, ways_are_merges};
+pub use lawful::{lawful_lists_are_merges, lawful_reports_are_found};
+pub use merging::{
+    going_decides_merges, merges_meet_the_guards, roots_are_of_ports_that_no_service_calls,
+};
