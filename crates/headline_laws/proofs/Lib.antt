@@ -5,6 +5,7 @@ pub mod EndLaws
 pub mod FoldLaws
 pub mod FollowLaws
 pub mod GraphLaws
+pub mod HearingLaws
 mod HeirLemmas
 mod ItemLemmas
 mod JoiningLemmas
@@ -20,3 +21,4 @@ pub mod PendingLaws
 pub mod PortLaws
 pub mod RootLaws
 pub mod RoomLaws
+mod WaitLemmas
