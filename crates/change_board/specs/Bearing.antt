@@ -9,7 +9,7 @@ use Rattle.gate_word.specs.Words.{has_root, unpack}
 use Rattle.quiesce_core.specs.Rules.{is_live_port}
 use Rattle.gate_records.specs.Entries.{config_of, event_in}
 use Rattle.gate_records.specs.declared.entry.Entry.{Entry}
-use Rattle.gate_records.specs.declared.entry.Entry.TheVariants.{Looked}
+use Rattle.gate_records.specs.declared.entry.Entry.TheVariants.{Looked, Scanned}
 use Rattle.gate_records.specs.Looks.{serial_of}
 use Rattle.change_board.specs.Transcripts.{Item, silent, told, said, entries, lines, tells}
 
@@ -34,6 +34,19 @@ pub record SawRoot (before : List Item) (p k : ℕ) : Type 0 where
   pub behind_closes : list_any is_close (lines since) ≡ false
   pub enough : rounds + 1 ≤ count_by (loads_root p k) (entries since)
 
+-- whether an entry is the mark of a scan in which no node begins a transaction
+abbrev pub is_waiting_scan : Entry → Bool
+is_waiting_scan (Scanned false moved) = true
+is_waiting_scan _ = false
+
+-- behind the last close, at least so many scans were made in which no node begins a transaction
+pub record HadRounds (before : List Item) (rounds : ℕ) : Type 0 where
+  pub front : List Item
+  pub since : List Item
+  pub parts : before ≡ front ++ since
+  pub behind_closes : list_any is_close (lines since) ≡ false
+  pub enough : rounds ≤ count_by is_waiting_scan (entries since)
+
 -- since the line before, each live port was looked at at least so often
 pub record WereLookedAt (before : List Item) (rounds : ℕ) : Type 0 where
   pub front : List Item
@@ -52,6 +65,7 @@ IsAside l = event_of l ≡ None
 abbrev pub IsBorne : List Item → Item → Type 0
 IsBorne before (silent x) = event_in x ≡ None
 IsBorne before (told x l) = tells x ≡ Some l
+IsBorne before (said (to.Pending rounds)) = HadRounds before rounds
 IsBorne before (said (to.Root p k)) = SawRoot before p k
 IsBorne before (said (to.Finish n rounds)) = WereLookedAt before rounds
 IsBorne before (said l) = IsAside l

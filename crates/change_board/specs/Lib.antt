@@ -1,5 +1,6 @@
 pub mod Sights
 pub mod Steps
+pub mod Doing
 pub mod Looking
 pub mod Making
 pub mod Scans

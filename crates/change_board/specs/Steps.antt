@@ -6,7 +6,7 @@ use Rattle.quiesce_core.specs.declared.event.Event.{Event}
 use Rattle.quiesce_core.specs.declared.event.Event.TheVariants.{Close, Reopen, Make}
 use Rattle.gate_records.specs.declared.entry.Entry.{Entry}
 use Rattle.gate_records.specs.declared.entry.Entry.TheVariants.{Did}
-use Rattle.gate_records.specs.Records.{Adds, May}
+use Rattle.gate_records.specs.Records.{May}
 use Rattle.change_board.specs.Sights.{Sight, sight_entry}
 
 -- by the record that those before it have added to
@@ -64,9 +64,3 @@ deed_entries d = Did d.event ∷ map sight_entry d.sights
 
 abbrev pub entries_of : List Deed → List Entry
 entries_of deeds = flat_map deed_entries deeds
-
--- these events were done, one after the other
-pub record DoesEvents {B : Type 0} (S : B → List Entry → Type 0) (old new : B) (events : List Event) : Type 0 where
-  pub deeds : List Deed
-  pub events_are : events_of deeds ≡ events
-  pub adds : Adds S old new (entries_of deeds)

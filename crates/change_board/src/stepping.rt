@@ -5,7 +5,8 @@ ghost use Rattle.quiesce_core.specs.declared.event.Event.{Event};
 ghost use Rattle.quiesce_core.specs.declared.event.Event.TheVariants as event;
 ghost use Rattle.gate_records.specs.declared.entry.Entry.{Entry};
 ghost use Rattle.gate_records.specs.Records.{May};
-ghost use Rattle.change_board.specs.Steps.{HasRoomForAll, DoesEvents, HasRoom, HasRoomToDo, MayDoAll, less_one, room_after};
+ghost use Rattle.change_board.specs.Doing.{DoesEvents};
+ghost use Rattle.change_board.specs.Steps.{HasRoomForAll, HasRoom, HasRoomToDo, MayDoAll, less_one, room_after};
 
 use crate::board::Board;
 use config_graph::Node;
@@ -15,7 +16,7 @@ use quiesce_core::Event;
 fn make_in<B: Board>(board: &mut B, slot: u32, node: Node, from: Option<u32>)
     requires may { (r : List Entry) × B.stands_for board.old r × May r (event.Make slot node from) }
     requires room { HasRoom (B.room board.old) from }
-    ensures board { DoesEvents B.stands_for board.old board.new (event.Make slot node from ∷ []) }
+    ensures board { DoesEvents B.Board board.old board.new (event.Make slot node from ∷ []) }
     ensures room { B.room board.new ≡ less_one (B.room board.old) }
 {
     let _ = slot;
@@ -26,7 +27,7 @@ fn make_in<B: Board>(board: &mut B, slot: u32, node: Node, from: Option<u32>)
 fn do_step<B: Board>(board: &mut B, event: Event)
     requires may { (r : List Entry) × B.stands_for board.old r × May r event }
     requires room { HasRoomToDo (B.room board.old) event }
-    ensures board { DoesEvents B.stands_for board.old board.new (event ∷ []) }
+    ensures board { DoesEvents B.Board board.old board.new (event ∷ []) }
     ensures room { B.room board.new ≡ room_after (B.room board.old) event }
 {
     match event {
@@ -48,7 +49,7 @@ fn do_step<B: Board>(board: &mut B, event: Event)
 pub fn do_steps<B: Board>(board: &mut B, events: Vec<Event>)
     requires may { (r : List Entry) × B.stands_for board.old r × MayDoAll r events.items }
     requires room { HasRoomForAll (B.room board.old) events.items }
-    ensures { DoesEvents B.stands_for board.old board.new events.items }
+    ensures { DoesEvents B.Board board.old board.new events.items }
 {
     for event in events {
         do_step(board, event);

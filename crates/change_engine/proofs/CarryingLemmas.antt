@@ -6,13 +6,16 @@ use Rattle.change_law.specs.Members.{lines_of_events}
 use Rattle.change_script.specs.declared.report.HistoryLine.{HistoryLine}
 use Rattle.quiesce_core.specs.declared.event.Event.{Event}
 use Rattle.gate_records.specs.declared.entry.Entry.{Entry}
-use Rattle.change_board.specs.Steps.{DoesEvents, entries_of}
+use Rattle.change_board.specs.Doing.{DoesEvents}
+use Rattle.change_board.specs.Steps.{entries_of}
 use Rattle.change_board.specs.Transcripts.{said, entries, lines}
 use Rattle.change_engine.specs.Carrying.{CarriesOut, deed_items}
+use Rattle.change_board.specs.declared.board.Board.{Ghosts as BoardWords}
+use Rattle.change_engine.specs.Growing.{telling}
 use Rattle.change_engine.proofs.ItemLaws.{entries_both, lines_both, carried_entries, carried_lines, said_entries, said_lines}
 
-pub carries : {B : Type 0} (S : B → List Entry → Type 0) (a b : B) (h i head tail : List HistoryLine) (es : List Event) → DoesEvents S a b es → i ≡ h ++ (head ++ lines_of_events es ++ tail) → CarriesOut S a b h i head es tail
-carries S a b h i head tail es x grown =
+pub carries : {B : Type 0} (W : BoardWords B) (a b : B) (h i head tail : List HistoryLine) (es : List Event) → DoesEvents W a b es → i ≡ h ++ (head ++ lines_of_events es ++ tail) → CarriesOut W (telling a h) (telling b i) head es tail
+carries W a b h i head tail es x grown =
     let mid = flat_map deed_items x.deeds in
     let front = map said head in
     let back = map said tail in
@@ -28,7 +31,7 @@ carries S a b h i head tail es x grown =
       deeds = x.deeds;
       events_are = x.events_are;
       grew = record {
-        adds = λ r s. subst (λ zs. S b (r ++ zs)) (sym all_entries) (x.adds r s);
+        adds = λ r s. subst (λ zs. W.stands_for b (r ++ zs)) (sym all_entries) (x.adds r s);
         adds_lines = grown ∙ ap (λ zs. h ++ zs) (sym all_lines);
       };
     }

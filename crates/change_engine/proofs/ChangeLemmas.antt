@@ -44,14 +44,14 @@ use Rattle.change_engine.specs.Draining.{Waits, WhereNoMemory, WherePending, lef
 use Rattle.change_engine.specs.declared.draining.PassError.{PassError}
 use Rattle.change_engine.specs.declared.draining.PassError.TheVariants.{NoMemory, Pending}
 use Rattle.change_engine.specs.Engines.{HasPlace, IsFor, IsOpen, IsPrepared, IsReadyToCommit, IsTold, Tells}
-use Rattle.change_engine.specs.Growing.{Grew}
-use Rattle.change_engine.specs.Layouts.{IsLayoutOf, place_in, port_of}
+use Rattle.change_engine.specs.Growing.{Grew, telling}
+use Rattle.change_lists.specs.Layouts.{IsLayoutOf, place_in, port_of}
 use Rattle.change_engine.specs.Leaving.{IsRootLeft}
 use Rattle.change_engine.specs.Passivating.{AreLivePorts, Passivated, Passivation, last_look, left_after, passivation_items}
 use Rattle.change_engine.specs.Planning.{MayCarryOut}
 use Rattle.change_engine.specs.declared.engine.Change.{Change}
 use Rattle.change_engine.specs.declared.engine.Engine.{Engine}
-use Rattle.change_engine.specs.declared.layout.Layout.{Layout}
+use Rattle.change_lists.specs.declared.layout.Layout.{Layout}
 use Rattle.change_engine.specs.declared.passivating.LeftRoot.{LeftRoot}
 use Rattle.change_engine.specs.declared.passivating.Waiting.{Waiting}
 use Rattle.change_engine.proofs.EngineLemmas.{record_sound, said_alone}
@@ -63,6 +63,7 @@ use Rattle.change_engine.proofs.Quieting.{passivation_events}
 use Rattle.change_engine.proofs.StartLemmas.{deeds_events}
 use Rattle.change_engine.proofs.StayingLemmas.{stays_closed}
 use Rattle.change_engine.proofs.ItemLaws.{entries_both, lines_both, carried_entries}
+use Rattle.change_board.specs.declared.board.Board.{Ghosts as BoardWords}
 use Rattle.change_engine.proofs.PassivationLaws.{same_here, closed_links, closed_live}
 
 -- The roots that are left, as they are told: they are no entries.
@@ -130,46 +131,46 @@ done_events : (deeds : List Deed) (l : HistoryLine) → events_in (entries (flat
 done_events deeds l =
     ap events_in (entries_both (flat_map deed_items deeds) (said l ∷ []) ∙ append-nil (entries (flat_map deed_items deeds)) ∙ carried_entries deeds) ∙ deeds_events deeds
 
-module _ {B : Type 0} (S : B → List Entry → Type 0) (R : B → Room) (runs : (b : B) (r : List Entry) → S b r → IsRecord r) (e : Engine B) where
-  told : (t : List Item) → Tells S e t → IsTold e.layout e.graph (config_of (entries t))
+module _ {B : Type 0} (W : BoardWords B) (runs : (b : B) (r : List Entry) → W.stands_for b r → IsRecord r) (e : Engine B) where
+  told : (t : List Item) → Tells W e t → IsTold e.layout e.graph (config_of (entries t))
   told t h = record { laid = h.layout; graph = h.graph; sound = record_sound (entries t) (runs e.board (entries t) h.board) }
 
   -- the change that is open
-  one_change : (t : List Item) (moves : List Move) (plan : Plan) (new : Graph) (change : Change) (h : IsOpen S R e t moves plan new) → e.change ≡ Some change → h.change ≡ change
+  one_change : (t : List Item) (moves : List Move) (plan : Plan) (new : Graph) (change : Change) (h : IsOpen W e t moves plan new) → e.change ≡ Some change → h.change ≡ change
   one_change t moves plan new change h open_ = same_Some _ _ (sym h.open_ ∙ open_)
 
-  is_for : (t : List Item) (moves : List Move) (plan : Plan) (new : Graph) (change : Change) (h : IsOpen S R e t moves plan new) → e.change ≡ Some change → IsFor e.layout e.graph new plan change
+  is_for : (t : List Item) (moves : List Move) (plan : Plan) (new : Graph) (change : Change) (h : IsOpen W e t moves plan new) → e.change ≡ Some change → IsFor e.layout e.graph new plan change
   is_for t moves plan new change h open_ = subst (IsFor e.layout e.graph new plan) (one_change t moves plan new change h open_) h.is_for
 
-  pub closed_are : (t : List Item) (moves : List Move) (plan : Plan) (new : Graph) (change : Change) (h : IsOpen S R e t moves plan new) → e.change ≡ Some change
+  pub closed_are : (t : List Item) (moves : List Move) (plan : Plan) (new : Graph) (change : Change) (h : IsOpen W e t moves plan new) → e.change ≡ Some change
       → change.closed.items ≡ ports_to_close e.graph plan (config_of (entries t))
   closed_are t moves plan new change h open_ = (is_for t moves plan new change h open_).closed (config_of (entries t)) (told t h.tells)
 
-  pub open_place : (t : List Item) (moves : List Move) (plan : Plan) (new : Graph) (change : Change) (h : IsPrepared S R e t moves plan new) → e.change ≡ Some change → HasPlace e.history change
+  pub open_place : (t : List Item) (moves : List Move) (plan : Plan) (new : Graph) (change : Change) (h : IsPrepared W e t moves plan new) → e.change ≡ Some change → HasPlace e.history change
   open_place t moves plan new change h open_ = subst (HasPlace e.history) (one_change t moves plan new change h.is_open open_) h.place
 
-  pub all_live : (t : List Item) (moves : List Move) (plan : Plan) (new : Graph) (change : Change) (h : IsOpen S R e t moves plan new) → e.change ≡ Some change
+  pub all_live : (t : List Item) (moves : List Move) (plan : Plan) (new : Graph) (change : Change) (h : IsOpen W e t moves plan new) → e.change ≡ Some change
       → AreLivePorts (config_of (entries t)) change.closed.items
   all_live t moves plan new change h open_ =
       subst (AreLivePorts (config_of (entries t))) (sym (closed_are t moves plan new change h open_)) (closed_live e.graph plan (config_of (entries t)))
 
-  pub lines_for : (t : List Item) (moves : List Move) (plan : Plan) (new : Graph) (change : Change) (h : IsOpen S R e t moves plan new) → e.change ≡ Some change
+  pub lines_for : (t : List Item) (moves : List Move) (plan : Plan) (new : Graph) (change : Change) (h : IsOpen W e t moves plan new) → e.change ≡ Some change
       → change.lines.items ≡ lines_of_events change.events.items ++ to.Commit ∷ []
   lines_for t moves plan new change h open_ = (is_for t moves plan new change h open_).lines_are
 
-  pub reopen_lines_for : (t : List Item) (moves : List Move) (plan : Plan) (new : Graph) (change : Change) (h : IsOpen S R e t moves plan new) → e.change ≡ Some change
+  pub reopen_lines_for : (t : List Item) (moves : List Move) (plan : Plan) (new : Graph) (change : Change) (h : IsOpen W e t moves plan new) → e.change ≡ Some change
       → change.reopen_lines.items ≡ lines_of_events change.reopens.items ++ to.Abandon ∷ []
   reopen_lines_for t moves plan new change h open_ = (is_for t moves plan new change h open_).reopen_lines
 
-  pub commit_may : (t : List Item) (moves : List Move) (plan : Plan) (new : Graph) (change : Change) (m : IsReadyToCommit S R e t moves plan new) → e.change ≡ Some change
+  pub commit_may : (t : List Item) (moves : List Move) (plan : Plan) (new : Graph) (change : Change) (m : IsReadyToCommit W e t moves plan new) → e.change ≡ Some change
       → MayDoAll (entries t) (commit_events e.graph new plan (config_of (entries t))) → MayDoAll (entries t) change.events.items
   commit_may t moves plan new change m open_ may_ =
       subst (MayDoAll (entries t)) (sym ((is_for t moves plan new change m.is_open open_).events (config_of (entries t)) (told t m.is_open.tells))) may_
 
   pub committed : (b : B) (v : Vec HistoryLine) (o : Option Change) (change : Change) (plan : Plan) (new : Graph) → e.change ≡ Some change → o ≡ None
       → ((old g : Graph) (moves : List Move) (p : Plan) (r : List Entry) → IsRecord r → MayCarryOut old g moves p r → IsGraphOf (change_all (config_of r) (commit_events old g p (config_of r))) g)
-      → CarriesOut S e.board b e.history.items v.items [] change.events.items (to.Commit ∷ [])
-      → HasCommitted S R e (record { board = b; history = v; graph = new; layout = change.next; change = o }) plan new
+      → CarriesOut W (telling e.board e.history.items) (telling b v.items) [] change.events.items (to.Commit ∷ [])
+      → HasCommitted W e (record { board = b; history = v; graph = new; layout = change.next; change = o }) plan new
   committed b v o change plan new open_ none_ graphs x = record {
     deeds = x.deeds;
     events_are = λ t moves m. x.events_are ∙ (is_for t moves plan new change m.is_open open_).events (config_of (entries t)) (told t m.is_open.tells);
@@ -184,7 +185,7 @@ module _ {B : Type 0} (S : B → List Entry → Type 0) (R : B → Room) (runs :
         ∙ ap (change_all c) (done_events x.deeds to.Commit ∙ x.events_are ∙ for_.events c (told t h.tells)) in
         record {
           tells = record {
-            board = subst (S b) (sym (entries_both t items)) (x.grew.adds (entries t) h.tells.board);
+            board = subst (W.stands_for b) (sym (entries_both t items)) (x.grew.adds (entries t) h.tells.board);
             history = x.grew.adds_lines ∙ ap (λ ls. ls ++ lines items) h.tells.history ∙ sym (lines_both t items);
             graph = subst (λ d. IsGraphOf d new) (sym made) (graphs e.graph new moves plan (entries t) (runs e.board (entries t) h.tells.board) m.may_);
             is_graph = h.planned.new_graph;
@@ -195,17 +196,17 @@ module _ {B : Type 0} (S : B → List Entry → Type 0) (R : B → Room) (runs :
         };
   }
 
-  pub abandon_may : (t : List Item) (moves : List Move) (plan : Plan) (new : Graph) (change : Change) (h : IsOpen S R e t moves plan new) → e.change ≡ Some change → MayDoAll (entries t) change.reopens.items
+  pub abandon_may : (t : List Item) (moves : List Move) (plan : Plan) (new : Graph) (change : Change) (h : IsOpen W e t moves plan new) → e.change ≡ Some change → MayDoAll (entries t) change.reopens.items
   abandon_may t moves plan new change h open_ =
       subst (MayDoAll (entries t)) (sym (is_for t moves plan new change h open_).reopens)
       (opens_may (config_of (entries t)) change.closed.items (entries t) (all_live t moves plan new change h open_) (same_here (config_of (entries t))))
 
-  pub abandon_fits : (t : List Item) (moves : List Move) (plan : Plan) (new : Graph) (change : Change) (room : Room) (h : IsOpen S R e t moves plan new) → e.change ≡ Some change → HasRoomForAll room change.reopens.items
+  pub abandon_fits : (t : List Item) (moves : List Move) (plan : Plan) (new : Graph) (change : Change) (room : Room) (h : IsOpen W e t moves plan new) → e.change ≡ Some change → HasRoomForAll room change.reopens.items
   abandon_fits t moves plan new change room h open_ = subst (HasRoomForAll room) (sym (is_for t moves plan new change h open_).reopens) (opens_fit change.closed.items room)
 
   pub abandoned : (b : B) (v : Vec HistoryLine) (o : Option Change) (change : Change) (plan : Plan) → e.change ≡ Some change → o ≡ None
-      → CarriesOut S e.board b e.history.items v.items [] change.reopens.items (to.Abandon ∷ [])
-      → HasAbandoned S R e (record { board = b; history = v; graph = e.graph; layout = e.layout; change = o }) plan
+      → CarriesOut W (telling e.board e.history.items) (telling b v.items) [] change.reopens.items (to.Abandon ∷ [])
+      → HasAbandoned W e (record { board = b; history = v; graph = e.graph; layout = e.layout; change = o }) plan
   abandoned b v o change plan open_ none_ x = record {
     deeds = x.deeds;
     events_are = λ t moves new m. x.events_are ∙ (is_for t moves plan new change m.is_open open_).reopens ∙ ap (map event.Reopen) (closed_are t moves plan new change m.is_open open_);
@@ -221,7 +222,7 @@ module _ {B : Type 0} (S : B → List Entry → Type 0) (R : B → Room) (runs :
         subst (SameLinks c) (sym made) (opened_links c c change.closed.items (all_live t moves plan new change h open_) (same_here c)) in
         record {
           tells = record {
-            board = subst (S b) (sym (entries_both t items)) (x.grew.adds (entries t) h.tells.board);
+            board = subst (W.stands_for b) (sym (entries_both t items)) (x.grew.adds (entries t) h.tells.board);
             history = x.grew.adds_lines ∙ ap (λ ls. ls ++ lines items) h.tells.history ∙ sym (lines_both t items);
             graph = same_graph c (config_of (entries (t ++ items))) e.graph same h.tells.graph;
             is_graph = h.tells.is_graph;
@@ -238,7 +239,7 @@ module _ {B : Type 0} (S : B → List Entry → Type 0) (R : B → Room) (runs :
       ap events_in (entries_both (passivation_items ports how) (pending_items within left) ∙ ap (λ es. entries (passivation_items ports how) ++ es) (no_entries left)
       ∙ append-nil (entries (passivation_items ports how))) ∙ passivation_events ports how
 
-  same_closed : (t items : List Item) (moves : List Move) (plan : Plan) (new : Graph) (change : Change) (h : IsOpen S R e t moves plan new) → e.change ≡ Some change
+  same_closed : (t items : List Item) (moves : List Move) (plan : Plan) (new : Graph) (change : Change) (h : IsOpen W e t moves plan new) → e.change ≡ Some change
       → events_in (entries items) ≡ map event.Close change.closed.items → SameLinks (config_of (entries t)) (config_of (entries (t ++ items)))
   same_closed t items moves plan new change h open_ shut =
       let c = config_of (entries t) in
@@ -262,16 +263,16 @@ module _ {B : Type 0} (S : B → List Entry → Type 0) (R : B → Room) (runs :
     reopen_lines = h.reopen_lines;
   }
 
-  still_open : (b : B) (v : Vec HistoryLine) (w : Waiting) (t items : List Item) (moves : List Move) (plan : Plan) (new : Graph) (change : Change) (h : IsOpen S R e t moves plan new) → e.change ≡ Some change
-      → Grew S e.board b e.history.items v.items items → events_in (entries items) ≡ map event.Close change.closed.items → R b ≡ R e.board
-      → IsOpen S R (drained b v change w) (t ++ items) moves plan new
+  still_open : (b : B) (v : Vec HistoryLine) (w : Waiting) (t items : List Item) (moves : List Move) (plan : Plan) (new : Graph) (change : Change) (h : IsOpen W e t moves plan new) → e.change ≡ Some change
+      → Grew W (telling e.board e.history.items) (telling b v.items) items → events_in (entries items) ≡ map event.Close change.closed.items → W.room b ≡ W.room e.board
+      → IsOpen W (drained b v change w) (t ++ items) moves plan new
   still_open b v w t items moves plan new change h open_ grew shut room =
       let c = config_of (entries t) in
       let d = config_of (entries (t ++ items)) in
       let same = same_closed t items moves plan new change h open_ shut in
       record {
         tells = record {
-          board = subst (S b) (sym (entries_both t items)) (grew.adds (entries t) h.tells.board);
+          board = subst (W.stands_for b) (sym (entries_both t items)) (grew.adds (entries t) h.tells.board);
           history = grew.adds_lines ∙ ap (λ ls. ls ++ lines items) h.tells.history ∙ sym (lines_both t items);
           graph = same_graph c d e.graph same h.tells.graph;
           is_graph = h.tells.is_graph;
@@ -287,12 +288,12 @@ module _ {B : Type 0} (S : B → List Entry → Type 0) (R : B → Room) (runs :
         change = waiting_in change w;
         open_ = refl;
         is_for = for_waiting plan new change w (is_for t moves plan new change h open_);
-        room = subst (λ x. HasRoomForAll x change.events.items) (sym room) (subst (λ (x : Change). HasRoomForAll (R e.board) x.events.items) (one_change t moves plan new change h open_) h.room);
+        room = subst (λ x. HasRoomForAll x change.events.items) (sym room) (subst (λ (x : Change). HasRoomForAll (W.room e.board) x.events.items) (one_change t moves plan new change h open_) h.room);
       }
 
   pub has_passivated : (b : B) (v : Vec HistoryLine) (w : Waiting) (change : Change) (plan : Plan) (within : ℕ) (left : List LeftRoot) → e.change ≡ Some change
-      → Waits S e.board b e.history.items v.items change.closed.items within left → left ≡ [] → R b ≡ R e.board → vec_len v + vec_len change.lines ≤ vec_capacity v
-      → HasPassivated S R e (drained b v change w) plan within
+      → Waits W (telling e.board e.history.items) (telling b v.items) change.closed.items within left → left ≡ [] → W.room b ≡ W.room e.board → vec_len v + vec_len change.lines ≤ vec_capacity v
+      → HasPassivated W e (drained b v change w) plan within
   unfolding still_open
   has_passivated b v w change plan within left open_ x none_ room place = record {
     closed = change.closed.items;
@@ -328,11 +329,11 @@ module _ {B : Type 0} (S : B → List Entry → Type 0) (R : B → Room) (runs :
       none_left : left_after x.how.first x.how.rounds ≡ []
       none_left = sym x.left_is ∙ none_
 
-      grew : Grew S e.board b e.history.items v.items (passivation_items change.closed.items x.how)
-      grew = subst (Grew S e.board b e.history.items v.items)
+      grew : Grew W (telling e.board e.history.items) (telling b v.items) (passivation_items change.closed.items x.how)
+      grew = subst (Grew W (telling e.board e.history.items) (telling b v.items))
           (ap (λ l. passivation_items change.closed.items x.how ++ map said (left_lines within l)) none_ ∙ append-nil (passivation_items change.closed.items x.how)) x.grew
 
-      noted : (t : List Item) (moves : List Move) (new : Graph) (h : IsOpen S R e t moves plan new) (p : ℕ) → p < length (config_of (entries t)).gates
+      noted : (t : List Item) (moves : List Move) (new : Graph) (h : IsOpen W e t moves plan new) (p : ℕ) → p < length (config_of (entries t)).gates
           → is_one_of e.graph plan.freeze (config_of (entries t)) (owner (config_of (entries t)) p) ≡ true
           → is_noted (entries (t ++ passivation_items change.closed.items x.how)) p ≡ true
       noted t moves new h p made frozen =
@@ -343,8 +344,8 @@ module _ {B : Type 0} (S : B → List Entry → Type 0) (R : B → Room) (runs :
           (select (λ q. is_one_of e.graph plan.freeze c (owner c q)) 0 (length c.gates) p (omega arith) (omega (arith, made)) frozen)))
 
   pub has_left : (b : B) (v : Vec HistoryLine) (w : Waiting) (change : Change) (plan : Plan) (within : ℕ) (left : List LeftRoot) → e.change ≡ Some change
-      → Waits S e.board b e.history.items v.items change.closed.items within left → 0 < length left → R b ≡ R e.board → vec_len v + vec_len change.reopen_lines ≤ vec_capacity v
-      → HasLeft S R e (drained b v change w) plan within left
+      → Waits W (telling e.board e.history.items) (telling b v.items) change.closed.items within left → 0 < length left → W.room b ≡ W.room e.board → vec_len v + vec_len change.reopen_lines ≤ vec_capacity v
+      → HasLeft W e (drained b v change w) plan within left
   unfolding still_open
   has_left b v w change plan within left open_ x some_ room place = record {
     closed = change.closed.items;
@@ -362,7 +363,7 @@ module _ {B : Type 0} (S : B → List Entry → Type 0) (R : B → Room) (runs :
     are_roots = λ t moves new h y i.
         subst (λ r. IsRootLeft change.closed.items (last_look x.how.first x.how.rounds) r y) (sym (whole t))
         (root_left (entries t) change.closed.items within x.how
-        (subst IsRecord (whole t) (runs b (entries (t ++ items)) (subst (S b) (sym (entries_both t items)) (grew.adds (entries t) h.tells.board))))
+        (subst IsRecord (whole t) (runs b (entries (t ++ items)) (subst (W.stands_for b) (sym (entries_both t items)) (grew.adds (entries t) h.tells.board))))
         (all_live t moves plan new change h open_)
         (subst (λ ps. Apart Differ ps) (sym (closed_are t moves plan new change h open_))
         (select_apart (λ p. is_one_of e.graph plan.freeze (config_of (entries t)) (owner (config_of (entries t)) p)) 0 (length (config_of (entries t)).gates)))
@@ -372,8 +373,8 @@ module _ {B : Type 0} (S : B → List Entry → Type 0) (R : B → Room) (runs :
       items : List Item
       items = passivation_items change.closed.items x.how ++ pending_items within left
 
-      grew : Grew S e.board b e.history.items v.items items
-      grew = subst (λ u. Grew S e.board b e.history.items v.items (passivation_items change.closed.items x.how ++ u)) (same_pending within left some_) x.grew
+      grew : Grew W (telling e.board e.history.items) (telling b v.items) items
+      grew = subst (λ u. Grew W (telling e.board e.history.items) (telling b v.items) (passivation_items change.closed.items x.how ++ u)) (same_pending within left some_) x.grew
 
       whole : (t : List Item) → entries (t ++ items) ≡ entries t ++ entries (passivation_items change.closed.items x.how)
       whole t =
@@ -382,9 +383,9 @@ module _ {B : Type 0} (S : B → List Entry → Type 0) (R : B → Room) (runs :
           ∙ ap (λ es. entries (passivation_items change.closed.items x.how) ++ es) (no_entries left) ∙ append-nil (entries (passivation_items change.closed.items x.how)))
 
   -- a passivation that broke off leaves all closed
-  pub has_broken_off : (Broke : B → List Entry → Type 0) (b : B) (v : Vec HistoryLine) (w : Waiting) (change : Change) (plan : Plan) (within : ℕ) → e.change ≡ Some change
-      → BrokeInRound S Broke e.board b e.history.items v.items change.closed.items within → HasBrokenOff S R Broke e (drained b v change w) plan within
-  has_broken_off Broke b v w change plan within open_ x = record {
+  pub has_broken_off : (b : B) (v : Vec HistoryLine) (w : Waiting) (change : Change) (plan : Plan) (within : ℕ) → e.change ≡ Some change
+      → BrokeInRound W (telling e.board e.history.items) (telling b v.items) change.closed.items within → HasBrokenOff W e (drained b v change w) plan within
+  has_broken_off b v w change plan within open_ x = record {
     closed = change.closed.items;
     how = x.how;
     closed_are = λ t moves new h. closed_are t moves plan new change h open_;
@@ -394,7 +395,7 @@ module _ {B : Type 0} (S : B → List Entry → Type 0) (R : B → Room) (runs :
     graph_is = refl;
     layout_is = refl;
     history_is = λ t moves new h. x.told_all ∙ ap (λ ls. ls ++ lines items) h.tells.history ∙ sym (lines_both t items);
-    broke = λ t moves new h. subst (Broke b) (sym (entries_both t items)) (x.broke (entries t) h.tells.board);
+    broke = λ t moves new h. subst (W.broke_off b) (sym (entries_both t items)) (x.broke (entries t) h.tells.board);
     stay_closed = λ t moves new h p shut. subst (λ r. IsClosedStill r p) (sym (entries_both t items))
         (stays_closed (entries t) (entries items) change.closed.items p (all_live t moves plan new change h open_) (passivation_events change.closed.items x.how) shut);
   }
@@ -403,14 +404,14 @@ module _ {B : Type 0} (S : B → List Entry → Type 0) (R : B → Room) (runs :
       items = passivation_items change.closed.items x.how
 
 -- a passivation with the lines behind it
-pub waited : {B : Type 0} (S : B → List Entry → Type 0) (a b : B) (h i j : List HistoryLine) (ports : List ℕ) (within : ℕ) (left : List LeftRoot) → Passivated S a b h i ports within left → j ≡ i ++ left_lines within left
-    → Waits S a b h j ports within left
-waited S a b h i j ports within left x grown = record {
+pub waited : {B : Type 0} (W : BoardWords B) (a b : B) (h i j : List HistoryLine) (ports : List ℕ) (within : ℕ) (left : List LeftRoot) → Passivated W (telling a h) (telling b i) ports within left → j ≡ i ++ left_lines within left
+    → Waits W (telling a h) (telling b j) ports within left
+waited W a b h i j ports within left x grown = record {
   how = x.how;
   is_passivation = x.is_passivation;
   left_is = x.left_is;
   ends = x.ends;
-  grew = grew_both S a b b h i j (passivation_items ports x.how) (map said (left_lines within left)) x.grew (said_alone S b i j (left_lines within left) grown);
+  grew = grew_both W a b b h i j (passivation_items ports x.how) (map said (left_lines within left)) x.grew (said_alone W b i j (left_lines within left) grown);
 }
 
 -- what an answer says of the roots that are left

@@ -24,11 +24,12 @@ use Rattle.gate_records.specs.Records.{Adds}
 use Rattle.change_board.specs.Scans.{AddsScan, Found, look_entry, ports_of, scan_entries}
 use Rattle.change_board.specs.Sights.{Sight, sight_entry}
 use Rattle.change_board.specs.Transcripts.{silent, told, entries, lines}
-use Rattle.change_engine.specs.Growing.{Grew}
+use Rattle.change_engine.specs.Growing.{Grew, telling}
 use Rattle.change_engine.specs.Passivating.{AreLivePorts, AreMadePorts, IsPassivation, IsRound, Passed, Rounded, WaitingRound, close_item, is_busy, item_at, left_after, lines_by, look_item, passivation_items, root_of, root_ports, roots_by, roots_of, round_items, silent_items}
 use Rattle.change_engine.specs.declared.passivating.LeftRoot.{LeftRoot}
 use Rattle.change_engine.proofs.Growing.{grew_both}
 use Rattle.change_engine.proofs.ItemLaws.{entries_both, look_entries, silent_entries, silent_lines, close_lines}
+use Rattle.change_board.specs.declared.board.Board.{Ghosts as BoardWords}
 use Rattle.change_engine.proofs.PassivationLaws.{same_here, closed_links}
 
 abbrev pub closes : List ℕ → List Entry
@@ -155,52 +156,52 @@ round_quiet w =
     ap events_in (round_entries w) ∙ filter_map-append event_in scan (map look_entry w.found)
     ∙ ap (λ es. es ++ events_in (map look_entry w.found)) (scan_quiet false w.moved w.sights w.scan) ∙ looks_quiet w.found
 
-module _ {B : Type 0} (S : B → List Entry → Type 0) where
-  pub grew_look : (a b c : B) (h i j : List HistoryLine) (found : List Found) (f : Found) → Grew S a b h i (map look_item found) → Adds S b c (look_entry f ∷ [])
-      → j ≡ i ++ lines (look_item f ∷ []) → Grew S a c h j (map look_item (found ++ f ∷ []))
+module _ {B : Type 0} (W : BoardWords B) where
+  pub grew_look : (a b c : B) (h i j : List HistoryLine) (found : List Found) (f : Found) → Grew W (telling a h) (telling b i) (map look_item found) → Adds W.stands_for b c (look_entry f ∷ [])
+      → j ≡ i ++ lines (look_item f ∷ []) → Grew W (telling a h) (telling c j) (map look_item (found ++ f ∷ []))
   grew_look a b c h i j found f x y e =
-      subst (λ t. Grew S a c h j t) (sym (map-append look_item found (f ∷ [])))
-      (grew_both S a b c h i j (map look_item found) (look_item f ∷ []) x
-      (record { adds = subst (λ es. Adds S b c es) (sym (look_entries (f ∷ []))) y; adds_lines = e }))
+      subst (λ t. Grew W (telling a h) (telling c j) t) (sym (map-append look_item found (f ∷ [])))
+      (grew_both W a b c h i j (map look_item found) (look_item f ∷ []) x
+      (record { adds = subst (λ es. Adds W.stands_for b c es) (sym (look_entries (f ∷ []))) y; adds_lines = e }))
 
-  grew_closes : (a b : B) (h i : List HistoryLine) (ps : List ℕ) → Adds S a b (closes ps) → i ≡ h ++ map to.Close ps → Grew S a b h i (map close_item ps)
+  grew_closes : (a b : B) (h i : List HistoryLine) (ps : List ℕ) → Adds W.stands_for a b (closes ps) → i ≡ h ++ map to.Close ps → Grew W (telling a h) (telling b i) (map close_item ps)
   grew_closes a b h i ps x e = record {
-    adds = subst (λ es. Adds S a b es) (sym (close_entries ps)) x;
+    adds = subst (λ es. Adds W.stands_for a b es) (sym (close_entries ps)) x;
     adds_lines = e ∙ ap (λ ls. h ++ ls) (sym (close_lines ps));
   }
 
-  grew_silent : (a b : B) (h : List HistoryLine) (es : List Entry) → Adds S a b es → Grew S a b h h (silent_items es)
+  grew_silent : (a b : B) (h : List HistoryLine) (es : List Entry) → Adds W.stands_for a b es → Grew W (telling a h) (telling b h) (silent_items es)
   grew_silent a b h es x = record {
-    adds = subst (λ zs. Adds S a b zs) (sym (silent_entries es)) x;
+    adds = subst (λ zs. Adds W.stands_for a b zs) (sym (silent_entries es)) x;
     adds_lines = sym (append-nil h) ∙ ap (λ ls. h ++ ls) (sym (silent_lines es));
   }
 
-  pub begun : (a b c : B) (h i j : List HistoryLine) (ps : List ℕ) (left : List LeftRoot) → Adds S a b (closes ps) → i ≡ h ++ map to.Close ps → (w : Passed S b c i j ps left)
-      → Grew S a c h j (passivation_items ps (record { first = w.found; rounds = [] }))
+  pub begun : (a b c : B) (h i j : List HistoryLine) (ps : List ℕ) (left : List LeftRoot) → Adds W.stands_for a b (closes ps) → i ≡ h ++ map to.Close ps → (w : Passed W (telling b i) (telling c j) ps left)
+      → Grew W (telling a h) (telling c j) (passivation_items ps (record { first = w.found; rounds = [] }))
   begun a b c h i j ps left x e w =
-      subst (λ t. Grew S a c h j t) (sym (append-nil (map close_item ps ++ map look_item w.found)))
-      (grew_both S a b c h i j (map close_item ps) (map look_item w.found) (grew_closes a b h i ps x e) w.grew)
+      subst (λ t. Grew W (telling a h) (telling c j) t) (sym (append-nil (map close_item ps ++ map look_item w.found)))
+      (grew_both W a b c h i j (map close_item ps) (map look_item w.found) (grew_closes a b h i ps x e) w.grew)
 
-  pub rounded : (alone : Bool) (b c d : B) (i j : List HistoryLine) (left next : List LeftRoot) (s : Scan) → AddsScan S alone b c false s → Passed S c d i j (root_ports left) next → Rounded S b d i j left next
-  rounded alone b c d i j left next s x y =
+  pub rounded : (b c d : B) (i j : List HistoryLine) (left next : List LeftRoot) (s : Scan) → AddsScan W.stands_for W.alone b c false s → Passed W (telling c i) (telling d j) (root_ports left) next → Rounded W (telling b i) (telling d j) left next
+  rounded b c d i j left next s x y =
       let scan = scan_entries false s.moved x.sights x.found in
       record {
         round = record { moved = s.moved; sights = x.sights; scan = x.found; found = y.found };
         at_left = y.at_ports;
         next_is = y.left_is;
-        grew = grew_both S b c d i i j (silent_items scan) (map look_item y.found) (grew_silent b c i scan x.adds) y.grew;
+        grew = grew_both W b c d i i j (silent_items scan) (map look_item y.found) (grew_silent b c i scan x.adds) y.grew;
       }
 
   pub went_on : (a b d : B) (h i j : List HistoryLine) (ps : List ℕ) (first : List Found) (rounds : List WaitingRound) (w : WaitingRound)
-      → Grew S a b h i (passivation_items ps (record { first = first; rounds = rounds })) → Grew S b d i j (round_items w)
-      → Grew S a d h j (passivation_items ps (record { first = first; rounds = rounds ++ w ∷ [] }))
+      → Grew W (telling a h) (telling b i) (passivation_items ps (record { first = first; rounds = rounds })) → Grew W (telling b i) (telling d j) (round_items w)
+      → Grew W (telling a h) (telling d j) (passivation_items ps (record { first = first; rounds = rounds ++ w ∷ [] }))
   went_on a b d h i j ps first rounds w g x =
-      subst (λ t. Grew S a d h j t) (sym (items_more ps first rounds w))
-      (grew_both S a b d h i j (passivation_items ps (record { first = first; rounds = rounds })) (round_items w) g x)
+      subst (λ t. Grew W (telling a h) (telling d j) t) (sym (items_more ps first rounds w))
+      (grew_both W a b d h i j (passivation_items ps (record { first = first; rounds = rounds })) (round_items w) g x)
 
   -- ports made are made still behind a pass of looks, and so are those that are left
-  pub made_still : (a b : B) (h i : List HistoryLine) (ps : List ℕ) (left : List LeftRoot) (r : List Entry) → S a r → AreMadePorts (config_of r) ps → Passed S a b h i ps left
-      → (q : List Entry) × S b q × AreMadePorts (config_of q) (root_ports left)
+  pub made_still : (a b : B) (h i : List HistoryLine) (ps : List ℕ) (left : List LeftRoot) (r : List Entry) → W.stands_for a r → AreMadePorts (config_of r) ps → Passed W (telling a h) (telling b i) ps left
+      → (q : List Entry) × W.stands_for b q × AreMadePorts (config_of q) (root_ports left)
   made_still a b h i ps left r s m w = (
     r ++ entries (map look_item w.found),
     w.grew.adds r s,
@@ -208,14 +209,14 @@ module _ {B : Type 0} (S : B → List Entry → Type 0) where
         (subst (λ zs. AreMadePorts (config_of r) (root_ports zs)) (sym w.left_is) (roots_made (config_of r) w.found (subst (AreMadePorts (config_of r)) (sym w.at_ports) m))),
   )
 
-  pub made_scanned : (alone : Bool) (a b : B) (ps : List ℕ) (s : Scan) (r : List Entry) → S a r → AreMadePorts (config_of r) ps → AddsScan S alone a b false s → (q : List Entry) × S b q × AreMadePorts (config_of q) ps
-  made_scanned alone a b ps s r x m w =
+  pub made_scanned : (a b : B) (ps : List ℕ) (s : Scan) (r : List Entry) → W.stands_for a r → AreMadePorts (config_of r) ps → AddsScan W.stands_for W.alone a b false s → (q : List Entry) × W.stands_for b q × AreMadePorts (config_of q) ps
+  made_scanned a b ps s r x m w =
       let es = scan_entries false s.moved w.sights w.found in
       (r ++ es, w.adds r x, subst (λ c. AreMadePorts c ps) (sym (config_quiet r es (scan_quiet false s.moved w.sights w.found))) m)
 
   -- so it is behind a round
-  pub made_on : (a b : B) (h i : List HistoryLine) (left next : List LeftRoot) (r : List Entry) → S a r → AreMadePorts (config_of r) (root_ports left) → Rounded S a b h i left next
-      → (q : List Entry) × S b q × AreMadePorts (config_of q) (root_ports next)
+  pub made_on : (a b : B) (h i : List HistoryLine) (left next : List LeftRoot) (r : List Entry) → W.stands_for a r → AreMadePorts (config_of r) (root_ports left) → Rounded W (telling a h) (telling b i) left next
+      → (q : List Entry) × W.stands_for b q × AreMadePorts (config_of q) (root_ports next)
   made_on a b h i left next r s m w =
       let es = entries (round_items w.round) in (
         r ++ es,

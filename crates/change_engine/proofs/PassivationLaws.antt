@@ -1,10 +1,9 @@
 -- The lines of passivations: what their looks find drained, and which roots they leave; and the ports that are closed stay where they
 -- are.
-use Rattle.std.proofs.Common.{◌≡◌, ◌∙◌, ℕ, zero, suc, ◌+◌, ◌<◌, ◌≤◌, Bool, true, false, not, cond, List, [], ◌∷◌, ◌++◌, append_assoc, length, map, Option, Some, None, refl, sym, ap, subst, ⊎_elim, arith}
+use Rattle.std.proofs.Common.{◌≡◌, ◌∙◌, ℕ, zero, suc, ◌+◌, ◌<◌, ◌≤◌, Bool, true, false, not, cond, List, [], ◌∷◌, ◌++◌, append_assoc, length, map, refl, sym, ap, subst, arith}
 use Rattle.std.specs.Prelude.{◌&&◌, ◌||◌, filter, filter_map, flat_map, nat_lt}
 use Rattle.std.specs.List.{AllByRecursion, cons_option, range_with_len}
-use Rattle.std.specs.Option.{option_map_or}
-use Rattle.std.proofs.lemmas.Bool.{and_from, and_parts, both_ways, lt-ltb, or_cases}
+use Rattle.std.proofs.lemmas.Bool.{and_from, both_ways, lt-ltb}
 use Rattle.std.proofs.lemmas.List.{map-append}
 use Rattle.std.proofs.lemmas.List.Elements.{All-from_recursion, All-head, All-tail}
 use Rattle.std.proofs.lemmas.List.Sums.{fold_push}
@@ -12,12 +11,11 @@ use Rattle.change_plan.specs.declared.plan_data.Plan.{Plan}
 use Rattle.commit_laws.specs.Steps.{change_all}
 use Rattle.commit_laws.proofs.TurningLaws.{SameLinks, live_port, same_turned}
 use Rattle.config_graph.specs.Graph.{Graph}
-use Rattle.plan_laws.specs.Commit.{is_at, is_one_of, node_path, ports_to_close, stands_in}
+use Rattle.plan_laws.specs.Commit.{is_one_of, ports_to_close}
 use Rattle.quiesce_core.specs.Effect.{with_closed}
 use Rattle.quiesce_core.specs.Rules.{is_live_port}
-use Rattle.quiesce_core.specs.State.{Configuration, is_live, owner, slot}
+use Rattle.quiesce_core.specs.State.{Configuration, is_live, owner}
 use Rattle.quiesce_core.specs.declared.event.Event.TheVariants as event
-use Rattle.quiesce_core.specs.declared.state.Slot.{Slot}
 use Rattle.change_law.specs.Changes.{drained_lines, seen_in_all}
 use Rattle.change_law.specs.Members.{event_of, lines_of_events}
 use Rattle.change_law.specs.Scene.{Seen, drained_line, root_line}
@@ -29,6 +27,7 @@ use Rattle.change_board.specs.Transcripts.{silent, told, line_in, lines}
 use Rattle.change_engine.specs.Draining.{root_item}
 use Rattle.change_engine.specs.Passivating.{AreLivePorts, Passivation, WaitingRound, close_item, left_after, look_item, passivation_items, roots_of, round_items, silent_items}
 use Rattle.change_engine.specs.declared.passivating.LeftRoot.{LeftRoot}
+use Rattle.change_lists.proofs.LayoutLaws.{one_live}
 use Rattle.change_engine.proofs.ItemLaws.{close_lines, lines_both, silent_lines}
 
 -- ---- what looks find
@@ -141,17 +140,6 @@ root_by true false false e h = refl
 root_by false idle within e h = absurd (both_ways false refl e)
 
 -- ---- ports of frozen nodes are live
-
-stands_live : (g : Graph) (i : ℕ) (c : Configuration) (n : ℕ) → stands_in g i c n ≡ true → is_live c n ≡ true
-stands_live g i c n h = by (slot c n) h
-  where
-    by : (o : Option Slot) → option_map_or (is_at (node_path g i)) o false ≡ true → option_map_or (λ (m : Slot). m.live) o false ≡ true
-    by None h = h
-    by (Some m) h = (and_parts m.live _ h).0
-
-pub one_live : (g : Graph) (places : List ℕ) (c : Configuration) (n : ℕ) → is_one_of g places c n ≡ true → is_live c n ≡ true
-one_live g [] c n h = absurd (both_ways false refl h)
-one_live g (i ∷ places) c n h = ⊎_elim (stands_live g i c n) (one_live g places c n) (or_cases (stands_in g i c n) (is_one_of g places c n) h)
 
 pub closed_live : (g : Graph) (plan : Plan) (c : Configuration) → AreLivePorts c (ports_to_close g plan c)
 closed_live g plan c = All-from_recursion (λ p. is_live_port c p ≡ true) (ports_to_close g plan c) (from 0 (length c.gates) (omega arith))

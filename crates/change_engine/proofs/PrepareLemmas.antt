@@ -25,11 +25,12 @@ use Rattle.change_board.specs.Steps.{HasRoomForAll, Room}
 use Rattle.change_board.specs.Transcripts.{Item, entries, said}
 use Rattle.change_engine.specs.Calls.{Continues, HasPrepared}
 use Rattle.change_engine.specs.Engines.{HasPlace, IsFor, IsIdle, IsPlanned, IsPrepared, IsTold}
-use Rattle.change_engine.specs.Layouts.{IsLayoutOf, port_of}
-use Rattle.change_engine.specs.Lists.{ports_after, ports_from, ports_in}
+use Rattle.change_lists.specs.Layouts.{IsLayoutOf, port_of}
+use Rattle.change_lists.specs.Lists.{ports_after, ports_from, ports_in}
 use Rattle.change_engine.specs.declared.engine.Change.{Change}
 use Rattle.change_engine.specs.declared.engine.Engine.{Engine}
-use Rattle.change_engine.specs.declared.layout.Layout.{Layout}
+use Rattle.change_lists.specs.declared.layout.Layout.{Layout}
+use Rattle.change_board.specs.declared.board.Board.{Ghosts as BoardWords}
 use Rattle.change_engine.proofs.EngineLemmas.{config_goes, record_sound, tells_more}
 
 -- so many ports are added
@@ -56,25 +57,25 @@ pub ports_few : (old new : Graph) (moves : List Move) (plan : Plan) (c : Configu
 ports_few old new moves plan c l h laid =
     omega (arith, length-append l.ports.items (ports_from new (length l.places.items) plan.create), ports_many new (length l.places.items) plan.create, ap length laid.ports_are ∙ length-map c.gates port_of, ports_fit old new moves plan c h)
 
-module _ {B : Type 0} (S : B → List Entry → Type 0) where
+module _ {B : Type 0} (W : BoardWords B) where
   -- nothing was done and told
-  pub idle_still : (e f : Engine B) → Adds S e.board f.board [] → f.history.items ≡ e.history.items → f.graph ≡ e.graph → f.layout ≡ e.layout → f.change ≡ e.change → Continues S e f []
+  pub idle_still : (e f : Engine B) → Adds W.stands_for e.board f.board [] → f.history.items ≡ e.history.items → f.graph ≡ e.graph → f.layout ≡ e.layout → f.change ≡ e.change → Continues W e f []
   idle_still e f adds history graph layout change t x = record {
-    tells = tells_more S e f.board f.history.items t [] x.tells (record { adds = adds; adds_lines = history ∙ sym (append-nil e.history.items) }) refl f refl refl graph layout;
+    tells = tells_more W e f.board f.history.items t [] x.tells (record { adds = adds; adds_lines = history ∙ sym (append-nil e.history.items) }) refl f refl refl graph layout;
     none_open = change ∙ x.none_open;
   }
 
-  module _ (R : B → Room) (runs : (b : B) (r : List Entry) → S b r → IsRecord r) where
+  module _ (runs : (b : B) (r : List Entry) → W.stands_for b r → IsRecord r) where
     pub prepared : (e f : Engine B) (name : List ℕ) (args : List _) (plan : Plan) (new : Graph) (change : Change)
-        → Adds S e.board f.board [] → f.history.items ≡ e.history.items ++ to.Change name args ∷ [] → f.graph ≡ e.graph → f.layout ≡ e.layout → f.change ≡ Some change
+        → Adds W.stands_for e.board f.board [] → f.history.items ≡ e.history.items ++ to.Change name args ∷ [] → f.graph ≡ e.graph → f.layout ≡ e.layout → f.change ≡ Some change
         → IsFor e.layout e.graph new plan change
-        → ((t : List Item) → IsIdle S e t → HasRoomForAll (R f.board) (commit_events e.graph new plan (config_of (entries t))))
+        → ((t : List Item) → IsIdle W e t → HasRoomForAll (W.room f.board) (commit_events e.graph new plan (config_of (entries t))))
         → HasPlace f.history change
-        → (t : List Item) (moves : List Move) → IsIdle S e t → IsPlanned e.graph new moves plan (config_of (entries t)) → IsPrepared S R f (t ++ said (to.Change name args) ∷ []) moves plan new
+        → (t : List Item) (moves : List Move) → IsIdle W e t → IsPlanned e.graph new moves plan (config_of (entries t)) → IsPrepared W f (t ++ said (to.Change name args) ∷ []) moves plan new
     prepared e f name args plan new change adds history graph layout open_ for_ room place t moves x planned =
         let items : List Item = said (to.Change name args) ∷ [] in
         let c = config_of (entries t) in
-        let tells = tells_more S e f.board f.history.items t items x.tells (record { adds = adds; adds_lines = history }) refl f refl refl graph layout in
+        let tells = tells_more W e f.board f.history.items t items x.tells (record { adds = adds; adds_lines = history }) refl f refl refl graph layout in
         let same : config_of (entries (t ++ items)) ≡ c = config_goes t items refl in
         let told : IsTold e.layout e.graph c = record { laid = x.tells.layout; graph = x.tells.graph; sound = record_sound (entries t) (runs e.board (entries t) x.tells.board) } in
         record {
@@ -84,16 +85,16 @@ module _ {B : Type 0} (S : B → List Entry → Type 0) where
             change = change;
             open_ = open_;
             is_for = subst (λ l. IsFor l f.graph new plan change) (sym layout) (subst (λ g. IsFor e.layout g new plan change) (sym graph) for_);
-            room = subst (HasRoomForAll (R f.board)) (sym (for_.events c told)) (room t x);
+            room = subst (HasRoomForAll (W.room f.board)) (sym (for_.events c told)) (room t x);
           };
           place = place;
         }
 
     pub has_prepared : (e f : Engine B) (name : List ℕ) (args : List _) (plan : Plan) (new : Graph) (change : Change)
-        → Adds S e.board f.board [] → f.history.items ≡ e.history.items ++ to.Change name args ∷ [] → f.graph ≡ e.graph → f.layout ≡ e.layout → f.change ≡ Some change
+        → Adds W.stands_for e.board f.board [] → f.history.items ≡ e.history.items ++ to.Change name args ∷ [] → f.graph ≡ e.graph → f.layout ≡ e.layout → f.change ≡ Some change
         → IsFor e.layout e.graph new plan change
-        → ((t : List Item) → IsIdle S e t → HasRoomForAll (R f.board) (commit_events e.graph new plan (config_of (entries t))))
+        → ((t : List Item) → IsIdle W e t → HasRoomForAll (W.room f.board) (commit_events e.graph new plan (config_of (entries t))))
         → HasPlace f.history change
-        → HasPrepared S R e f name args plan new
+        → HasPrepared W e f name args plan new
     has_prepared e f name args plan new change adds history graph layout open_ for_ room place =
         record { graph_is = graph; prepares = prepared e f name args plan new change adds history graph layout open_ for_ room place }

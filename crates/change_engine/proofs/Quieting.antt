@@ -19,13 +19,14 @@ use Rattle.gate_records.specs.Entries.{config_of, event_in, events_in}
 use Rattle.gate_records.specs.declared.entry.Entry.{Entry}
 use Rattle.gate_records.specs.Records.{AreAllNoted}
 use Rattle.change_board.specs.Transcripts.{entries}
-use Rattle.change_engine.specs.Growing.{Grew}
+use Rattle.change_engine.specs.Growing.{Grew, telling}
 use Rattle.change_engine.specs.Passivating.{AreLivePorts, IsPassivation, Passivation, WaitingRound, close_item, left_after, look_item, passivation_items, round_items}
 use Rattle.change_engine.specs.Stopping.{stop_items}
 use Rattle.change_engine.proofs.Breaking.{stop_told}
 use Rattle.change_engine.proofs.Noting.{passivated_noted}
 use Rattle.change_engine.proofs.Passing.{close_entries, closes_events, config_over, live_same, looks_quiet, round_quiet}
 use Rattle.change_engine.proofs.ItemLaws.{entries_both, look_entries}
+use Rattle.change_board.specs.declared.board.Board.{Ghosts as BoardWords}
 use Rattle.change_engine.proofs.PassivationLaws.{same_here, closed_links}
 
 -- the events of a passivation are its closes
@@ -72,9 +73,9 @@ all_noted r ports rounds how are is none_ p live =
     let here = live_port c p (sym (live_same c d p same) ∙ live) in
     passivated_noted r ports rounds p how is none_ (subst (λ ps. In ps p) (sym are) (contains_in (live_ports c) p (live_unlisted c p here.made here.live)))
 
-pub stop_grew : {B : Type 0} (S : B → List Entry → Type 0) (a b : B) (h i j : List HistoryLine) (ports : List ℕ) (how : Passivation) → i ≡ h ++ to.Stop ∷ [] → Grew S a b i j (passivation_items ports how)
-    → Grew S a b h j (stop_items ports how)
-stop_grew S a b h i j ports how e g = record {
+pub stop_grew : {B : Type 0} (W : BoardWords B) (a b : B) (h i j : List HistoryLine) (ports : List ℕ) (how : Passivation) → i ≡ h ++ to.Stop ∷ [] → Grew W (telling a i) (telling b j) (passivation_items ports how)
+    → Grew W (telling a h) (telling b j) (stop_items ports how)
+stop_grew W a b h i j ports how e g = record {
   adds = g.adds;
   adds_lines = stop_told h i j ports how e g.adds_lines;
 }

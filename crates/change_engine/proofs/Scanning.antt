@@ -18,6 +18,8 @@ use Rattle.change_engine.specs.Finishing.{Finished, IsScanIn, ScanSeen, Scans, a
 use Rattle.change_engine.specs.Passivating.{silent_items}
 use Rattle.change_engine.proofs.Growing.{adds_both}
 use Rattle.change_engine.proofs.Passing.{config_quiet, scan_quiet}
+use Rattle.change_board.specs.declared.board.Board.{Ghosts as BoardWords}
+use Rattle.change_engine.specs.Growing.{telling}
 use Rattle.change_engine.proofs.ItemLaws.{entries_both, lines_both, silent_entries, silent_lines}
 
 pub all_push : {A : Type 0} (P : A → Type 0) (xs : List A) (x : A) → AllByRecursion P xs → P x → AllByRecursion P (xs ++ x ∷ [])
@@ -36,26 +38,26 @@ all_quiet (w ∷ scans) =
 pub rounds_pushed : (scans : List ScanSeen) (w : ScanSeen) → rounds_in (scans ++ w ∷ []) ≡ rounds_in scans + count_of w.answer
 rounds_pushed scans w = sum_by-append (λ (w : ScanSeen). count_of w.answer) scans (w ∷ []) ∙ omega arith
 
-module _ {B : Type 0} (S : B → List Entry → Type 0) where
-  abbrev pub seen_by : (alone : Bool) (b c : B) (s : Scan) → AddsScan S alone b c true s → ScanSeen
-  seen_by alone b c s x = record { answer = s; sights = x.sights; found = x.found }
+module _ {B : Type 0} (W : BoardWords B) where
+  abbrev pub seen_by : (b c : B) (s : Scan) → AddsScan W.stands_for W.alone b c true s → ScanSeen
+  seen_by b c s x = record { answer = s; sights = x.sights; found = x.found }
 
-  pub scans_add : (alone : Bool) (a b c : B) (scans : List ScanSeen) (s : Scan) (x : AddsScan S alone b c true s) → Adds S a b (all_entries scans) → Adds S a c (all_entries (scans ++ seen_by alone b c s x ∷ []))
-  scans_add alone a b c scans s x adds =
-      let w = seen_by alone b c s x in
-      subst (λ es. Adds S a c es) (sym (entries_pushed scans w)) (adds_both S a b c (all_entries scans) (seen_entries w) adds x.adds)
+  pub scans_add : (a b c : B) (scans : List ScanSeen) (s : Scan) (x : AddsScan W.stands_for W.alone b c true s) → Adds W.stands_for a b (all_entries scans) → Adds W.stands_for a c (all_entries (scans ++ seen_by b c s x ∷ []))
+  scans_add a b c scans s x adds =
+      let w = seen_by b c s x in
+      subst (λ es. Adds W.stands_for a c es) (sym (entries_pushed scans w)) (adds_both W a b c (all_entries scans) (seen_entries w) adds x.adds)
 
-  pub scans_are : (alone : Bool) (a b c : B) (scans : List ScanSeen) (s : Scan) (x : AddsScan S alone b c true s) → Adds S a b (all_entries scans)
-      → ((r : List Entry) → S a r → AllByRecursion (IsScanIn alone (config_of r)) scans)
-      → (r : List Entry) → S a r → AllByRecursion (IsScanIn alone (config_of r)) (scans ++ seen_by alone b c s x ∷ [])
-  scans_are alone a b c scans s x adds are r h =
-      let w = seen_by alone b c s x in
+  pub scans_are : (a b c : B) (scans : List ScanSeen) (s : Scan) (x : AddsScan W.stands_for W.alone b c true s) → Adds W.stands_for a b (all_entries scans)
+      → ((r : List Entry) → W.stands_for a r → AllByRecursion (IsScanIn W.alone (config_of r)) scans)
+      → (r : List Entry) → W.stands_for a r → AllByRecursion (IsScanIn W.alone (config_of r)) (scans ++ seen_by b c s x ∷ [])
+  scans_are a b c scans s x adds are r h =
+      let w = seen_by b c s x in
       let q = r ++ all_entries scans in
-      let there : IsScanIn alone (config_of q) w = record { all_sighted = λ is. x.all_sighted is q (adds r h); at_ports = x.at_ports q (adds r h); done = x.done q (adds r h); ended = x.ended } in
-      all_push (IsScanIn alone (config_of r)) scans w (are r h) (subst (λ c. IsScanIn alone c w) (config_quiet r (all_entries scans) (all_quiet scans)) there)
+      let there : IsScanIn W.alone (config_of q) w = record { all_sighted = λ is. x.all_sighted is q (adds r h); at_ports = x.at_ports q (adds r h); done = x.done q (adds r h); ended = x.ended } in
+      all_push (IsScanIn W.alone (config_of r)) scans w (are r h) (subst (λ c. IsScanIn W.alone c w) (config_quiet r (all_entries scans) (all_quiet scans)) there)
 
-  pub finished : (a b : B) (h i : List HistoryLine) (n rounds : ℕ) (alone : Bool) → Scans S alone a b n rounds → i ≡ h ++ to.Finish n rounds ∷ [] → Finished S alone a b h i n rounds
-  finished a b h i n rounds alone x grown =
+  pub finished : (a b : B) (h i : List HistoryLine) (n rounds : ℕ) → Scans W a b n rounds → i ≡ h ++ to.Finish n rounds ∷ [] → Finished W (telling a h) (telling b i) n rounds
+  finished a b h i n rounds x grown =
       let es = all_entries x.scans in
       let line : List Item = said (to.Finish n rounds) ∷ [] in
       record {
@@ -65,7 +67,7 @@ module _ {B : Type 0} (S : B → List Entry → Type 0) where
         rounds_are = x.rounds_are;
         ends = x.ends;
         grew = record {
-          adds = subst (λ zs. Adds S a b zs) (sym (entries_both (silent_items es) line ∙ ap (λ zs. zs ++ []) (silent_entries es) ∙ append-nil es)) x.adds;
+          adds = subst (λ zs. Adds W.stands_for a b zs) (sym (entries_both (silent_items es) line ∙ ap (λ zs. zs ++ []) (silent_entries es) ∙ append-nil es)) x.adds;
           adds_lines = grown ∙ ap (λ ls. h ++ ls) (sym (lines_both (silent_items es) line ∙ ap (λ ls. ls ++ lines line) (silent_lines es)));
         };
       }

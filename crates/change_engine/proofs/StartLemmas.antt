@@ -34,8 +34,10 @@ use Rattle.change_board.specs.Transcripts.{entries, lines, said}
 use Rattle.change_engine.specs.Beginning.{Begins, start_items}
 use Rattle.change_engine.specs.Calls.{HasStarted}
 use Rattle.change_engine.specs.Carrying.{CarriesOut, deed_items}
-use Rattle.change_engine.specs.Layouts.{IsLayoutOf}
+use Rattle.change_lists.specs.Layouts.{IsLayoutOf}
 use Rattle.change_engine.specs.declared.engine.Engine.{Engine}
+use Rattle.change_board.specs.declared.board.Board.{Ghosts as BoardWords}
+use Rattle.change_engine.specs.Growing.{telling}
 use Rattle.change_engine.proofs.ItemLaws.{entries_both, carried_entries, start_is_of_change}
 
 -- the events of deeds are those that were done
@@ -90,13 +92,13 @@ pub start_config : (g : Graph) → state_after (start_of g) ≡ started g → ch
 start_config g is =
     ap (change_all empty.config) (sym (all_kept (start_of g) (start_is_of_change g))) ∙ sym (now_is [] (start_of g)) ∙ ap (λ (s : State). s.config) is
 
-pub began : {B : Type 0} (S : B → List Entry → Type 0) (a mid b : B) (before history : List HistoryLine) (name : List ℕ) (args : List ℤ) (es : List Event) (g : Graph)
-    → Adds S a mid [] → before ≡ [] → es ≡ start_of g → CarriesOut S mid b before history (to.Start name args ∷ []) es (to.Commit ∷ []) → Begins S a b history name args g
-began S a mid b before history name args es g kept none_ are x = record {
+pub began : {B : Type 0} (W : BoardWords B) (a mid b : B) (before history : List HistoryLine) (name : List ℕ) (args : List ℤ) (es : List Event) (g : Graph)
+    → Adds W.stands_for a mid [] → before ≡ [] → es ≡ start_of g → CarriesOut W (telling mid before) (telling b history) (to.Start name args ∷ []) es (to.Commit ∷ []) → Begins W a (telling b history) name args g
+began W a mid b before history name args es g kept none_ are x = record {
   deeds = x.deeds;
   events_are = x.events_are ∙ are;
   grew = record {
-    adds = λ r s. x.grew.adds r (subst (S mid) (append-nil r) (kept r s));
+    adds = λ r s. x.grew.adds r (subst (W.stands_for mid) (append-nil r) (kept r s));
     adds_lines = x.grew.adds_lines ∙ ap (λ ls. ls ++ lines (start_items name args x.deeds)) none_;
   };
 }
@@ -104,10 +106,10 @@ began S a mid b before history name args es g kept none_ are x = record {
 pub start_entries : (name : List ℕ) (args : List ℤ) (deeds : List Deed) → entries (start_items name args deeds) ≡ entries_of deeds
 start_entries name args deeds = entries_both (flat_map deed_items deeds) (said to.Commit ∷ []) ∙ append-nil (entries (flat_map deed_items deeds)) ∙ carried_entries deeds
 
-pub has_started : {B : Type 0} (S : B → List Entry → Type 0) (a : B) (e : Engine B) (name : List ℕ) (args : List ℤ) (g : Graph) → S a [] → IsGraph g → Sound g
+pub has_started : {B : Type 0} (W : BoardWords B) (a : B) (e : Engine B) (name : List ℕ) (args : List ℤ) (g : Graph) → W.stands_for a [] → IsGraph g → Sound g
     → length g.nodes ≤ MAX_NODES → length (ports g.nodes) ≤ MAX_PORTS → state_after (start_of g) ≡ started g
-    → Begins S a e.board e.history.items name args g → IsLayoutOf e.layout (started g).config g → e.graph ≡ g → e.change ≡ None → HasStarted S e name args g
-has_started S a e name args g nothing is_graph sound nodes few is x layout graph change =
+    → Begins W a (telling e.board e.history.items) name args g → IsLayoutOf e.layout (started g).config g → e.graph ≡ g → e.change ≡ None → HasStarted W e name args g
+has_started W a e name args g nothing is_graph sound nodes few is x layout graph change =
     let t = start_items name args x.deeds in
     let made : config_of (entries t) ≡ (started g).config =
     ap config_of (start_entries name args x.deeds) ∙ ap (change_all empty.config) (deeds_events x.deeds ∙ x.events_are) ∙ start_config g is in

@@ -4,12 +4,12 @@ use Rattle.std.specs.Option.{option_map_or}
 use Rattle.change_law.specs.Members.{line_of}
 use Rattle.change_script.specs.declared.report.HistoryLine.{HistoryLine}
 use Rattle.quiesce_core.specs.declared.event.Event.{Event}
-use Rattle.gate_records.specs.declared.entry.Entry.{Entry}
 use Rattle.gate_records.specs.declared.entry.Entry.TheVariants.{Did}
+use Rattle.change_board.specs.declared.board.Board.{Ghosts as BoardWords}
 use Rattle.change_board.specs.Sights.{Sight, sight_entry}
 use Rattle.change_board.specs.Steps.{Deed, events_of}
 use Rattle.change_board.specs.Transcripts.{Item, silent, told, said}
-use Rattle.change_engine.specs.Growing.{Grew}
+use Rattle.change_engine.specs.Growing.{Grew, Telling}
 
 -- an event with its line, if it has one
 abbrev pub event_item : Event → Item
@@ -22,8 +22,8 @@ abbrev pub deed_items : Deed → List Item
 deed_items d = event_item d.event ∷ map sight_item d.sights
 
 -- These events were done and told, in order, behind some lines that are no events and before others.
-pub record CarriesOut {B : Type 0} (S : B → List Entry → Type 0) (old new : B) (before after : List HistoryLine)
-    (head : List HistoryLine) (events : List Event) (tail : List HistoryLine) : Type 0 where
+pub record CarriesOut {B : Type 0} (words : BoardWords B) (old new : Telling B) (head : List HistoryLine) (events : List Event)
+    (tail : List HistoryLine) : Type 0 where
   pub deeds : List Deed
   pub events_are : events_of deeds ≡ events
-  pub grew : Grew S old new before after (map said head ++ flat_map deed_items deeds ++ map said tail)
+  pub grew : Grew words old new (map said head ++ flat_map deed_items deeds ++ map said tail)

@@ -2,9 +2,9 @@
 use Rattle.std.specs.Prelude.{◌≡◌, ◌⊎◌, ⊤, ℕ, List, [], ◌∷◌, ◌++◌, map, length}
 use Rattle.change_script.specs.declared.report.HistoryLine.{HistoryLine}
 use Rattle.change_script.specs.declared.report.HistoryLine.TheVariants as to
-use Rattle.gate_records.specs.declared.entry.Entry.{Entry}
+use Rattle.change_board.specs.declared.board.Board.{Ghosts as BoardWords}
 use Rattle.change_board.specs.Transcripts.{Item, said}
-use Rattle.change_engine.specs.Growing.{Grew}
+use Rattle.change_engine.specs.Growing.{Grew, Telling}
 use Rattle.change_engine.specs.Passivating.{IsPassivation, Passivation, left_after, passivation_items}
 use Rattle.change_engine.specs.declared.draining.PassError.{PassError}
 use Rattle.change_engine.specs.declared.draining.PassError.TheVariants.{NoMemory, Pending}
@@ -26,13 +26,13 @@ left_lines within [] = []
 left_lines within (x ∷ left) = to.Pending within ∷ map root_line (x ∷ left)
 
 -- a passivation, and what was told of the roots that it left
-pub record Waits {B : Type 0} (S : B → List Entry → Type 0) (old new : B) (before after : List HistoryLine)
-    (ports : List ℕ) (within : ℕ) (left : List LeftRoot) : Type 0 where
+pub record Waits {B : Type 0} (words : BoardWords B) (old new : Telling B) (ports : List ℕ) (within : ℕ) (left : List LeftRoot)
+    : Type 0 where
   pub how : Passivation
   pub is_passivation : IsPassivation ports within how
   pub left_is : left ≡ left_after how.first how.rounds
   pub ends : (left ≡ []) ⊎ (length how.rounds ≡ within)
-  pub grew : Grew S old new before after (passivation_items ports how ++ map said (left_lines within left))
+  pub grew : Grew words old new (passivation_items ports how ++ map said (left_lines within left))
 
 -- what holds after a refusal, by what it says
 abbrev pub WherePending : (ℕ → List LeftRoot → Type 0) → PassError → Type 0

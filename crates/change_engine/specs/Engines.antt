@@ -18,20 +18,20 @@ use Rattle.quiesce_core.specs.WellFormed.{IsSound}
 use Rattle.quiesce_core.specs.declared.event.Event.TheVariants as event
 use Rattle.change_law.specs.Members.{lines_of_events}
 use Rattle.gate_records.specs.Entries.{config_of}
-use Rattle.gate_records.specs.declared.entry.Entry.{Entry}
-use Rattle.change_board.specs.Steps.{HasRoomForAll, Room}
+use Rattle.change_board.specs.declared.board.Board.{Ghosts as BoardWords}
+use Rattle.change_board.specs.Steps.{HasRoomForAll}
 use Rattle.change_board.specs.Transcripts.{Item, entries, lines}
-use Rattle.change_engine.specs.Layouts.{IsLayoutOf}
+use Rattle.change_lists.specs.Layouts.{IsLayoutOf}
 use Rattle.change_engine.specs.Passivating.{HasPlaceFor}
 use Rattle.change_engine.specs.Planning.{MayCarryOut}
 use Rattle.change_engine.specs.declared.engine.Change.{Change}
 use Rattle.change_engine.specs.declared.engine.Engine.{Engine}
-use Rattle.change_engine.specs.declared.layout.Layout.{Layout}
+use Rattle.change_lists.specs.declared.layout.Layout.{Layout}
 
 -- The board stands for the transcript's entries and the history has its lines; the graph that is kept is the one that
 -- the entries make.
-pub record Tells {B : Type 0} (S : B → List Entry → Type 0) (e : Engine B) (t : List Item) : Type 0 where
-  pub board : S e.board (entries t)
+pub record Tells {B : Type 0} (words : BoardWords B) (e : Engine B) (t : List Item) : Type 0 where
+  pub board : words.stands_for e.board (entries t)
   pub history : e.history.items ≡ lines t
   pub graph : IsGraphOf (config_of (entries t)) e.graph
   pub is_graph : IsGraph e.graph
@@ -39,8 +39,8 @@ pub record Tells {B : Type 0} (S : B → List Entry → Type 0) (e : Engine B) (
   pub layout : IsLayoutOf e.layout (config_of (entries t)) e.graph
 
 -- and no change is open
-pub record IsIdle {B : Type 0} (S : B → List Entry → Type 0) (e : Engine B) (t : List Item) : Type 0 where
-  pub tells : Tells S e t
+pub record IsIdle {B : Type 0} (words : BoardWords B) (e : Engine B) (t : List Item) : Type 0 where
+  pub tells : Tells words e t
   pub none_open : e.change ≡ None
 
 -- the plan leads from the graph that stands to a sound graph, and there is room for what it creates
@@ -68,14 +68,14 @@ pub record IsFor (layout : Layout) (old new : Graph) (plan : Plan) (change : Cha
   pub reopen_lines : change.reopen_lines.items ≡ lines_of_events change.reopens.items ++ to.Abandon ∷ []
 
 -- a change by this plan is open, and there is room for all that it makes
-pub record IsOpen {B : Type 0} (S : B → List Entry → Type 0) (R : B → Room) (e : Engine B) (t : List Item)
+pub record IsOpen {B : Type 0} (words : BoardWords B) (e : Engine B) (t : List Item)
     (moves : List Move) (plan : Plan) (new : Graph) : Type 0 where
-  pub tells : Tells S e t
+  pub tells : Tells words e t
   pub planned : IsPlanned e.graph new moves plan (config_of (entries t))
   pub change : Change
   pub open_ : e.change ≡ Some change
   pub is_for : IsFor e.layout e.graph new plan change
-  pub room : HasRoomForAll (R e.board) change.events.items
+  pub room : HasRoomForAll (words.room e.board) change.events.items
 
 -- There is place for the lines of a change, of the wait and of either end, and to wait in.
 pub record HasPlace (history : Vec HistoryLine) (change : Change) : Type 0 where
@@ -84,20 +84,20 @@ pub record HasPlace (history : Vec HistoryLine) (change : Change) : Type 0 where
   pub waiting : HasPlaceFor change.waiting (vec_len change.closed)
 
 -- a change is open, and there is place for all that it adds, so that its memory is taken: as it is behind `prepare`
-pub record IsPrepared {B : Type 0} (S : B → List Entry → Type 0) (R : B → Room) (e : Engine B) (t : List Item)
+pub record IsPrepared {B : Type 0} (words : BoardWords B) (e : Engine B) (t : List Item)
     (moves : List Move) (plan : Plan) (new : Graph) : Type 0 where
-  pub is_open : IsOpen S R e t moves plan new
+  pub is_open : IsOpen words e t moves plan new
   pub place : HasPlace e.history is_open.change
 
 -- its commit can't fail: what it closed is noted as drained, and the history has room
-pub record IsReadyToCommit {B : Type 0} (S : B → List Entry → Type 0) (R : B → Room) (e : Engine B) (t : List Item)
+pub record IsReadyToCommit {B : Type 0} (words : BoardWords B) (e : Engine B) (t : List Item)
     (moves : List Move) (plan : Plan) (new : Graph) : Type 0 where
-  pub is_open : IsOpen S R e t moves plan new
+  pub is_open : IsOpen words e t moves plan new
   pub may_ : MayCarryOut e.graph new moves plan (entries t)
   pub place : vec_len e.history + vec_len is_open.change.lines ≤ vec_capacity e.history
 
 -- it can be given up
-pub record MayAbandon {B : Type 0} (S : B → List Entry → Type 0) (R : B → Room) (e : Engine B) (t : List Item)
+pub record MayAbandon {B : Type 0} (words : BoardWords B) (e : Engine B) (t : List Item)
     (moves : List Move) (plan : Plan) (new : Graph) : Type 0 where
-  pub is_open : IsOpen S R e t moves plan new
+  pub is_open : IsOpen words e t moves plan new
   pub place : vec_len e.history + vec_len is_open.change.reopen_lines ≤ vec_capacity e.history

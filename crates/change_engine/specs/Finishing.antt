@@ -1,9 +1,9 @@
 -- How a system is run until it is done: scans in which nodes may begin transactions.
 use Rattle.std.specs.Prelude.{◌≡◌, ◌⊎◌, ◌≤◌, ℕ, Bool, true, false, not, ◌&&◌, ◌||◌, List, [], ◌∷◌, ◌++◌, flat_map, length, if◌then◌else◌}
 use Rattle.std.specs.List.{AllByRecursion, sum_by}
-use Rattle.change_script.specs.declared.report.HistoryLine.{HistoryLine}
 use Rattle.change_script.specs.declared.report.HistoryLine.TheVariants as to
 use Rattle.quiesce_core.specs.State.{Configuration}
+use Rattle.change_board.specs.declared.board.Board.{Ghosts as BoardWords}
 use Rattle.change_board.specs.declared.board.Scan.{Scan}
 use Rattle.gate_records.specs.Entries.{config_of}
 use Rattle.gate_records.specs.declared.entry.Entry.{Entry}
@@ -11,7 +11,7 @@ use Rattle.gate_records.specs.Records.{Adds}
 use Rattle.change_board.specs.Scans.{Found, SightsAll, all_ports, ended_in, is_seen_at_rest, ports_of, scan_entries}
 use Rattle.change_board.specs.Sights.{Sight}
 use Rattle.change_board.specs.Transcripts.{said}
-use Rattle.change_engine.specs.Growing.{Grew}
+use Rattle.change_engine.specs.Growing.{Grew, Telling}
 use Rattle.change_engine.specs.Passivating.{silent_items}
 
 -- a scan, by what it answered and saw
@@ -59,20 +59,19 @@ abbrev pub EndsAfter : Bool → ℕ → List ScanSeen → Type 0
 EndsAfter alone n scans = EndsWith alone scans ⊎ ((length scans ≡ n) × AllByRecursion (GoesOn alone) scans)
 
 -- at most so many scans
-pub record Scans {B : Type 0} (S : B → List Entry → Type 0) (alone : Bool) (old new : B) (n rounds : ℕ) : Type 0 where
+pub record Scans {B : Type 0} (words : BoardWords B) (old new : B) (n rounds : ℕ) : Type 0 where
   pub scans : List ScanSeen
   pub few : length scans ≤ n
-  pub are_scans : (r : List Entry) → S old r → AllByRecursion (IsScanIn alone (config_of r)) scans
+  pub are_scans : (r : List Entry) → words.stands_for old r → AllByRecursion (IsScanIn words.alone (config_of r)) scans
   pub rounds_are : rounds ≡ rounds_in scans
-  pub ends : EndsAfter alone n scans
-  pub adds : Adds S old new (all_entries scans)
+  pub ends : EndsAfter words.alone n scans
+  pub adds : Adds words.stands_for old new (all_entries scans)
 
 -- and the line that tells how many of them were rounds
-pub record Finished {B : Type 0} (S : B → List Entry → Type 0) (alone : Bool) (old new : B)
-    (before after : List HistoryLine) (n rounds : ℕ) : Type 0 where
+pub record Finished {B : Type 0} (words : BoardWords B) (old new : Telling B) (n rounds : ℕ) : Type 0 where
   pub scans : List ScanSeen
   pub few : length scans ≤ n
-  pub are_scans : (r : List Entry) → S old r → AllByRecursion (IsScanIn alone (config_of r)) scans
+  pub are_scans : (r : List Entry) → words.stands_for old.board r → AllByRecursion (IsScanIn words.alone (config_of r)) scans
   pub rounds_are : rounds ≡ rounds_in scans
-  pub ends : EndsAfter alone n scans
-  pub grew : Grew S old new before after (silent_items (all_entries scans) ++ said (to.Finish n rounds) ∷ [])
+  pub ends : EndsAfter words.alone n scans
+  pub grew : Grew words old new (silent_items (all_entries scans) ++ said (to.Finish n rounds) ∷ [])

@@ -6,10 +6,7 @@ pub mod Planning
 pub mod Stopping
 pub mod Beginning
 pub mod Running
-pub mod Layouts
 pub mod Leaving
-pub mod Lists
-pub mod PlanIn
 pub mod Engines
 pub mod Ending
 pub mod Draining

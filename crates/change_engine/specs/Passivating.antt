@@ -12,12 +12,13 @@ use Rattle.gate_records.specs.declared.looking.Look.TheVariants.{Drained, Busy}
 use Rattle.gate_records.specs.declared.entry.Entry.{Entry}
 use Rattle.gate_records.specs.declared.entry.Entry.TheVariants.{Did, Looked}
 use Rattle.gate_records.specs.Looks.{is_drained_word, serial_of}
+use Rattle.change_board.specs.declared.board.Board.{Ghosts as BoardWords}
 use Rattle.change_board.specs.Scans.{Found, ports_of, scan_entries}
 use Rattle.change_board.specs.Sights.{Sight}
 use Rattle.change_board.specs.Transcripts.{Item, silent, told}
 use Rattle.change_engine.specs.declared.passivating.LeftRoot.{LeftRoot}
 use Rattle.change_engine.specs.declared.passivating.Waiting.{Waiting}
-use Rattle.change_engine.specs.Growing.{Grew}
+use Rattle.change_engine.specs.Growing.{Grew, Telling}
 
 -- so many ports can be waited for, without more memory
 pub record HasPlaceFor (waiting : Waiting) (count : ℕ) : Type 0 where
@@ -60,12 +61,11 @@ abbrev pub root_ports : List LeftRoot → List ℕ
 root_ports roots = map (λ (x : LeftRoot). x.port) roots
 
 -- one look at each of these ports
-pub record Passed {B : Type 0} (S : B → List Entry → Type 0) (old new : B) (before after : List HistoryLine)
-    (ports : List ℕ) (left : List LeftRoot) : Type 0 where
+pub record Passed {B : Type 0} (words : BoardWords B) (old new : Telling B) (ports : List ℕ) (left : List LeftRoot) : Type 0 where
   pub found : List Found
   pub at_ports : ports_of found ≡ ports
   pub left_is : left ≡ roots_of found
-  pub grew : Grew S old new before after (map look_item found)
+  pub grew : Grew words old new (map look_item found)
 
 -- a round: a scan without begins, and a look at each port that isn't drained yet
 pub record WaitingRound : Type 0 where
@@ -81,12 +81,11 @@ abbrev pub round_items : WaitingRound → List Item
 round_items w = silent_items (scan_entries false w.moved w.sights w.scan) ++ map look_item w.found
 
 -- a round at the ports of these roots, and the roots that its look saw
-pub record Rounded {B : Type 0} (S : B → List Entry → Type 0) (old new : B) (before after : List HistoryLine)
-    (left next : List LeftRoot) : Type 0 where
+pub record Rounded {B : Type 0} (words : BoardWords B) (old new : Telling B) (left next : List LeftRoot) : Type 0 where
   pub round : WaitingRound
   pub at_left : ports_of round.found ≡ root_ports left
   pub next_is : next ≡ roots_of round.found
-  pub grew : Grew S old new before after (round_items round)
+  pub grew : Grew words old new (round_items round)
 
 -- what is left after a first look and rounds
 abbrev pub left_after : List Found → List WaitingRound → List LeftRoot
@@ -119,10 +118,10 @@ pub record IsPassivation (ports : List ℕ) (within : ℕ) (w : Passivation) : T
 
 -- It ends where nothing is left, or after the last round. So something is left exactly where the first look and each of
 -- the rounds saw a root.
-pub record Passivated {B : Type 0} (S : B → List Entry → Type 0) (old new : B) (before after : List HistoryLine)
-    (ports : List ℕ) (within : ℕ) (left : List LeftRoot) : Type 0 where
+pub record Passivated {B : Type 0} (words : BoardWords B) (old new : Telling B) (ports : List ℕ) (within : ℕ) (left : List LeftRoot)
+    : Type 0 where
   pub how : Passivation
   pub is_passivation : IsPassivation ports within how
   pub left_is : left ≡ left_after how.first how.rounds
   pub ends : (left ≡ []) ⊎ (length how.rounds ≡ within)
-  pub grew : Grew S old new before after (passivation_items ports how)
+  pub grew : Grew words old new (passivation_items ports how)

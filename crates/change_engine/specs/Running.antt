@@ -3,6 +3,7 @@
 use Rattle.std.specs.Prelude.{◌≡◌, ◌-◌, ℕ, Bool, true, false, not, ◌||◌, nat_le, List, fold, map, if◌then◌else◌}
 use Rattle.std.specs.List.{AllByRecursion, range_with_len}
 use Rattle.base.specs.Each.{Each}
+use Rattle.change_board.specs.declared.board.Board.{Ghosts as BoardWords}
 use Rattle.change_board.specs.declared.board.Scan.{Scan}
 use Rattle.gate_records.specs.declared.looking.Look.{Look}
 use Rattle.gate_records.specs.declared.looking.Look.TheVariants.{Drained, Busy}
@@ -37,18 +38,17 @@ abbrev pub RunsOn : Bool → ℕ → ℕ → List ScanSeen → ScanSeen → Type
 RunsOn alone k shown before w = are_enough alone k shown before ≡ false
 
 -- a look at each of the first so many ports, and how many transactions they show as ended
-pub record Counts {B : Type 0} (S : B → List Entry → Type 0) (old new : B) (ports ended : ℕ) : Type 0 where
+pub record Counts {B : Type 0} (words : BoardWords B) (old new : B) (ports ended : ℕ) : Type 0 where
   pub looks : List Found
   pub at_ports : ports_of looks ≡ range_with_len 0 ports
   pub ended_is : ended ≡ ended_in looks
-  pub adds : Adds S old new (map look_entry looks)
+  pub adds : Adds words.stands_for old new (map look_entry looks)
 
 -- scans until the run ends
-pub record ScansUntil {B : Type 0} (S : B → List Entry → Type 0) (alone : Bool) (old new : B) (shown k ended : ℕ)
-    : Type 0 where
+pub record ScansUntil {B : Type 0} (words : BoardWords B) (old new : B) (shown k ended : ℕ) : Type 0 where
   pub scans : List ScanSeen
-  pub are_scans : (r : List Entry) → S old r → AllByRecursion (IsScanIn alone (config_of r)) scans
-  pub go_on : Each (RunsOn alone k shown) scans
-  pub ends : are_enough alone k shown scans ≡ true
+  pub are_scans : (r : List Entry) → words.stands_for old r → AllByRecursion (IsScanIn words.alone (config_of r)) scans
+  pub go_on : Each (RunsOn words.alone k shown) scans
+  pub ends : are_enough words.alone k shown scans ≡ true
   pub ended_is : ended ≡ ended_since shown scans
-  pub adds : Adds S old new (all_entries scans)
+  pub adds : Adds words.stands_for old new (all_entries scans)

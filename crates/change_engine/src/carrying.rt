@@ -5,6 +5,7 @@ ghost use Rattle.gate_records.specs.declared.entry.Entry.{Entry};
 ghost use Rattle.change_board.specs.Steps.{HasRoomForAll, MayDoAll};
 ghost use Rattle.change_engine.specs.Carrying.{CarriesOut};
 ghost use Rattle.change_law.specs.Members.{lines_of_events};
+ghost use Rattle.change_engine.specs.Growing.{telling};
 ghost use Rattle.change_script.specs.declared.report.HistoryLine.{HistoryLine};
 
 use change_board::{Board, do_steps};
@@ -23,7 +24,8 @@ pub(crate) fn carry_out<B: Board>(
     requires room { HasRoomForAll (B.room board.old) events.items }
     requires place { vec_len history.old + vec_len lines.old ≤ vec_capacity history.old }
     ensures { (head tail : List HistoryLine) → lines.old.items ≡ head ++ lines_of_events events.items ++ tail
-        → CarriesOut B.stands_for board.old board.new history.old.items history.new.items head events.items tail }
+        → CarriesOut B.Board (telling board.old history.old.items) (telling board.new history.new.items)
+        head events.items tail }
 {
     do_steps(board, events);
     // There is place for them, so that it can't fail.

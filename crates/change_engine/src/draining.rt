@@ -5,6 +5,7 @@ ghost use Rattle.gate_records.specs.Entries.{config_of};
 ghost use Rattle.gate_records.specs.declared.entry.Entry.{Entry};
 ghost use Rattle.change_engine.specs.Breaking.{BrokeInRound};
 ghost use Rattle.change_engine.specs.Draining.{Waits, WhereNoMemory, WherePending, left_lines, root_line};
+ghost use Rattle.change_engine.specs.Growing.{telling};
 ghost use Rattle.change_engine.specs.Passivating.{AreLivePorts, HasPlaceFor};
 
 use crate::passivating::{LeftRoot, Waiting, passivate, put};
@@ -77,13 +78,14 @@ pub(crate) fn drain<B: Board>(
     requires live { (r : List Entry) × B.stands_for board.old r × AreLivePorts (config_of r) ports.now }
     requires line_place { vec_len history.old + 2 * length ports.now + 1 ≤ vec_capacity history.old }
     requires place { HasPlaceFor waiting.old (length ports.now) }
-    ensures ok { OnOk result (Waits B.stands_for board.old board.new history.old.items history.new.items ports.now
+    ensures ok { OnOk result (Waits B.Board (telling board.old history.old.items)
+        (telling board.new history.new.items) ports.now
         rounds waiting.new.left.items) }
     ensures room { OnOk result (B.room board.new ≡ B.room board.old) }
     ensures len { OnOk result (vec_len history.new ≤ vec_len history.old + 2 * length ports.now + 1) }
     ensures capacity { vec_capacity history.old ≤ vec_capacity history.new }
-    ensures err { OnErr result (BrokeInRound B.stands_for B.broke_off board.old board.new history.old.items
-        history.new.items ports.now rounds) }
+    ensures err { OnErr result (BrokeInRound B.Board (telling board.old history.old.items)
+        (telling board.new history.new.items) ports.now rounds) }
 {
     passivate(board, history, ports, waiting, u64::from(rounds))?;
     push_pending(history, rounds, &waiting.left);

@@ -6,12 +6,13 @@ ghost use Rattle.change_law.specs.Endings as endings;
 ghost use Rattle.change_law.specs.Members as members;
 ghost use Rattle.gate_records.specs.declared.entry.Entry.{Entry};
 ghost use Rattle.change_engine.specs.Ending.{is_finish_line, unfinished_after};
-ghost use Rattle.change_engine.specs.Layouts.{live_at};
+ghost use Rattle.change_lists.specs.Layouts.{live_at};
+ghost use Rattle.change_engine.specs.Growing.{telling};
 ghost use Rattle.change_engine.specs.Stopping.{AreAllLive, Stops};
 
-use crate::layout::Layout;
 use crate::stopping;
 use change_board::{Board, Collected};
+use change_lists::Layout;
 use change_script::{HistoryLine, Report};
 use config_graph::{List, NoMemory};
 
@@ -25,7 +26,7 @@ pub(crate) fn take_logs<B: Board>(
     requires all { (r : List Entry) × B.stands_for board.old r
         × AreAllLive r (live_at layout.now.places.items layout.now.ports.items) }
     ensures ok { IfOk result
-        (λ x. Stops B.stands_for board.old board.new (B.taken board.new) history.old.items history.new.items
+        (λ x. Stops B.Board (telling board.old history.old.items) (telling board.new history.new.items)
         (live_at layout.now.places.items layout.now.ports.items) (2 ^ 64 - 1) x) }
 {
     let alloc = *history.allocator();

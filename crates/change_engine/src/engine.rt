@@ -15,11 +15,11 @@ ghost use Rattle.change_engine.specs.Growing.{BrokeOff};
 use crate::carrying::carry_out;
 use crate::draining::PassError;
 use crate::laws::{commits_have_room, plans_may_be_carried_out};
-use crate::layout::Layout;
 use crate::passivating::{Waiting, put};
 use crate::preparing::{line_count, list_change};
 use crate::{draining, ending, finishing, launching, running};
 use change_board::Board;
+use change_lists::Layout;
 use change_plan::Plan;
 use change_script::{HistoryLine, Report};
 use config_graph::{Graph, List, NoMemory, Text};
@@ -71,7 +71,7 @@ impl<B: Board + Drop> Engine<B> {
         requires few_nodes { length graph.nodes ≤ MAX_NODES }
         requires few_ports { length (ports graph.nodes) ≤ MAX_PORTS }
         requires nothing_made { B.stands_for board [] }
-        ensures { IfOk result (λ e. HasStarted B.stands_for e name args.items graph) }
+        ensures { IfOk result (λ e. HasStarted B.Board e name args.items graph) }
     {
         started_systems_are_reached();
         let mut board = board;
@@ -95,10 +95,10 @@ impl<B: Board + Drop> Engine<B> {
     /// Scans until at least `k` transactions ended since the call, and gives how many did. It ends earlier where a scan
     /// moved nothing on a board on which nodes take turns in scans alone, and elsewhere where one saw all at rest.
     pub fn run(&mut self, k: u32) -> Result<u64, NoMemory>
-        requires idle { (t : List Item) × IsIdle B.stands_for self.old t }
-        ensures ok { IfOk result (λ ended. HasRun B.stands_for B.alone self.old self.new k ended) }
+        requires idle { (t : List Item) × IsIdle B.Board self.old t }
+        ensures ok { IfOk result (λ ended. HasRun B.Board self.old self.new k ended) }
         ensures graph { self.new.graph ≡ self.old.graph }
-        ensures untold { OnErr result (HasRunUntold B.stands_for B.broke_off self.old self.new) }
+        ensures untold { OnErr result (HasRunUntold B.Board self.old self.new) }
     {
         let shown = running::count_ended(&mut self.board, self.layout.port_count());
         let ended = running::scan_until(&mut self.board, shown, k)?;
@@ -109,20 +109,20 @@ impl<B: Board + Drop> Engine<B> {
     /// Scans at most `n` times, and gives how many of the scans were rounds. It ends earlier where a scan saw all at
     /// rest, or moved nothing on a board on which nodes take turns in scans alone.
     pub fn finish(&mut self, n: u32) -> Result<u32, NoMemory>
-        requires idle { (t : List Item) × IsIdle B.stands_for self.old t }
-        ensures ok { IfOk result (λ rounds. HasFinished B.stands_for B.alone self.old self.new n rounds) }
+        requires idle { (t : List Item) × IsIdle B.Board self.old t }
+        ensures ok { IfOk result (λ rounds. HasFinished B.Board self.old self.new n rounds) }
         ensures graph { self.new.graph ≡ self.old.graph }
-        ensures untold { OnErr result (HasRunUntold B.stands_for B.broke_off self.old self.new) }
+        ensures untold { OnErr result (HasRunUntold B.Board self.old self.new) }
     {
         finishing::finish(&mut self.board, &mut self.history, n)
     }
 
     /// Tells the graph of the last commit.
     pub fn show(&mut self) -> Result<(), NoMemory>
-        requires idle { (t : List Item) × IsIdle B.stands_for self.old t }
-        ensures ok { IfOk result (λ _. HasShown B.stands_for self.old self.new) }
+        requires idle { (t : List Item) × IsIdle B.Board self.old t }
+        ensures ok { IfOk result (λ _. HasShown B.Board self.old self.new) }
         ensures graph { self.new.graph ≡ self.old.graph }
-        ensures err { OnErr result (Continues B.stands_for self.old self.new []) }
+        ensures err { OnErr result (Continues B.Board self.old self.new []) }
     {
         let graph = self.graph.try_clone()?;
         self.history.push(HistoryLine::Show { graph })?;
@@ -131,10 +131,10 @@ impl<B: Board + Drop> Engine<B> {
 
     /// Tells of a change that isn't tried.
     pub fn skip(&mut self, name: Text, args: Vec<i32>) -> Result<(), NoMemory>
-        requires idle { (t : List Item) × IsIdle B.stands_for self.old t }
-        ensures ok { IfOk result (λ _. HasSkipped B.stands_for self.old self.new name args.items) }
+        requires idle { (t : List Item) × IsIdle B.Board self.old t }
+        ensures ok { IfOk result (λ _. HasSkipped B.Board self.old self.new name args.items) }
         ensures graph { self.new.graph ≡ self.old.graph }
-        ensures err { OnErr result (Continues B.stands_for self.old self.new []) }
+        ensures err { OnErr result (Continues B.Board self.old self.new []) }
     {
         self.history.reserve(2)?;
         put(
@@ -157,11 +157,11 @@ impl<B: Board + Drop> Engine<B> {
         plan: &Plan,
         new: &Graph,
     ) -> Result<(), NoMemory>
-        requires planned { (t : List Item) × (moves : List Move) × IsIdle B.stands_for self.old t
+        requires planned { (t : List Item) × (moves : List Move) × IsIdle B.Board self.old t
             × IsPlanned self.old.graph new.now moves plan.now (config_of (entries t)) }
         ensures ok { IfOk result
-            (λ _. HasPrepared B.stands_for B.room self.old self.new name args.items plan.now new.now) }
-        ensures err { OnErr result (Continues B.stands_for self.old self.new []) }
+            (λ _. HasPrepared B.Board self.old self.new name args.items plan.now new.now) }
+        ensures err { OnErr result (Continues B.Board self.old self.new []) }
     {
         commits_have_room();
         let alloc = *self.history.allocator();
@@ -184,14 +184,14 @@ impl<B: Board + Drop> Engine<B> {
     /// Memory can be wanting in a scan alone; the ports stay closed then.
     pub fn passivate(&mut self, plan: &Plan, rounds: u32) -> Result<(), PassError>
         requires prepared { (t : List Item) × (moves : List Move) × (next : Graph)
-            × IsPrepared B.stands_for B.room self.old t moves plan.now next }
-        ensures ok { IfOk result (λ _. HasPassivated B.stands_for B.room self.old self.new plan.now rounds) }
+            × IsPrepared B.Board self.old t moves plan.now next }
+        ensures ok { IfOk result (λ _. HasPassivated B.Board self.old self.new plan.now rounds) }
         ensures pending { IfErr result (WherePending
-            (λ k left. (k ≡ rounds) × HasLeft B.stands_for B.room self.old self.new plan.now rounds left)) }
+            (λ k left. (k ≡ rounds) × HasLeft B.Board self.old self.new plan.now rounds left)) }
         ensures no_memory { IfErr result (WhereNoMemory
-            (BrokeOff B.stands_for B.broke_off self.old.board self.new.board)) }
+            (BrokeOff B.Board self.old.board self.new.board)) }
         ensures stays_closed { IfErr result (WhereNoMemory
-            (HasBrokenOff B.stands_for B.room B.broke_off self.old self.new plan.now rounds)) }
+            (HasBrokenOff B.Board self.old self.new plan.now rounds)) }
     {
         // Asked for by the contract alone, which speaks of it: what it closes was listed when it was prepared.
         let _ = plan;
@@ -215,8 +215,8 @@ impl<B: Board + Drop> Engine<B> {
     /// Carries the plan out. It can't fail, and takes no memory.
     pub fn commit(&mut self, plan: Plan, new: Graph)
         requires passive { (t : List Item) × (moves : List Move)
-            × IsReadyToCommit B.stands_for B.room self.old t moves plan new }
-        ensures { HasCommitted B.stands_for B.room self.old self.new plan new }
+            × IsReadyToCommit B.Board self.old t moves plan new }
+        ensures { HasCommitted B.Board self.old self.new plan new }
     {
         plans_may_be_carried_out();
         // Asked for by the contract alone, which speaks of it: what its commit does was listed when it was prepared.
@@ -238,8 +238,8 @@ impl<B: Board + Drop> Engine<B> {
     /// Opens again what was closed for the plan. It can't fail, and takes no memory.
     pub fn abandon(&mut self, plan: Plan)
         requires pending { (t : List Item) × (moves : List Move) × (next : Graph)
-            × MayAbandon B.stands_for B.room self.old t moves plan next }
-        ensures { HasAbandoned B.stands_for B.room self.old self.new plan }
+            × MayAbandon B.Board self.old t moves plan next }
+        ensures { HasAbandoned B.Board self.old self.new plan }
     {
         // Asked for by the contract alone, which speaks of it: what it reopens was listed when it was prepared.
         let _ = plan;
@@ -258,8 +258,8 @@ impl<B: Board + Drop> Engine<B> {
     /// Closes the ports of all live nodes, makes rounds until each was found drained, and takes all logs in. Gives the
     /// report and the board. Where 2^64 - 1 rounds leave a root, that is answered as want of memory.
     pub fn stop(self) -> Result<(Report, B), NoMemory>
-        requires idle { (t : List Item) × IsIdle B.stands_for self t }
-        ensures { IfOk result (λ x. HasStopped B.stands_for B.taken self x.0 x.1) }
+        requires idle { (t : List Item) × IsIdle B.Board self t }
+        ensures { IfOk result (λ x. HasStopped B.Board self x.0 x.1) }
     {
         let mut engine = self;
         let given = ending::take_logs(&mut engine.board, &mut engine.history, &engine.layout)?;

@@ -3,6 +3,7 @@
 ghost use Rattle.std.specs.Prelude.{◌≡◌, ◌≤◌, IfOk, OnErr, OnOk};
 ghost use Rattle.change_engine.specs.Breaking.{BrokeInRun};
 ghost use Rattle.change_engine.specs.Finishing as finishing;
+ghost use Rattle.change_engine.specs.Growing.{telling};
 ghost use Rattle.change_engine.specs.Finishing.{Finished, Scans};
 
 use change_board::{Board, Scan};
@@ -26,9 +27,9 @@ fn ends_finish(alone: bool, scan: Scan) -> bool
 
 /// Scans at most so often, and gives how many of the scans were rounds.
 fn make_scans<B: Board>(board: &mut B, n: u32) -> Result<u32, NoMemory>
-    ensures ok { IfOk result (λ rounds. Scans B.stands_for B.alone board.old board.new n rounds) }
+    ensures ok { IfOk result (λ rounds. Scans B.Board board.old board.new n rounds) }
     ensures room { OnOk result (B.room board.new ≡ B.room board.old) }
-    ensures err { OnErr result (BrokeInRun B.stands_for B.broke_off board.old board.new) }
+    ensures err { OnErr result (BrokeInRun B.Board board.old board.new) }
 {
     let alone = board.is_alone();
     let mut rounds = 0;
@@ -50,9 +51,10 @@ pub fn finish<B: Board>(
     n: u32,
 ) -> Result<u32, NoMemory>
     ensures ok { IfOk result
-        (λ rounds. Finished B.stands_for B.alone board.old board.new history.old.items history.new.items n rounds) }
+        (λ rounds. Finished B.Board (telling board.old history.old.items)
+        (telling board.new history.new.items) n rounds) }
     ensures room { OnOk result (B.room board.new ≡ B.room board.old) }
-    ensures err { OnErr result (BrokeInRun B.stands_for B.broke_off board.old board.new) }
+    ensures err { OnErr result (BrokeInRun B.Board board.old board.new) }
     ensures untold { OnErr result (history.new.items ≡ history.old.items) }
 {
     let rounds = make_scans(board, n)?;

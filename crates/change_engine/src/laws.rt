@@ -23,9 +23,6 @@ ghost use Rattle.gate_records.specs.Notes.{is_noted};
 ghost use Rattle.gate_records.specs.Records.{IsRecord};
 ghost use Rattle.change_board.specs.Steps.{HasRoomForAll, MayDoAll, Room};
 ghost use Rattle.change_engine.specs.Engines.{IsPlanned};
-ghost use Rattle.change_engine.specs.Layouts.{IsLayoutOf};
-ghost use Rattle.change_engine.specs.Lists.{closed_by, commit_by, places_after, ports_after};
-ghost use Rattle.change_engine.specs.declared.layout.Layout.{Layout};
 ghost use Rattle.change_board.specs.Transcripts.{entries};
 ghost use Rattle.change_engine.specs.Planning.{MayCarryOut};
 ghost use Rattle.change_engine.specs.Passivating.{AreLivePorts, IsPassivation, Passivation, WaitingRound, left_after, passivation_items};
@@ -77,22 +74,6 @@ pub fn plans_may_be_carried_out()
     commits_can_not_fail();
     commits_leave_the_new_graph();
 }
-
-/// What a plan closes and commits in a configuration is what its lists say by the layout that tells the configuration,
-/// whether gates are closed or open; and the layout that they say is that of the configuration behind the commit.
-pub fn layouts_tell_commits()
-    ensures closed { (old new : Graph) (moves : List Move) (plan : Plan) (c : Configuration) (l : Layout) → IsGraph old
-        → IsGraph new → IsPlanOf old new moves plan → IsGraphOf c old → IsLayoutOf l c old
-        → ports_to_close old plan c ≡ closed_by l.places.items l.ports.items plan.freeze }
-    ensures events { (old new : Graph) (moves : List Move) (plan : Plan) (c : Configuration) (l : Layout) → IsGraph old
-        → IsGraph new → IsPlanOf old new moves plan → IsGraphOf c old → IsLayoutOf l c old
-        → commit_events old new plan c ≡ commit_by old new plan l.places.items l.ports.items }
-    ensures layout { (old new : Graph) (moves : List Move) (plan : Plan) (c : Configuration) (l next : Layout)
-        → IsGraph old → IsGraph new → IsPlanOf old new moves plan → IsGraphOf c old → IsLayoutOf l c old
-        → next.places.items ≡ places_after old new plan l.places.items
-        → next.ports.items ≡ ports_after new plan l.places.items l.ports.items
-        → IsLayoutOf next (change_all c (commit_events old new plan c)) new }
-{}
 
 /// A board that has room for all nodes that a plan creates, each of which may take over the state of one made before,
 /// has room for the plan's commit; and a plan creates no more than a run may make.

@@ -8,24 +8,19 @@ mod engine;
 mod finishing;
 mod launching;
 mod laws;
-mod layout;
-mod lists;
-mod lookups;
 mod passivating;
-mod plan_index;
 mod preparing;
 mod running;
-mod starting;
 mod stopping;
 mod telling;
 
+pub use change_lists::{Layout, layouts_tell_commits};
 pub use draining::PassError;
 pub use engine::{Change, Engine};
 pub use finishing::finish;
 pub use laws::{
-    commits_have_room, layouts_tell_commits, looks_behind_closes_find_roots,
-    passivated_ports_are_noted, plans_may_be_carried_out, starts_may_be_done,
+    commits_have_room, looks_behind_closes_find_roots, passivated_ports_are_noted,
+    plans_may_be_carried_out, starts_may_be_done,
 };
-pub use layout::Layout;
 pub use passivating::{LeftRoot, Waiting, passivate};
 pub use stopping::stop;

@@ -9,6 +9,7 @@ ghost use Rattle.gate_records.specs.declared.entry.Entry.{Entry};
 ghost use Rattle.gate_records.specs.declared.entry.Entry.TheVariants.{Did};
 ghost use Rattle.gate_records.specs.Records.{Adds};
 ghost use Rattle.change_engine.specs.Breaking.{BrokeInRound, BrokeInScan};
+ghost use Rattle.change_engine.specs.Growing.{telling};
 ghost use Rattle.change_engine.specs.Passivating.{AreLivePorts, AreMadePorts, HasPlaceFor, Passed, Passivated, Rounded, lines_by, root_ports, roots_by};
 
 use change_board::Board;
@@ -103,7 +104,8 @@ fn look_at<B: Board>(
     requires made { (r : List Entry) × B.stands_for board.old r × AreMadePorts (config_of r) ports.now }
     requires line_place { vec_len history.old + length ports.now ≤ vec_capacity history.old }
     requires root_place { length ports.now ≤ vec_capacity left.old }
-    ensures passed { Passed B.stands_for board.old board.new history.old.items history.new.items ports.now
+    ensures passed { Passed B.Board (telling board.old history.old.items)
+        (telling board.new history.new.items) ports.now
         left.new.items }
     ensures room { B.room board.new ≡ B.room board.old }
     ensures len { vec_len history.new + vec_len left.new ≡ vec_len history.old + length ports.now }
@@ -140,7 +142,8 @@ fn make_round<B: Board>(
         × AreMadePorts (config_of r) (root_ports waiting.old.left.items) }
     requires line_place { vec_len history.old + vec_len waiting.old.left ≤ vec_capacity history.old }
     requires place { HasPlaceFor waiting.old (vec_len waiting.old.left) }
-    ensures ok { OnOk result (Rounded B.stands_for board.old board.new history.old.items history.new.items
+    ensures ok { OnOk result (Rounded B.Board (telling board.old history.old.items)
+        (telling board.new history.new.items)
         waiting.old.left.items waiting.new.left.items) }
     ensures room { OnOk result (B.room board.new ≡ B.room board.old) }
     ensures len { OnOk result
@@ -150,7 +153,7 @@ fn make_round<B: Board>(
     ensures ports_capacity { vec_capacity waiting.old.ports ≤ vec_capacity waiting.new.ports }
     ensures left_capacity { vec_capacity waiting.old.left ≤ vec_capacity waiting.new.left }
     ensures err { OnErr result
-        (BrokeInScan B.stands_for B.broke_off board.old board.new history.old.items history.new.items) }
+        (BrokeInScan B.Board (telling board.old history.old.items) (telling board.new history.new.items)) }
 {
     board.scan(false)?;
     list_ports(&mut waiting.ports, &waiting.left);
@@ -171,14 +174,15 @@ pub fn passivate<B: Board>(
     requires live { (r : List Entry) × B.stands_for board.old r × AreLivePorts (config_of r) ports.now }
     requires line_place { vec_len history.old + 2 * length ports.now ≤ vec_capacity history.old }
     requires place { HasPlaceFor waiting.old (length ports.now) }
-    ensures ok { OnOk result (Passivated B.stands_for board.old board.new history.old.items history.new.items ports.now
+    ensures ok { OnOk result (Passivated B.Board (telling board.old history.old.items)
+        (telling board.new history.new.items) ports.now
         rounds waiting.new.left.items) }
     ensures room { OnOk result (B.room board.new ≡ B.room board.old) }
     ensures len { OnOk result
         (vec_len history.new + vec_len waiting.new.left ≡ vec_len history.old + 2 * length ports.now) }
     ensures capacity { vec_capacity history.old ≤ vec_capacity history.new }
-    ensures err { OnErr result (BrokeInRound B.stands_for B.broke_off board.old board.new history.old.items
-        history.new.items ports.now rounds) }
+    ensures err { OnErr result (BrokeInRound B.Board (telling board.old history.old.items)
+        (telling board.new history.new.items) ports.now rounds) }
 {
     close_all(board, history, ports);
     look_at(board, history, ports, &mut waiting.left);

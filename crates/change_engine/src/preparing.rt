@@ -10,11 +10,9 @@ ghost use Rattle.quiesce_core.specs.State.{Configuration};
 ghost use Rattle.quiesce_core.specs.declared.event.Event.TheVariants as event;
 
 use crate::engine::Change;
-use crate::laws::layouts_tell_commits;
-use crate::layout::Layout;
 use crate::passivating::Waiting;
-use crate::plan_index::PlanIndex;
 use crate::telling::push_lines;
+use change_lists::{Layout, PlanIndex, layouts_tell_commits};
 use change_plan::Plan;
 use change_script::HistoryLine;
 use config_graph::{Graph, NoMemory};

@@ -42,7 +42,7 @@ fn ends_run(alone: bool, scan: Scan) -> bool
 /// Looks at each of the first so many ports, and counts the transactions that they show as ended.
 pub(crate) fn count_ended<B: Board>(board: &mut B, ports: u32) -> u64
     requires made { (r : List Entry) × B.stands_for board.old r × (ports ≤ length (config_of r).gates) }
-    ensures counts { Counts B.stands_for board.old board.new ports result }
+    ensures counts { Counts B.Board board.old board.new ports result }
     ensures room { B.room board.new ≡ B.room board.old }
 {
     let mut ended = 0u64;
@@ -55,9 +55,9 @@ pub(crate) fn count_ended<B: Board>(board: &mut B, ports: u32) -> u64
 /// Scans until the ports show `k` transactions as ended more than are given, or a scan is the last. Where 2^64 - 1
 /// scans don't come to that, it is answered as want of memory.
 pub(crate) fn scan_until<B: Board>(board: &mut B, shown: u64, k: u32) -> Result<u64, NoMemory>
-    ensures ok { IfOk result (λ ended. ScansUntil B.stands_for B.alone board.old board.new shown k ended) }
+    ensures ok { IfOk result (λ ended. ScansUntil B.Board board.old board.new shown k ended) }
     ensures room { OnOk result (B.room board.new ≡ B.room board.old) }
-    ensures err { OnErr result (BrokeInRun B.stands_for B.broke_off board.old board.new) }
+    ensures err { OnErr result (BrokeInRun B.Board board.old board.new) }
 {
     let alone = board.is_alone();
     let mut ended = 0u64;

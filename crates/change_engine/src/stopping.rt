@@ -3,7 +3,7 @@
 ghost use Rattle.std.specs.Prelude.{◌≡◌, ◌⊎◌, ◌+◌, ◌*◌, ◌-◌, ◌^◌, ◌<◌, [], length, List, IfOk, OnErr};
 ghost use Rattle.gate_records.specs.declared.entry.Entry.{Entry};
 ghost use Rattle.change_engine.specs.Breaking.{BrokeInStop};
-ghost use Rattle.change_engine.specs.Growing.{Grew};
+ghost use Rattle.change_engine.specs.Growing.{Grew, telling};
 ghost use Rattle.change_engine.specs.Stopping.{AreAllLive, Stops};
 
 use crate::passivating::{Waiting, passivate, put};
@@ -29,10 +29,12 @@ pub fn stop<B: Board>(
 ) -> Result<Collected, NoMemory>
     requires all { (r : List Entry) × B.stands_for board.old r × AreAllLive r ports.now }
     ensures ok { IfOk result
-        (λ x. Stops B.stands_for board.old board.new (B.taken board.new) history.old.items history.new.items
+        (λ x. Stops B.Board (telling board.old history.old.items) (telling board.new history.new.items)
         ports.now (2 ^ 64 - 1) x) }
-    ensures closes_alone { OnErr result (Grew B.stands_for board.old board.new history.old.items history.new.items []
-        ⊎ BrokeInStop B.stands_for B.broke_off board.old board.new history.old.items history.new.items ports.now
+    ensures closes_alone { OnErr result (Grew B.Board (telling board.old history.old.items)
+        (telling board.new history.new.items) []
+        ⊎ BrokeInStop B.Board (telling board.old history.old.items)
+        (telling board.new history.new.items) ports.now
         (2 ^ 64 - 1)) }
 {
     let mut waiting = Waiting::with_capacity(alloc, ports.len())?;

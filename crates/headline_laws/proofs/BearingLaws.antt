@@ -18,27 +18,29 @@ use Rattle.headline_laws.proofs.JoiningLemmas.{each_both}
 use Rattle.headline_laws.proofs.LawfulLaws.{join}
 use Rattle.headline_laws.proofs.NumberLaws.{IsNumberTold, transcript_told}
 use Rattle.headline_laws.proofs.RootLaws.{IsRootSeen, roots_seen}
+use Rattle.headline_laws.proofs.WaitLemmas.{IsWaited, waits_told}
 
-said_borne : (before : List Item) (l : HistoryLine) → is_aside l ≡ true → IsRootSeen before (said l) → IsNumberTold before (said l) → IsBorne before (said l)
-said_borne before (to.Root p k) aside root number = root
-said_borne before (to.Finish n k) aside root number = number
-said_borne before (to.Make n made from) aside root number = absurd (both_ways false refl aside)
-said_borne before (to.Link p n x) aside root number = absurd (both_ways false refl aside)
-said_borne before (to.Unlink p) aside root number = absurd (both_ways false refl aside)
-said_borne before (to.Remove n) aside root number = absurd (both_ways false refl aside)
-said_borne before (to.Close p) aside root number = absurd (both_ways false refl aside)
-said_borne before (to.Reopen p) aside root number = absurd (both_ways false refl aside)
-said_borne before (to.Drained p k) aside root number = absurd (both_ways false refl aside)
-said_borne before _ aside root number = refl
+said_borne : (before : List Item) (l : HistoryLine) → is_aside l ≡ true → IsRootSeen before (said l) → IsNumberTold before (said l) → IsWaited before (said l) → IsBorne before (said l)
+said_borne before (to.Root p k) aside root number waited = root
+said_borne before (to.Finish n k) aside root number waited = number
+said_borne before (to.Pending n) aside root number waited = waited
+said_borne before (to.Make n made from) aside root number waited = absurd (both_ways false refl aside)
+said_borne before (to.Link p n x) aside root number waited = absurd (both_ways false refl aside)
+said_borne before (to.Unlink p) aside root number waited = absurd (both_ways false refl aside)
+said_borne before (to.Remove n) aside root number waited = absurd (both_ways false refl aside)
+said_borne before (to.Close p) aside root number waited = absurd (both_ways false refl aside)
+said_borne before (to.Reopen p) aside root number waited = absurd (both_ways false refl aside)
+said_borne before (to.Drained p k) aside root number waited = absurd (both_ways false refl aside)
+said_borne before _ aside root number waited = refl
 
 -- what is known of each item
 abbrev IsKnownItem : List Item → Item → Type 0
-IsKnownItem before x = IsFair x × (IsRootSeen before x × IsNumberTold before x)
+IsKnownItem before x = IsFair x × (IsRootSeen before x × (IsNumberTold before x × IsWaited before x))
 
 item_borne : (before : List Item) (x : Item) → IsKnownItem before x → IsBorne before x
 item_borne before (silent y) w = w.0
 item_borne before (told y l) w = w.0.1
-item_borne before (said l) w = said_borne before l w.0 w.1.0 w.1.1
+item_borne before (said l) w = said_borne before l w.0 w.1.0 w.1.1.0 w.1.1.1
 
 each_is_fair : (before t : List Item) → AreFair t → EachAfter (λ ys x. IsFair x) before t
 each_is_fair before [] fair = tt
@@ -54,6 +56,7 @@ bears alone statements t m report x is_of has =
       entries_are = refl;
       lines_are = sym has.history_is;
       borne = each_weaker IsKnownItem IsBorne [] t item_borne
-          (each_both (λ ys y. IsFair y) (λ ys y. IsRootSeen ys y × IsNumberTold ys y) [] t (each_is_fair [] t fair)
-          (each_both IsRootSeen IsNumberTold [] t (roots_seen t m w.0 fair w.1 is_of alone statements x) (transcript_told alone statements t x)));
+          (each_both (λ ys y. IsFair y) (λ ys y. IsRootSeen ys y × (IsNumberTold ys y × IsWaited ys y)) [] t (each_is_fair [] t fair)
+          (each_both IsRootSeen (λ ys y. IsNumberTold ys y × IsWaited ys y) [] t (roots_seen t m w.0 fair w.1 is_of alone statements x)
+          (each_both IsNumberTold IsWaited [] t (transcript_told alone statements t x) (waits_told alone statements t x))));
     }

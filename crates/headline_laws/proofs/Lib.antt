@@ -5,6 +5,7 @@ pub mod EndLaws
 pub mod FoldLaws
 pub mod FollowLaws
 pub mod GraphLaws
+pub mod HearingLaws
 mod HeirLemmas
 mod ItemLemmas
 mod JoiningLemmas
@@ -29,3 +30,4 @@ mod RestLaws
 mod Resting
 mod StaysLaws
 mod EndFolds
+mod WaitLemmas

@@ -23,19 +23,21 @@ use Rattle.change_engine.specs.declared.passivating.LeftRoot.{LeftRoot}
 use Rattle.change_engine.specs.Draining.{pending_items}
 use Rattle.headline_laws.specs.Pieces.{config_at, opening_items}
 use Rattle.headline_laws.proofs.ConfigLaws.{deeds_config, said_config}
+use Rattle.headline_laws.proofs.HearingLaws.{change_commits, given_up_commits_none}
 use Rattle.headline_laws.proofs.PendingLaws.{commit_none, config_opened, none_in_both, opening_none, pending_both, still_closed}
 use Rattle.headline_laws.proofs.RoomLaws.{closes_make, commit_makes}
 use Rattle.script_runner.specs.Doing.{Carried, WentThrough, is_given_up}
 use Rattle.script_steps.specs.declared.steps.Replacement.{Replacement}
 use Rattle.script_steps.specs.declared.steps.Step.TheVariants as steps
+use Rattle.change_board.specs.declared.board.Board.{Ghosts as BoardWords}
 use Rattle.script_runner.proofs.DoingLemmas.{kept}
 
-module _ {B : Type 0} (S : B → List Entry → Type 0) (R : B → Room) (alone : Bool) (e e1 f : Engine B) (c : Replacement) (prepared : HasPrepared S R e e1 c.name c.args c.plan c.graph)
-    (t : List Item) (idle : IsIdle S e t) (none : is_given_up t ≡ false) (planned : IsPlanned e.graph c.graph c.moves c.plan (config_at t)) where
+module _ {B : Type 0} (W : BoardWords B) (e e1 f : Engine B) (c : Replacement) (prepared : HasPrepared W e e1 c.name c.args c.plan c.graph)
+    (t : List Item) (idle : IsIdle W e t) (none : is_given_up t ≡ false) (planned : IsPlanned e.graph c.graph c.moves c.plan (config_at t)) where
   abbrev begun : List Item
   begun = t ++ said (to.Change c.name c.args) ∷ []
 
-  open_ : IsOpen S R e1 begun c.moves c.plan c.graph
+  open_ : IsOpen W e1 begun c.moves c.plan c.graph
   open_ = (prepared.prepares t c.moves idle planned).is_open
 
   -- what is closed is what the plan freezes
@@ -43,22 +45,24 @@ module _ {B : Type 0} (S : B → List Entry → Type 0) (R : B → Room) (alone 
   same_closed closed are =
       are ∙ ap (λ g. ports_to_close g c.plan (config_at begun)) prepared.graph_is ∙ ap (ports_to_close e.graph c.plan) (said_config t (to.Change c.name c.args))
 
-  committed : (mid : Engine B) (x : HasPassivated S R e1 mid c.plan c.within) → HasCommitted S R mid f c.plan c.graph → Carried S alone e f t (steps.Change c) false
+  committed : (mid : Engine B) (x : HasPassivated W e1 mid c.plan c.within) → HasCommitted W mid f c.plan c.graph → Carried W e f t (steps.Change c) false
   committed mid x y =
       let opened = opening_items c.name c.args x.closed x.how in
       let p = passivation_items x.closed x.how in
       let rest = flat_map deed_items y.deeds ++ said to.Commit ∷ [] in
       let place : begun ++ p ≡ t ++ opened = append_assoc t (said (to.Change c.name c.args) ∷ []) p in
-      let may_ : IsReadyToCommit S R mid (begun ++ p) c.moves c.plan c.graph = x.opens begun c.moves c.graph open_ in
-      let done_ : IsIdle S f ((begun ++ p) ++ rest) = y.goes (begun ++ p) c.moves may_ in
+      let may_ : IsReadyToCommit W mid (begun ++ p) c.moves c.plan c.graph = x.opens begun c.moves c.graph open_ in
+      let done_ : IsIdle W f ((begun ++ p) ++ rest) = y.goes (begun ++ p) c.moves may_ in
       let same_graph : mid.graph ≡ e.graph = x.graph_is ∙ prepared.graph_is in
       let events : events_of y.deeds ≡ commit_events e.graph c.graph c.plan (config_at (t ++ opened)) =
       y.events_are (begun ++ p) c.moves may_ ∙ ap (λ g. commit_events g c.graph c.plan (config_at (begun ++ p))) same_graph
       ∙ ap (λ u. commit_events e.graph c.graph c.plan (config_at u)) place in
       let here : (t ++ opened) ++ rest ≡ t ++ (opened ++ rest) = append_assoc t opened rest in
       let d = config_at (t ++ opened) in
+      let stood : IsIdle W f (t ++ (opened ++ rest)) = subst (λ u. IsIdle W f u) (ap (λ u. u ++ rest) place ∙ here) done_ in
       record {
         items = opened ++ rest;
+        told = change_commits c.name c.args t x.closed x.how y.deeds f.graph stood.tells.graph;
         done = (
           λ h. absurd (both_ways (is_given_up t) none h),
           λ h. record {
@@ -82,7 +86,7 @@ module _ {B : Type 0} (S : B → List Entry → Type 0) (R : B → Room) (alone 
             });
           },
         );
-        idle = subst (λ u. IsIdle S f u) (ap (λ u. u ++ rest) place ∙ here) done_;
+        idle = stood;
         flag = sym (kept t (opened ++ rest) (none_in_both opened rest (opening_none c.name c.args x.closed x.how) (commit_none y.deeds)) ∙ none);
         graph = λ _. y.graph_is;
         made = λ _. ap (λ u. made_in (config_at u)) (sym here)
@@ -92,7 +96,7 @@ module _ {B : Type 0} (S : B → List Entry → Type 0) (R : B → Room) (alone 
             (ap made_in (config_opened t c.name c.args x.closed x.how) ∙ closes_make (config_at t) x.closed);
       }
 
-  given_up : (mid : Engine B) (left : List LeftRoot) (x : HasLeft S R e1 mid c.plan c.within left) → HasAbandoned S R mid f c.plan → Carried S alone e f t (steps.Change c) true
+  given_up : (mid : Engine B) (left : List LeftRoot) (x : HasLeft W e1 mid c.plan c.within left) → HasAbandoned W mid f c.plan → Carried W e f t (steps.Change c) true
   given_up mid left x y =
       let opened = opening_items c.name c.args x.closed x.how in
       let p = passivation_items x.closed x.how in
@@ -101,8 +105,8 @@ module _ {B : Type 0} (S : B → List Entry → Type 0) (R : B → Room) (alone 
       let last = did ++ said to.Abandon ∷ [] in
       let place : begun ++ (p ++ pend) ≡ (t ++ opened) ++ pend =
       append_assoc t (said (to.Change c.name c.args) ∷ []) (p ++ pend) ∙ sym (append_assoc t opened pend) in
-      let may_ : MayAbandon S R mid (begun ++ (p ++ pend)) c.moves c.plan c.graph = x.opens begun c.moves c.graph open_ in
-      let done_ : IsIdle S f ((begun ++ (p ++ pend)) ++ last) = y.goes (begun ++ (p ++ pend)) c.moves c.graph may_ in
+      let may_ : MayAbandon W mid (begun ++ (p ++ pend)) c.moves c.plan c.graph = x.opens begun c.moves c.graph open_ in
+      let done_ : IsIdle W f ((begun ++ (p ++ pend)) ++ last) = y.goes (begun ++ (p ++ pend)) c.moves c.graph may_ in
       let same_graph : mid.graph ≡ e.graph = x.graph_is ∙ prepared.graph_is in
       let are = same_closed x.closed (x.closed_are begun c.moves c.graph open_) in
       let events : events_of y.deeds ≡ map event.Reopen x.closed =
@@ -117,6 +121,7 @@ module _ {B : Type 0} (S : B → List Entry → Type 0) (R : B → Room) (alone 
       pending_both opened rest ∙ ap (λ b. b || is_given_up rest) (opening_none c.name c.args x.closed x.how) in
       record {
         items = opened ++ rest;
+        told = given_up_commits_none c.name c.args x.closed x.how c.within left y.deeds;
         done = (
           λ h. absurd (both_ways (is_given_up t) none h),
           λ h. record {
@@ -142,12 +147,12 @@ module _ {B : Type 0} (S : B → List Entry → Type 0) (R : B → Room) (alone 
             );
           },
         );
-        idle = subst (λ u. IsIdle S f u) (ap (λ u. u ++ last) place ∙ here) done_;
+        idle = subst (λ u. IsIdle W f u) (ap (λ u. u ++ last) place ∙ here) done_;
         flag = sym (pending_both t (opened ++ rest) ∙ ap (λ b. b || is_given_up (opened ++ rest)) none ∙ some);
         graph = λ h. absurd (both_ways true h refl);
         made = λ h. absurd (both_ways true h refl);
       }
 
-  pub replaced : (given : Bool) → WentThrough S R e1 f c.plan c.graph c.within given → Carried S alone e f t (steps.Change c) given
+  pub replaced : (given : Bool) → WentThrough W e1 f c.plan c.graph c.within given → Carried W e f t (steps.Change c) given
   replaced false w = committed w.0 w.1 w.2
   replaced true w = given_up w.0 w.1 w.2 w.3

@@ -13,10 +13,12 @@ use Rattle.change_engine.specs.Finishing.{all_entries}
 use Rattle.change_engine.specs.Passivating.{silent_items}
 use Rattle.change_engine.specs.declared.engine.Engine.{Engine}
 use Rattle.headline_laws.proofs.ConfigLaws.{finish_config, run_config, said_config}
+use Rattle.headline_laws.proofs.HearingLaws.{quiet_commits_none}
 use Rattle.headline_laws.proofs.PendingLaws.{pending_both, quiet_none}
 use Rattle.script_runner.specs.Doing.{Carried, is_given_up}
 use Rattle.script_steps.specs.declared.steps.Replacement.{Replacement}
 use Rattle.script_steps.specs.declared.steps.Step.TheVariants as steps
+use Rattle.change_board.specs.declared.board.Board.{Ghosts as BoardWords}
 use Rattle.std.proofs.Math.Bool.{or-false}
 
 pub in_ok : {A E : Type 0} (P Q : A → Type 0) → ((x : A) → P x → Q x) → (r : Result A E) → IfOk r P → IfOk r Q
@@ -26,20 +28,21 @@ in_ok P Q f (Err e) h = tt
 pub kept : (t u : List Item) → is_given_up u ≡ false → is_given_up (t ++ u) ≡ is_given_up t
 kept t u h = pending_both t u ∙ ap (λ b. is_given_up t || b) h ∙ or-false (is_given_up t)
 
-module _ {B : Type 0} (S : B → List Entry → Type 0) (alone : Bool) (e f : Engine B) where
-  pub ran : (k ended : ℕ) → HasRun S alone e f k ended → f.graph ≡ e.graph → (t : List Item) (given : Bool) → IsIdle S e t → given ≡ is_given_up t → Carried S alone e f t (steps.Run k) given
+module _ {B : Type 0} (W : BoardWords B) (e f : Engine B) where
+  pub ran : (k ended : ℕ) → HasRun W e f k ended → f.graph ≡ e.graph → (t : List Item) (given : Bool) → IsIdle W e t → given ≡ is_given_up t → Carried W e f t (steps.Run k) given
   ran k ended x same t given idle flag =
       let es = map look_entry x.looks ++ all_entries x.scans in
       record {
         items = silent_items es ++ said (to.Run k ended) ∷ [];
         done = record { looks = x.looks; at_ports = x.at_ports t idle; scans = x.scans; are_scans = x.are_scans t idle; go_on = x.go_on; ends = x.ends; ended = ended; ended_is = x.ended_is; are = refl };
+        told = quiet_commits_none es (to.Run k ended) refl;
         idle = x.goes t idle;
         flag = flag ∙ sym (kept t (silent_items es ++ said (to.Run k ended) ∷ []) (quiet_none es (to.Run k ended) refl));
         graph = λ _. same;
         made = λ _. ap made_in (run_config t x.looks x.scans k ended);
       }
 
-  pub finished : (n rounds : ℕ) → HasFinished S alone e f n rounds → f.graph ≡ e.graph → (t : List Item) (given : Bool) → IsIdle S e t → given ≡ is_given_up t → Carried S alone e f t (steps.Finish n) given
+  pub finished : (n rounds : ℕ) → HasFinished W e f n rounds → f.graph ≡ e.graph → (t : List Item) (given : Bool) → IsIdle W e t → given ≡ is_given_up t → Carried W e f t (steps.Finish n) given
   finished n rounds x same t given idle flag =
       let es = all_entries x.scans in
       record {
@@ -51,26 +54,29 @@ module _ {B : Type 0} (S : B → List Entry → Type 0) (alone : Bool) (e f : En
           ends = x.ends;
           are = ap (λ r. silent_items es ++ said (to.Finish n r) ∷ []) x.rounds_are;
         };
+        told = quiet_commits_none es (to.Finish n rounds) refl;
         idle = x.goes t idle;
         flag = flag ∙ sym (kept t (silent_items es ++ said (to.Finish n rounds) ∷ []) (quiet_none es (to.Finish n rounds) refl));
         graph = λ _. same;
         made = λ _. ap made_in (finish_config t x.scans n rounds);
       }
 
-  pub shown : HasShown S e f → f.graph ≡ e.graph → (t : List Item) (given : Bool) → IsIdle S e t → given ≡ is_given_up t → Carried S alone e f t steps.Show given
+  pub shown : HasShown W e f → f.graph ≡ e.graph → (t : List Item) (given : Bool) → IsIdle W e t → given ≡ is_given_up t → Carried W e f t steps.Show given
   shown x same t given idle flag = record {
     items = said (to.Show e.graph) ∷ [];
     done = record { graph = e.graph; stands = idle.tells.graph; are = refl };
+    told = refl;
     idle = x t idle;
     flag = flag ∙ sym (kept t (said (to.Show e.graph) ∷ []) refl);
     graph = λ _. same;
     made = λ _. ap made_in (said_config t (to.Show e.graph));
   }
 
-  pub skipped : (c : Replacement) → HasSkipped S e f c.name c.args → (t : List Item) → IsIdle S e t → is_given_up t ≡ true → Carried S alone e f t (steps.Change c) true
+  pub skipped : (c : Replacement) → HasSkipped W e f c.name c.args → (t : List Item) → IsIdle W e t → is_given_up t ≡ true → Carried W e f t (steps.Change c) true
   skipped c x t idle given = record {
     items = skip_items c.name c.args;
     done = (λ h. refl, λ h. absurd (both_ways (is_given_up t) h given));
+    told = refl;
     idle = x t idle;
     flag = sym (kept t (skip_items c.name c.args) refl ∙ given);
     graph = λ h. absurd (both_ways true h refl);

@@ -20,6 +20,7 @@ use Rattle.headline_laws.specs.Pieces.{config_at}
 use Rattle.headline_laws.proofs.FollowLaws.{fair_transcript}
 use Rattle.headline_laws.proofs.LawfulLaws.{join}
 use Rattle.headline_laws.proofs.MergeLaws.{slots_made}
+use Rattle.change_board.specs.declared.board.Board.{Ghosts as BoardWords}
 use Rattle.script_runner.specs.Ran.{HasCarriedOut}
 
 -- ---- slots that are numbered from a on: each is that of one node
@@ -85,11 +86,11 @@ module _ (h : List HistoryLine) where
   made_once n logs made there = all_made 0 n logs there (λ k low. one_of k 0 n (makes h) (same_slots h ∙ made) low)
 
 -- what the record of a run tells is made in the slots of its configuration, in their order
-pub logs_are_made : {B : Type 0} (S : B → List Entry → Type 0) (alone : Bool) (taken : B → List (List Event)) (statements : List Statement) (report : Report) (board : B)
-    → ((b : B) (r : List Entry) → S b r → IsRecord r) → HasCarriedOut S alone taken statements report board → LogsAreMade report
-logs_are_made S alone taken statements report board is_of_run x =
+pub logs_are_made : {B : Type 0} (W : BoardWords B) (statements : List Statement) (report : Report) (board : B)
+    → ((b : B) (r : List Entry) → W.stands_for b r → IsRecord r) → HasCarriedOut W statements report board → LogsAreMade report
+logs_are_made W statements report board is_of_run x =
     let t = x.transcript in
     let run = is_of_run board (entries t) x.stands in
     let j = join t run.moments run.is_of in
-    let made = slots_made t run.moments j.0 (fair_transcript alone statements t x.is_transcript) j.1 run.is_of in
+    let made = slots_made t run.moments j.0 (fair_transcript W.alone statements t x.is_transcript) j.1 run.is_of in
     made_once report.history (length (config_at t).slots) report.logs (ap (filter_map made_slot) x.history_is ∙ made) x.slots

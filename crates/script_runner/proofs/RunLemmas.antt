@@ -1,6 +1,6 @@
 -- A script, step after step: what was done so far, and what may be done next.
-use Rattle.std.proofs.Common.{◌≡◌, ◌∙◌, ◌-◌, ◌^◌, Bool, false, List, [], ◌∷◌, ◌++◌, append_assoc, length, map, refl, sym, ap, subst}
-use Rattle.std.specs.Prelude.{All}
+use Rattle.std.proofs.Common.{◌≡◌, ◌∙◌, ◌-◌, ◌^◌, Bool, false, List, [], ◌∷◌, ◌++◌, append_assoc, length, map, Option, Some, None, refl, sym, ap, subst}
+use Rattle.std.specs.Prelude.{All, option_to_list}
 use Rattle.std.specs.List.{range_with_len}
 use Rattle.std.proofs.lemmas.Bool.{or_parts}
 use Rattle.std.proofs.lemmas.List.{append-nil, map-append}
@@ -25,25 +25,34 @@ use Rattle.change_engine.specs.Carrying.{sight_item}
 use Rattle.change_engine.specs.Ending.{unfinished_after}
 use Rattle.change_engine.specs.Engines.{IsIdle}
 use Rattle.change_engine.specs.declared.engine.Engine.{Engine}
+use Rattle.config_graph.specs.Graph.{Graph}
+use Rattle.headline_laws.specs.Hearing.{AreCommitted}
 use Rattle.headline_laws.specs.Pieces.{AreDone, IsDone, Piece, config_at, items_of}
 use Rattle.headline_laws.proofs.ConfigLaws.{sights_behind, sights_config, sights_lines, start_config}
+use Rattle.headline_laws.proofs.HearingLaws.{heard_next, none_committed, start_commits, stop_committed}
 use Rattle.headline_laws.proofs.PendingLaws.{pending_both, start_none}
 use Rattle.headline_laws.proofs.RoomLaws.{start_makes, wanted_as_planned}
 use Rattle.script_steps.specs.Asked.{Above, CanDoAll, after_change, after_start, statement_of, statements_of}
 use Rattle.script_runner.specs.Doing.{Carried, IsReady, is_given_up, made_behind}
+use Rattle.script_runner.specs.Hearing.{Hears, committed_in}
 use Rattle.script_runner.specs.Ran.{HasCarriedOut}
 use Rattle.script_steps.specs.declared.steps.Start.{Start}
 use Rattle.script_steps.specs.declared.steps.Step.{Step}
 use Rattle.script_steps.specs.declared.steps.Step.TheVariants as steps
 use Rattle.headline_laws.proofs.FollowLaws.{items_pushed}
+use Rattle.change_board.specs.declared.board.Board.{Ghosts as BoardWords}
 use Rattle.change_engine.specs.Stopping.{stop_items}
 
 -- where these steps were done, and the others are left
-pub record Progress {B : Type 0} (S : B → List Entry → Type 0) (alone : Bool) (start : Start) (done_ rest : List Step) (e : Engine B) (given_up : Bool) : Type 0 where
+pub record Progress {B L : Type 0} (W : BoardWords B) (H : L → List Graph → Type 0) (start : Start) (done_ rest : List Step) (e : Engine B) (w : L) (given_up : Bool)
+    : Type 0 where
   pub pieces : List Piece
   pub statements_are : map (λ (p : Piece). p.statement) pieces ≡ statements_of start done_
-  pub are_done : AreDone alone pieces
-  pub idle : IsIdle S e (items_of pieces)
+  pub are_done : AreDone W.alone pieces
+  pub graphs : List Graph
+  pub heard : H w graphs
+  pub committed : AreCommitted (lines (items_of pieces)) graphs
+  pub idle : IsIdle W e (items_of pieces)
   pub flag : given_up ≡ is_given_up (items_of pieces)
   pub above : Above
   pub can : CanDoAll above rest
@@ -57,19 +66,23 @@ record Forward {B : Type 0} (f : Engine B) (t : List Item) (rest : List Step) (g
   graph : given_up ≡ false → f.graph ≡ above.graph
   made : given_up ≡ false → made_in (config_at t) ≡ above.made
 
-module _ {B : Type 0} (S : B → List Entry → Type 0) (alone : Bool) (start : Start) where
-  pub begun : (rest : List Step) (e : Engine B) → HasStarted S e start.name start.args start.graph → CanDoAll (after_start start) rest → Progress S alone start [] rest e false
-  begun rest e x can =
+module _ {B L : Type 0} (W : BoardWords B) (H : L → List Graph → Type 0) (start : Start) where
+  pub begun : (rest : List Step) (e : Engine B) (w : L) → HasStarted W e start.name start.args start.graph → CanDoAll (after_start start) rest → H w (e.graph ∷ [])
+      → Progress W H start [] rest e w false
+  begun rest e w x can heard =
       let t = start_items start.name start.args x.deeds in
       let nothing = append-nil t in
+      let p : Piece = record { statement = statements.start start.name start.args start.graph; items = t } in
+      let done_ : AreDone W.alone (p ∷ []) =
+      (record { deeds = x.deeds; events_are = x.events_are; are = refl; stands = subst (λ g. IsGraphOf (config_at t) g) x.graph_is x.idle.tells.graph }, tt) in
       record {
-        pieces = record { statement = statements.start start.name start.args start.graph; items = t } ∷ [];
+        pieces = p ∷ [];
         statements_are = refl;
-        are_done = (
-          record { deeds = x.deeds; events_are = x.events_are; are = refl; stands = subst (λ g. IsGraphOf (config_at t) g) x.graph_is x.idle.tells.graph },
-          tt,
-        );
-        idle = subst (λ u. IsIdle S e u) (sym nothing) x.idle;
+        are_done = done_;
+        graphs = e.graph ∷ [];
+        heard = heard;
+        committed = heard_next W.alone [] p [] done_ none_committed (Some e.graph) (start_commits start.name start.args [] x.deeds e.graph x.idle.tells.graph);
+        idle = subst (λ u. IsIdle W e u) (sym nothing) x.idle;
         flag = sym (ap is_given_up nothing ∙ start_none start.name start.args x.deeds);
         above = after_start start;
         can = can;
@@ -79,8 +92,8 @@ module _ {B : Type 0} (S : B → List Entry → Type 0) (alone : Bool) (start : 
       }
 
   -- a change that is next, where none was given up, may be made
-  pub ready : (done_ : List Step) (step : Step) (rest : List Step) (e : Engine B) (given : Bool) (p : Progress S alone start done_ (step ∷ rest) e given) → IsReady e.graph (items_of p.pieces) step
-  ready done_ (steps.Change c) rest e given p = λ h.
+  pub ready : (done_ : List Step) (step : Step) (rest : List Step) (e : Engine B) (w : L) (given : Bool) (p : Progress W H start done_ (step ∷ rest) e w given) → IsReady e.graph (items_of p.pieces) step
+  ready done_ (steps.Change c) rest e w given p = λ h.
       let none = p.flag ∙ h in
       let w = p.can.0 in
       record {
@@ -90,12 +103,12 @@ module _ {B : Type 0} (S : B → List Entry → Type 0) (alone : Bool) (start : 
         can_plan = subst (λ g. CanPlan g c.graph c.moves (made_in (config_at (items_of p.pieces)))) (sym (p.graph none))
             (subst (λ m. CanPlan p.above.graph c.graph c.moves m) (sym (p.made none)) w.can_plan);
       }
-  ready done_ (steps.Run k) rest e given p = tt
-  ready done_ (steps.Finish n) rest e given p = tt
-  ready done_ steps.Show rest e given p = tt
+  ready done_ (steps.Run k) rest e w given p = tt
+  ready done_ (steps.Finish n) rest e w given p = tt
+  ready done_ steps.Show rest e w given p = tt
 
-  module _ (done_ : List Step) (rest : List Step) (e f : Engine B) (given now_ : Bool) where
-    forward : (step : Step) (p : Progress S alone start done_ (step ∷ rest) e given) (x : Carried S alone e f (items_of p.pieces) step now_) → (now_ ≡ false → given ≡ false)
+  module _ (done_ : List Step) (rest : List Step) (e f : Engine B) (v w : L) (given now_ : Bool) where
+    forward : (step : Step) (p : Progress W H start done_ (step ∷ rest) e v given) (x : Carried W e f (items_of p.pieces) step now_) → (now_ ≡ false → given ≡ false)
         → Forward f (items_of p.pieces ++ x.items) rest now_
     forward (steps.Change c) p x none = record {
       above = after_change p.above c p.can.0;
@@ -108,37 +121,53 @@ module _ {B : Type 0} (S : B → List Entry → Type 0) (alone : Bool) (start : 
     forward (steps.Finish n) p x none = record { above = p.above; can = p.can; graph = λ h. x.graph h ∙ p.graph (none h); made = λ h. x.made h ∙ p.made (none h) }
     forward steps.Show p x none = record { above = p.above; can = p.can; graph = λ h. x.graph h ∙ p.graph (none h); made = λ h. x.made h ∙ p.made (none h) }
 
-    pub next_ : (step : Step) (p : Progress S alone start done_ (step ∷ rest) e given) → Carried S alone e f (items_of p.pieces) step now_ → Progress S alone start (done_ ++ step ∷ []) rest f now_
-    next_ step p x =
+    heard_more : (o : Option Graph) → Hears H v w o → (graphs : List Graph) → H v graphs → H w (graphs ++ option_to_list o)
+    heard_more None h graphs so_far = subst (H w) (sym (append-nil graphs)) (h graphs so_far)
+    heard_more (Some g) h graphs so_far = h graphs so_far
+
+    pub next_ : (step : Step) (p : Progress W H start done_ (step ∷ rest) e v given) → Carried W e f (items_of p.pieces) step now_ → Hears H v w (committed_in step now_ f.graph)
+        → Progress W H start (done_ ++ step ∷ []) rest f w now_
+    next_ step p x hears =
         let t = items_of p.pieces in
         let q : Piece = record { statement = statement_of step; items = x.items } in
         let pushed = items_pushed p.pieces q in
         let none : now_ ≡ false → given ≡ false = λ h. p.flag ∙ (or_parts (is_given_up t) (is_given_up x.items) (sym (pending_both t x.items) ∙ sym x.flag ∙ h)).0 in
-        let w = forward step p x none in
+        let above = forward step p x none in
+        let told = committed_in step now_ f.graph in
+        let done_ : AreDone W.alone (p.pieces ++ q ∷ []) = (each_pushed (λ before (y : Piece). IsDone W.alone (items_of before) y.statement y.items) p.pieces q).1 (p.are_done, x.done) in
         record {
           pieces = p.pieces ++ q ∷ [];
           statements_are = map-append (λ (y : Piece). y.statement) p.pieces (q ∷ []) ∙ ap (λ ss. ss ++ statement_of step ∷ []) p.statements_are
               ∙ ap (λ ss. statements.start start.name start.args start.graph ∷ ss) (sym (map-append statement_of done_ (step ∷ [])));
-          are_done = (each_pushed (λ before (y : Piece). IsDone alone (items_of before) y.statement y.items) p.pieces q).1 (p.are_done, x.done);
-          idle = subst (λ u. IsIdle S f u) (sym pushed) x.idle;
+          are_done = done_;
+          graphs = p.graphs ++ option_to_list told;
+          heard = heard_more told hears p.graphs p.heard;
+          committed = heard_next W.alone p.pieces q p.graphs done_ p.committed told x.told;
+          idle = subst (λ u. IsIdle W f u) (sym pushed) x.idle;
           flag = x.flag ∙ ap is_given_up (sym pushed);
-          above = w.above;
-          can = w.can;
-          graph = w.graph;
-          made = λ h. ap (λ u. made_in (config_at u)) pushed ∙ w.made h;
+          above = above.above;
+          can = above.can;
+          graph = above.graph;
+          made = λ h. ap (λ u. made_in (config_at u)) pushed ∙ above.made h;
         }
 
+  -- where none is left, all are done
+  pub ended : (all done_ rest : List Step) (e : Engine B) (w : L) (given : Bool) → rest ≡ [] → done_ ++ rest ≡ all → Progress W H start done_ rest e w given → Progress W H start all [] e w given
+  ended all done_ rest e w given none same p =
+      subst (λ ys. Progress W H start ys [] e w given) (sym (append-nil done_) ∙ ap (λ es. done_ ++ es) (sym none) ∙ same)
+      (subst (λ rs. Progress W H start done_ rs e w given) none p)
+
   -- and once all is done
-  pub stopped : (taken : B → List (List Event)) (all : List Step) (e : Engine B) (given : Bool) (report : Report) (board : B) → Progress S alone start all [] e given → HasStopped S taken e report board
-      → HasCarriedOut S alone taken (statements_of start all) report board
-  stopped taken all e given report board p x =
+  pub stopped : (all : List Step) (e : Engine B) (w : L) (given : Bool) (report : Report) (board : B) → Progress W H start all [] e w given → HasStopped W e report board
+      → HasCarriedOut W (statements_of start all) report board
+  stopped all e w given report board p x =
       let t = items_of p.pieces in
       let ss = x.collected.sights in
       let stopping = stop_items x.closed x.how in
       let whole = t ++ (stopping ++ map sight_item ss) in
       let group : (t ++ stopping) ++ map sight_item ss ≡ whole = append_assoc t stopping (map sight_item ss) in
       let r = entries (t ++ stopping) in
-      let here : S x.quiet r = x.stands t p.idle in
+      let here : W.stands_for x.quiet r = x.stands t p.idle in
       let same : config_of r ≡ config_at whole = sym (sights_config (t ++ stopping) ss) ∙ ap config_at group in
       record {
         transcript = whole;
@@ -160,10 +189,16 @@ module _ {B : Type 0} (S : B → List Entry → Type 0) (alone : Bool) (start : 
           are = refl;
         };
         history_is = x.history_is t p.idle ∙ sym (sights_lines (t ++ stopping) ss) ∙ ap lines group;
-        stands = subst (λ q. S board q) (sym (sights_behind (t ++ stopping) ss) ∙ ap entries group) (x.collected.adds r here);
+        stands = subst (λ q. W.stands_for board q) (sym (sights_behind (t ++ stopping) ss) ∙ ap entries group) (x.collected.adds r here);
         logs_are = ap (map (λ (l : NodeLog). l.events)) x.logs_are ∙ x.collected.events;
         slots = ap (map (λ (l : NodeLog). l.slot)) x.logs_are ∙ x.collected.slots r here ∙ ap (λ (c : Configuration). range_with_len 0 (length c.slots)) same;
-        ends = subst (λ ls. All (IsEndOf (config_at whole) (taken board)) ls) (sym x.logs_are) (subst (λ c. All (IsEndOf c (taken board)) x.given.logs) same (x.collected.ends r here));
-        unfinished_is = x.unfinished_is ∙ ap (unfinished_after report.history) (x.collected.undone r here ∙ ap (λ c. first_undone c (taken board)) same);
+        ends = subst (λ ls. All (IsEndOf (config_at whole) (W.taken board)) ls) (sym x.logs_are) (subst (λ c. All (IsEndOf c (W.taken board)) x.given.logs) same (x.collected.ends r here));
+        unfinished_is = x.unfinished_is ∙ ap (unfinished_after report.history) (x.collected.undone r here ∙ ap (λ c. first_undone c (W.taken board)) same);
         status_is = x.status_is;
       }
+
+  -- the stop commits nothing
+  pub stop_told : (all : List Step) (e : Engine B) (w : L) (given : Bool) (report : Report) (board : B) → Progress W H start all [] e w given → HasStopped W e report board
+      → (graphs : List Graph) × H w graphs × AreCommitted report.history graphs
+  stop_told all e w given report board p x =
+      (p.graphs, p.heard, subst (λ ls. AreCommitted ls p.graphs) (sym (x.history_is (items_of p.pieces) p.idle)) (stop_committed (items_of p.pieces) x.closed x.how p.graphs p.committed))

@@ -6,17 +6,18 @@ use Rattle.config_graph.specs.declared.node.Made.{Made}
 use Rattle.change_plan.specs.declared.plan_data.Plan.{Plan}
 use Rattle.plan_laws.specs.Committing.{made_in}
 use Rattle.change_law.specs.Members.{is_pending}
-use Rattle.gate_records.specs.declared.entry.Entry.{Entry}
-use Rattle.change_board.specs.Steps.{Room}
+use Rattle.change_board.specs.declared.board.Board.{Ghosts as BoardWords}
 use Rattle.change_board.specs.Transcripts.{Item, lines}
 use Rattle.change_engine.specs.Calls.{HasAbandoned, HasCommitted, HasLeft, HasPassivated}
 use Rattle.change_engine.specs.Engines.{IsIdle, IsPlanned}
 use Rattle.change_engine.specs.declared.engine.Engine.{Engine}
 use Rattle.change_engine.specs.declared.passivating.LeftRoot.{LeftRoot}
+use Rattle.headline_laws.specs.Hearing.{IsHeard}
 use Rattle.headline_laws.specs.Pieces.{IsDone, config_at}
 use Rattle.script_steps.specs.Asked.{graph_behind, made_with_change, statement_of}
 use Rattle.script_steps.specs.declared.steps.Step.{Step}
 use Rattle.script_steps.specs.declared.steps.Step.TheVariants as steps
+use Rattle.script_runner.specs.Hearing.{committed_in}
 
 -- whether a change was given up
 abbrev pub is_given_up : List Item → Bool
@@ -32,19 +33,19 @@ abbrev pub made_behind : Made → Step → Made
 made_behind made (steps.Change c) = made_with_change made c
 made_behind made _ = made
 
-pub record Carried {B : Type 0} (S : B → List Entry → Type 0) (alone : Bool) (old new : Engine B) (t : List Item) (step : Step)
-    (given_up : Bool) : Type 0 where
+pub record Carried {B : Type 0} (words : BoardWords B) (old new : Engine B) (t : List Item) (step : Step) (given_up : Bool)
+    : Type 0 where
   pub items : List Item
-  pub done : IsDone alone t (statement_of step) items
-  pub idle : IsIdle S new (t ++ items)
+  pub done : IsDone words.alone t (statement_of step) items
+  pub told : IsHeard t items (committed_in step given_up new.graph)
+  pub idle : IsIdle words new (t ++ items)
   pub flag : given_up ≡ is_given_up (t ++ items)
   pub graph : given_up ≡ false → new.graph ≡ graph_behind old.graph step
   pub made : given_up ≡ false → made_in (config_at (t ++ items)) ≡ made_behind (made_in (config_at t)) step
 
 -- a prepared change waited for its ports, and was carried out, or given up
-abbrev pub WentThrough : {B : Type 0} → (B → List Entry → Type 0) → (B → Room) → Engine B → Engine B → Plan → Graph → ℕ → Bool
-    → Type 0
-WentThrough {B} S R old new plan next_ within false =
-    (mid : Engine B) × HasPassivated S R old mid plan within × HasCommitted S R mid new plan next_
-WentThrough {B} S R old new plan next_ within true =
-    (mid : Engine B) × (left : List LeftRoot) × HasLeft S R old mid plan within left × HasAbandoned S R mid new plan
+abbrev pub WentThrough : {B : Type 0} → BoardWords B → Engine B → Engine B → Plan → Graph → ℕ → Bool → Type 0
+WentThrough {B} words old new plan next_ within false =
+    (mid : Engine B) × HasPassivated words old mid plan within × HasCommitted words mid new plan next_
+WentThrough {B} words old new plan next_ within true =
+    (mid : Engine B) × (left : List LeftRoot) × HasLeft words old mid plan within left × HasAbandoned words mid new plan

@@ -1,6 +1,8 @@
 //! Scripts carried out: the statements of a script, one after the other, by the engine on any board.
 #![tactic(auto)]
 
+mod hearing;
 mod running;
 
+pub use hearing::{Listener, NoOne};
 pub use running::run_statements;

@@ -2,14 +2,13 @@
 use Rattle.std.proofs.Common.{◌≡◌, ◌∙◌, Bool, true, List, length, map, sym, ap, subst}
 use Rattle.std.specs.Prelude.{All}
 use Rattle.quiesce_core.specs.State.{Configuration}
-use Rattle.quiesce_core.specs.declared.event.Event.{Event}
 use Rattle.change_script.specs.declared.report.Report.{Report}
 use Rattle.change_law.specs.Lawful.{IsLawfulBy}
 use Rattle.change_law.specs.Members.{Member}
 use Rattle.change_law.specs.Serial.{Serial}
 use Rattle.change_law.specs.Statements.{Statement}
 use Rattle.change_board.specs.Collecting.{IsEndOf, first_undone}
-use Rattle.gate_records.specs.declared.entry.Entry.{Entry}
+use Rattle.change_board.specs.declared.board.Board.{Ghosts as BoardWords}
 use Rattle.gate_records.specs.Records.{IsRecordOf, Moment}
 use Rattle.change_board.specs.Transcripts.{Item, entries}
 use Rattle.change_engine.specs.Ending.{unfinished_after}
@@ -20,8 +19,8 @@ use Rattle.headline_laws.proofs.LawfulLaws.{join}
 use Rattle.script_runner.specs.Ran.{HasCarriedOut}
 use Rattle.step_board.specs.Standing.{AreOfRounds, AreParts}
 
-module _ {B : Type 0} (S : B → List Entry → Type 0) (alone : Bool) (taken : B → List (List Event)) (statements : List Statement) (report : Report) (board : B)
-    (x : HasCarriedOut S alone taken statements report board) (parts : AreParts (entries x.transcript) (taken board)) where
+module _ {B : Type 0} (W : BoardWords B) (statements : List Statement) (report : Report) (board : B) (x : HasCarriedOut W statements report board)
+    (parts : AreParts (entries x.transcript) (W.taken board)) where
   is_report : IsReport x.transcript parts.moments report
   is_report = record {
     history_is = x.history_is;
@@ -37,13 +36,13 @@ module _ {B : Type 0} (S : B → List Entry → Type 0) (alone : Bool) (taken : 
       → (members : List Member) × IsLawfulBy statements report members
   lawful_by law =
       let j = join x.transcript parts.moments parts.is_of in
-      (j.0, law alone statements x.transcript parts.moments j.0 report x.is_transcript j.1 parts.is_of is_report)
+      (j.0, law W.alone statements x.transcript parts.moments j.0 report x.is_transcript j.1 parts.is_of is_report)
 
 -- and on one thread it is the report of rounds
-pub serial_by : {B : Type 0} (S : B → List Entry → Type 0) (taken : B → List (List Event)) (statements : List Statement) (report : Report) (board : B)
-    (x : HasCarriedOut S true taken statements report board) → AreParts (entries x.transcript) (taken board) → AreOfRounds (entries x.transcript) (taken board)
+pub serial_by : {B : Type 0} (W : BoardWords B) (statements : List Statement) (report : Report) (board : B) (x : HasCarriedOut W statements report board) → W.alone ≡ true
+    → AreParts (entries x.transcript) (W.taken board) → AreOfRounds (entries x.transcript) (W.taken board)
     → ((statements : List Statement) (t : List Item) (m : List Moment) (report : Report) → IsTranscript true statements t → AreOfRounds (entries t) (taken_in report)
     → IsReport t m report → Serial statements report) → Serial statements report
-serial_by S taken statements report board x parts rounds law =
-    law statements x.transcript parts.moments report x.is_transcript (subst (AreOfRounds (entries x.transcript)) (sym x.logs_are) rounds)
-    (is_report S true taken statements report board x parts)
+serial_by W statements report board x alone parts rounds law =
+    law statements x.transcript parts.moments report (subst (λ one. IsTranscript one statements x.transcript) alone x.is_transcript)
+    (subst (AreOfRounds (entries x.transcript)) (sym x.logs_are) rounds) (is_report W statements report board x parts)

@@ -12,7 +12,7 @@ use change_board::Board;
 use change_script::Report;
 use config_graph::NoMemory;
 use headline_laws::joined_members_make_a_report_lawful;
-use script_runner::run_statements;
+use script_runner::{NoOne, run_statements};
 use script_steps::{Start, Step};
 use serial_laws::reports_are_those_of_rounds;
 use std::alloc::Global;
@@ -38,7 +38,7 @@ pub fn run_in_rounds<N: Nodes + Drop>(
 {
     joined_members_make_a_report_lawful();
     reports_are_those_of_rounds();
-    let (report, board) = run_statements(alloc, board, start, steps)?;
+    let (report, board, _listener) = run_statements(alloc, board, start, steps, NoOne)?;
     board.close_down();
     Ok(report)
 }

@@ -13,7 +13,7 @@ make-requires-clause-may g c =
 pub returns-clause-board : goal.returns-clause-board
 returns-clause-board g c =
     let q = c.requires.may in
-    does_make g.B.Board.stands_for c.args.board.now c.make.new.self c.args.slot c.args.node c.args.from
+    does_make g.B.Board c.args.board.now c.make.new.self c.args.slot c.args.node c.args.from
     (λ r s. next_slot q.0 c.args.slot c.args.node c.args.from q.2
     ∙ ap (λ (d : Configuration). length d.slots) (g.met.B.Board.one_configuration c.args.board.now q.0 r q.1 s))
     c.make.ensures.board

@@ -5,10 +5,10 @@ use Rattle.change_engine.proofs.finishing.finish.Goals as goal
 
 pub returns-clause-ok : goal.returns-clause-ok
 returns-clause-ok g c =
-    finished g.B.Board.stands_for c.args.board.now c.make_scans.new.board c.args.history.now.items c.push.new.self.items c.args.n c.in_ok-rounds.rounds g.B.Board.alone
+    finished g.B.Board c.args.board.now c.make_scans.new.board c.args.history.now.items c.push.new.self.items c.args.n c.in_ok-rounds.rounds
     c.in_ok-rounds.ensures.ok c.in_ok-push.ensures.items
 
 pub returns-in_err-push-clause-err : goal.returns-in_err-push-clause-err
 returns-in_err-push-clause-err g c =
     let x = c.in_ok-rounds.ensures.ok in
-    if_err (saw_alone g.B.Board.stands_for g.B.Board.broke_off c.args.board.now c.make_scans.new.board _ (all_quiet x.scans) x.adds) c.from_residual-in_err-push.result
+    if_err (saw_alone g.B.Board c.args.board.now c.make_scans.new.board _ (all_quiet x.scans) x.adds) c.from_residual-in_err-push.result

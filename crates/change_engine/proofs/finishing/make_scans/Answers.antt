@@ -20,43 +20,43 @@ loop-made-init g c = record {
 
 pub loop-made-preserved : goal.loop-made-preserved
 loop-made-preserved g c =
-    let S = g.B.Board.stands_for in
+    let W = g.B.Board in
     let inv = c.loop-made.invariant in
     let a = c.args.board.now in
     let b = c.loop-made.board in
     let d = c.scan.new.self in
     let s = c.in_ok-seen.seen in
     let x = c.in_ok-seen.ensures.ok in
-    let w = seen_by S g.B.Board.alone b d s x in
+    let w = seen_by W b d s x in
     record {
       room = c.in_ok-seen.ensures.room ∙ inv.room;
       scans = inv.scans ++ w ∷ [];
       all_scans = length-append inv.scans (w ∷ []) ∙ ap (λ k. k + 1) inv.all_scans;
-      are_scans = scans_are S g.B.Board.alone a b d inv.scans s x inv.adds inv.are_scans;
+      are_scans = scans_are W a b d inv.scans s x inv.adds inv.are_scans;
       go_on = all_push (GoesOn g.B.Board.alone) inv.scans w inv.go_on (ap (λ alone. ends_finish alone s) (sym c.is_alone-alone.ensures) ∙ sym c.if-ends_finish.ensures);
       rounds_are = ap (λ k. k + c.count_of-rounds.result) inv.rounds_are ∙ ap (λ k. rounds_in inv.scans + k) c.count_of-rounds.ensures.value ∙ sym (rounds_pushed inv.scans w);
       few = omega (arith, inv.few, c.count_of-rounds.ensures.few);
-      adds = scans_add S g.B.Board.alone a b d inv.scans s x inv.adds;
+      adds = scans_add W a b d inv.scans s x inv.adds;
     }
 
 pub returns-then-ends_finish-clause-ok : goal.returns-then-ends_finish-clause-ok
 returns-then-ends_finish-clause-ok g c =
-    let S = g.B.Board.stands_for in
+    let W = g.B.Board in
     let inv = c.loop-made.invariant in
     let a = c.args.board.now in
     let b = c.loop-made.board in
     let d = c.scan.new.self in
     let s = c.in_ok-seen.seen in
     let x = c.in_ok-seen.ensures.ok in
-    let w = seen_by S g.B.Board.alone b d s x in
+    let w = seen_by W b d s x in
     let long : length (inv.scans ++ w ∷ []) ≡ c.loop-made._made + 1 = length-append inv.scans (w ∷ []) ∙ ap (λ k. k + 1) inv.all_scans in
     record {
       scans = inv.scans ++ w ∷ [];
       few = omega (arith, long, c.loop-made-test);
-      are_scans = scans_are S g.B.Board.alone a b d inv.scans s x inv.adds inv.are_scans;
+      are_scans = scans_are W a b d inv.scans s x inv.adds inv.are_scans;
       rounds_are = ap (λ k. k + c.count_of-rounds.result) inv.rounds_are ∙ ap (λ k. rounds_in inv.scans + k) c.count_of-rounds.ensures.value ∙ sym (rounds_pushed inv.scans w);
       ends = inl (record { before = inv.scans; final = w; parts = refl; go_on = inv.go_on; ends = ap (λ alone. ends_finish alone s) (sym c.is_alone-alone.ensures) ∙ sym c.if-ends_finish.ensures });
-      adds = scans_add S g.B.Board.alone a b d inv.scans s x inv.adds;
+      adds = scans_add W a b d inv.scans s x inv.adds;
     }
 
 pub returns-clause-ok : goal.returns-clause-ok
@@ -74,7 +74,6 @@ returns-clause-ok g c =
 
 pub returns-in_err-seen-clause-err : goal.returns-in_err-seen-clause-err
 returns-in_err-seen-clause-err g c =
-    let S = g.B.Board.stands_for in
-    let K = g.B.Board.broke_off in
+    let W = g.B.Board in
     let inv = c.loop-made.invariant in
-    if_err (broke_behind S K c.args.board.now c.loop-made.board c.scan.new.self _ (all_quiet inv.scans) inv.adds c.in_err-seen.ensures.err) c.from_residual.result
+    if_err (broke_behind W c.args.board.now c.loop-made.board c.scan.new.self _ (all_quiet inv.scans) inv.adds c.in_err-seen.ensures.err) c.from_residual.result

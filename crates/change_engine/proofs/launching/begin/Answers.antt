@@ -12,7 +12,7 @@ carry_out-requires-clause-room g c =
 
 pub returns-clause-begins : goal.returns-clause-begins
 returns-clause-begins g c =
-    began g.B.Board.stands_for c.args.board.now c.reserve.new.self c.carry_out.new.board c.in_ok-history.history.items c.carry_out.new.history.items c.args.name c.args.args.items c.in_ok-events.events.items c.args.graph.now
+    began g.B.Board c.args.board.now c.reserve.new.self c.carry_out.new.board c.in_ok-history.history.items c.carry_out.new.history.items c.args.name c.args.args.items c.in_ok-events.events.items c.args.graph.now
     c.in_ok-reserve.ensures.board c.in_ok-history.ensures.items c.in_ok-events.ensures
     (c.carry_out.ensures (to.Start c.args.name c.args.args.items ∷ []) (to.Commit ∷ [])
     (c.in_ok-lines.ensures ∙ ap (λ es. (to.Start c.args.name c.args.args.items ∷ []) ++ lines_of_events es ++ to.Commit ∷ []) c.deref.ensures.value))

@@ -31,7 +31,7 @@ loop-port-preserved g c =
     record {
       room = c.close.ensures.room ∙ c.loop-port.invariant.room;
       adds = λ r s. subst (λ es. g.B.Board.stands_for c.close.new.self (r ++ es)) (sym (closes_more ps i c.loop-port-test.true))
-          (adds_both g.B.Board.stands_for c.args.board.now c.loop-port.board c.close.new.self (closes (take i ps)) _ c.loop-port.invariant.adds c.close.ensures.board r s);
+          (adds_both g.B.Board c.args.board.now c.loop-port.board c.close.new.self (closes (take i ps)) _ c.loop-port.invariant.adds c.close.ensures.board r s);
       len = omega (arith, c.put.ensures.len, c.loop-port.invariant.len);
       capacity = omega (arith, c.put.ensures.capacity, c.loop-port.invariant.capacity);
       lines = c.put.ensures.items ∙ ap (λ ls. ls ++ to.Close (get_or ps i 0) ∷ []) c.loop-port.invariant.lines

@@ -31,7 +31,7 @@ note_look-requires g c =
 
 pub loop-port-preserved : goal.loop-port-preserved
 loop-port-preserved g c =
-    let S = g.B.Board.stands_for in
+    let W = g.B.Board in
     let inv = c.loop-port.invariant in
     let ps = c.args.ports.now in
     let i = c.loop-port.port-index in
@@ -48,6 +48,6 @@ loop-port-preserved g c =
       left_capacity = omega (arith, c.note_look.ensures.left_capacity, inv.left_capacity);
       left_is = c.note_look.ensures.left ∙ ap (λ qs. qs ++ roots_by p c.look-look.result) inv.left_is
           ∙ ap (λ l. roots_of inv.found ++ roots_by p l) seen.found ∙ ap (λ qs. roots_of inv.found ++ qs) (roots_told p seen.word) ∙ sym (roots_push inv.found f);
-      grew = grew_look S c.args.board.now c.loop-port.board c.look-look.new.self c.args.history.now.items c.loop-port.history.items c.note_look.new.history.items inv.found f inv.grew seen.adds
+      grew = grew_look W c.args.board.now c.loop-port.board c.look-look.new.self c.args.history.now.items c.loop-port.history.items c.note_look.new.history.items inv.found f inv.grew seen.adds
           (c.note_look.ensures.lines ∙ ap (λ l. c.loop-port.history.items ++ lines_by p l) seen.found ∙ ap (λ ls. c.loop-port.history.items ++ ls) (lines_told p seen.word));
     }

@@ -2,7 +2,7 @@ use Rattle.std.proofs.Common.{◌≡◌, ◌≤◌, ◌+◌, map, take, vec_len}
 use Rattle.std.specs.Vec.{vec_capacity}
 use Rattle.std.specs.Prelude.{List}
 use Rattle.change_board.specs.Scans.{Found, ports_of}
-use Rattle.change_engine.specs.Growing.{Grew}
+use Rattle.change_engine.specs.Growing.{Grew, telling}
 use Rattle.change_engine.specs.Passivating.{look_item, roots_of}
 use Rattle.change_engine.proofs.passivating.look_at.Given as goal
 
@@ -16,5 +16,5 @@ invariant-loop-port g l = record {
   capacity : vec_capacity l.initial.history ≤ vec_capacity l.history;
   left_capacity : vec_capacity l.initial.left ≤ vec_capacity l.left;
   left_is : l.left.items ≡ roots_of found;
-  grew : Grew g.B.Board.stands_for l.initial.board l.board l.initial.history.items l.history.items (map look_item found);
+  grew : Grew g.B.Board (telling l.initial.board l.initial.history.items) (telling l.board l.history.items) (map look_item found);
 }

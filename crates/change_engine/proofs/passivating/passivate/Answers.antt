@@ -39,7 +39,7 @@ make_round-requires g c =
 
 pub loop-round-init : goal.loop-round-init
 loop-round-init g c =
-    let S = g.B.Board.stands_for in
+    let W = g.B.Board in
     let w = c.look_at.ensures.passed in
     let r = c.requires.live.0 in
     let left = c.look_at.new.left.items in
@@ -53,15 +53,15 @@ loop-round-init g c =
       capacity = omega (arith, c.look_at.ensures.capacity, c.close_all.ensures.capacity);
       place = record { ports = c.requires.place.ports; left = omega (arith, c.look_at.ensures.left_capacity, c.requires.place.left) };
       left_is = w.left_is;
-      grew = begun S c.args.board.now c.close_all.new.board c.look_at.new.board c.args.history.now.items c.close_all.new.history.items c.look_at.new.history.items c.args.ports.now left
+      grew = begun W c.args.board.now c.close_all.new.board c.look_at.new.board c.args.history.now.items c.close_all.new.history.items c.look_at.new.history.items c.args.ports.now left
           c.close_all.ensures.board c.close_all.ensures.lines w;
-      here = made_still S c.close_all.new.board c.look_at.new.board c.close_all.new.history.items c.look_at.new.history.items c.args.ports.now left
+      here = made_still W c.close_all.new.board c.look_at.new.board c.close_all.new.history.items c.look_at.new.history.items c.args.ports.now left
           (r ++ closes c.args.ports.now) (c.close_all.ensures.board r c.requires.live.1) (made_behind r c.args.ports.now c.requires.live.2) w;
     }
 
 pub loop-round-preserved : goal.loop-round-preserved
 loop-round-preserved g c =
-    let S = g.B.Board.stands_for in
+    let W = g.B.Board in
     let inv = c.loop-round.invariant in
     let a = c.loop-round.board in
     let d = c.make_round.new.board in
@@ -82,8 +82,8 @@ loop-round-preserved g c =
       capacity = omega (arith, x.capacity, inv.capacity);
       place = record { ports = omega (arith, x.ports_capacity, inv.place.ports); left = omega (arith, x.left_capacity, inv.place.left) };
       left_is = y.next_is ∙ sym (left_more inv.how.first inv.how.rounds y.round);
-      grew = went_on S c.args.board.now a d c.args.history.now.items i j c.args.ports.now inv.how.first inv.how.rounds y.round inv.grew y.grew;
-      here = made_on S a d i j left.items after inv.here.0 inv.here.1 inv.here.2 y;
+      grew = went_on W c.args.board.now a d c.args.history.now.items i j c.args.ports.now inv.how.first inv.how.rounds y.round inv.grew y.grew;
+      here = made_on W a d i j left.items after inv.here.0 inv.here.1 inv.here.2 y;
     }
 
 pub returns-then-is_empty-clause-ok : goal.returns-then-is_empty-clause-ok
@@ -114,6 +114,6 @@ pub returns-in_err-make_round-clause-err : goal.returns-in_err-make_round-clause
 returns-in_err-make_round-clause-err g c =
     let inv = c.loop-round.invariant in
     let left = c.loop-round.waiting.left in
-    if_err (broke_in_round g.B.Board.stands_for g.B.Board.broke_off c.args.board.now c.loop-round.board c.make_round.new.board c.args.history.now.items c.loop-round.history.items
+    if_err (broke_in_round g.B.Board c.args.board.now c.loop-round.board c.make_round.new.board c.args.history.now.items c.loop-round.history.items
     c.make_round.new.history.items c.args.ports.now c.loop-round._round c.args.rounds inv.how inv.is_passivation inv.all_rounds (omega (arith, c.loop-round-test))
     (λ none_. some_left left.items (vec_len left) left.ok.0 (sym c.if-is_empty.ensures) (inv.left_is ∙ none_)) inv.grew c.in_err-make_round.ensures.err) c.from_residual.result

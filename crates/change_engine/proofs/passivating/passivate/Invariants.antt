@@ -2,7 +2,7 @@ use Rattle.std.proofs.Common.{◌≡◌, ◌≤◌, ◌+◌, ◌*◌, List, leng
 use Rattle.std.specs.Vec.{vec_capacity}
 use Rattle.gate_records.specs.Entries.{config_of}
 use Rattle.gate_records.specs.declared.entry.Entry.{Entry}
-use Rattle.change_engine.specs.Growing.{Grew}
+use Rattle.change_engine.specs.Growing.{Grew, telling}
 use Rattle.change_engine.specs.Passivating.{AreMadePorts, HasPlaceFor, IsPassivation, Passivation, left_after, passivation_items, root_ports}
 use Rattle.change_engine.proofs.passivating.passivate.Given as goal
 
@@ -17,6 +17,6 @@ invariant-loop-round g l = record {
   capacity : vec_capacity l.fn.history ≤ vec_capacity l.history;
   place : HasPlaceFor l.waiting (length l.ports);
   left_is : l.waiting.left.items ≡ left_after how.first how.rounds;
-  grew : Grew g.B.Board.stands_for l.fn.board l.board l.fn.history.items l.history.items (passivation_items l.ports how);
+  grew : Grew g.B.Board (telling l.fn.board l.fn.history.items) (telling l.board l.history.items) (passivation_items l.ports how);
   here : (r : List Entry) × g.B.Board.stands_for l.board r × AreMadePorts (config_of r) (root_ports l.waiting.left.items);
 }

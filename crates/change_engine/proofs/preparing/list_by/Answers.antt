@@ -3,12 +3,12 @@ use Rattle.std.proofs.lemmas.List.{length-map}
 use Rattle.change_law.specs.Members.{lines_of_events}
 use Rattle.change_script.specs.declared.report.HistoryLine.TheVariants as to
 use Rattle.quiesce_core.specs.declared.event.Event.TheVariants as event
-use Rattle.change_engine.specs.Layouts.{place_in}
+use Rattle.change_lists.specs.Layouts.{place_in}
 use Rattle.change_engine.specs.Passivating.{HasPlaceFor}
 use Rattle.change_engine.proofs.CommitRoom.{nodes_fit}
-use Rattle.change_engine.proofs.PlanInLemmas.{plan_in}
+use Rattle.change_lists.proofs.PlanInLaws.{plan_in}
 use Rattle.change_engine.proofs.PrepareLemmas.{ports_few}
-use Rattle.change_engine.proofs.RangeLemmas.{places_below}
+use Rattle.change_lists.proofs.RangeLaws.{places_below}
 use Rattle.change_engine.proofs.preparing.list_by.Goals as goal
 
 pub list_commit-requires-clause-few : goal.list_commit-requires-clause-few

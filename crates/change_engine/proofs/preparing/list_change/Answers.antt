@@ -3,7 +3,7 @@ use Rattle.std.specs.Prelude.{IfOk}
 use Rattle.change_plan.specs.declared.plan_data.Plan.{Plan}
 use Rattle.change_plan.specs.declared.plan_data.Shift.{Shift}
 use Rattle.change_engine.specs.Engines.{IsFor, IsPlanned}
-use Rattle.change_engine.proofs.PlanInLemmas.{moves_in, plan_in}
+use Rattle.change_lists.proofs.PlanInLaws.{moves_in, plan_in}
 use Rattle.change_engine.proofs.preparing.list_change.Goals as goal
 
 pub of-requires : goal.of-requires

@@ -22,7 +22,7 @@ look-requires g c =
 
 pub loop-port-preserved : goal.loop-port-preserved
 loop-port-preserved g c =
-    let S = g.B.Board.stands_for in
+    let W = g.B.Board in
     let inv = c.loop-port.invariant in
     let p = c.loop-port.port in
     let seen = c.look.ensures.board in
@@ -34,6 +34,6 @@ loop-port-preserved g c =
       ended_is = ap (λ n. n + c.from-ended.result) inv.ended_is
           ∙ ap (λ n. ended_in inv.looks + n) (c.from-ended.ensures ∙ c.ended_by.ensures ∙ ap ended_by seen.found ∙ ended_looked seen.word) ∙ sym (looks_pushed inv.looks f);
       bound = omega (arith, inv.bound, c.from-ended.ensures);
-      adds = subst (λ es. (r : _) → S c.args.board.now r → S c.look.new.self (r ++ es)) (sym (map-append look_entry inv.looks (f ∷ [])))
-          (adds_both S c.args.board.now c.loop-port.board c.look.new.self (map look_entry inv.looks) _ inv.adds seen.adds);
+      adds = subst (λ es. (r : _) → W.stands_for c.args.board.now r → W.stands_for c.look.new.self (r ++ es)) (sym (map-append look_entry inv.looks (f ∷ [])))
+          (adds_both W c.args.board.now c.loop-port.board c.look.new.self (map look_entry inv.looks) _ inv.adds seen.adds);
     }

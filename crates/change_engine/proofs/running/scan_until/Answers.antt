@@ -21,27 +21,26 @@ loop-scan-init g c = record {
 
 pub loop-scan-preserved : goal.loop-scan-preserved
 loop-scan-preserved g c =
-    let S = g.B.Board.stands_for in
-    let alone = g.B.Board.alone in
+    let W = g.B.Board in
     let inv = c.loop-scan.invariant in
     let a = c.args.board.now in
     let b = c.loop-scan.board in
     let d = c.scan.new.self in
     let s = c.in_ok-seen.seen in
     let x = c.in_ok-seen.ensures.ok in
-    let w = seen_by S g.B.Board.alone b d s x in
+    let w = seen_by W b d s x in
     record {
       room = c.in_ok-seen.ensures.room ∙ inv.room;
       scans = inv.scans ++ w ∷ [];
-      are_scans = scans_are S g.B.Board.alone a b d inv.scans s x inv.adds inv.are_scans;
-      go_on = (each_pushed (RunsOn alone c.args.k c.args.shown) inv.scans w).1 (
+      are_scans = scans_are W a b d inv.scans s x inv.adds inv.are_scans;
+      go_on = (each_pushed (RunsOn W.alone c.args.k c.args.shown) inv.scans w).1 (
         inv.go_on,
-        run_on alone c.args.k c.args.shown c.loop-scan.ended inv.scans inv.ended_is
+        run_on W.alone c.args.k c.args.shown c.loop-scan.ended inv.scans inv.ended_is
             (omega (arith, c.from.ensures, c.if-from-ended.false)) inv.not_out,
       );
-      not_out = out_pushed alone inv.scans w ∙ ap (λ one. ends_run one s) (sym c.is_alone-alone.ensures) ∙ sym c.ends_run.ensures ∙ c.if-ends_run.false;
+      not_out = out_pushed W.alone inv.scans w ∙ ap (λ one. ends_run one s) (sym c.is_alone-alone.ensures) ∙ sym c.ends_run.ensures ∙ c.if-ends_run.false;
       ended_is = c.saturating_sub-ended.ensures ∙ sym (since_pushed c.args.shown inv.scans w);
-      adds = scans_add S g.B.Board.alone a b d inv.scans s x inv.adds;
+      adds = scans_add W a b d inv.scans s x inv.adds;
     }
 
 pub returns-then-from-ended-clause-ok : goal.returns-then-from-ended-clause-ok
@@ -59,37 +58,35 @@ returns-then-from-ended-clause-ok g c =
 
 pub returns-then-ends_run-clause-ok : goal.returns-then-ends_run-clause-ok
 returns-then-ends_run-clause-ok g c =
-    let S = g.B.Board.stands_for in
-    let alone = g.B.Board.alone in
+    let W = g.B.Board in
     let inv = c.loop-scan.invariant in
     let a = c.args.board.now in
     let b = c.loop-scan.board in
     let d = c.scan.new.self in
     let s = c.in_ok-seen.seen in
     let x = c.in_ok-seen.ensures.ok in
-    let w = seen_by S g.B.Board.alone b d s x in
+    let w = seen_by W b d s x in
     record {
       scans = inv.scans ++ w ∷ [];
-      are_scans = scans_are S g.B.Board.alone a b d inv.scans s x inv.adds inv.are_scans;
-      go_on = (each_pushed (RunsOn alone c.args.k c.args.shown) inv.scans w).1 (
+      are_scans = scans_are W a b d inv.scans s x inv.adds inv.are_scans;
+      go_on = (each_pushed (RunsOn W.alone c.args.k c.args.shown) inv.scans w).1 (
         inv.go_on,
-        run_on alone c.args.k c.args.shown c.loop-scan.ended inv.scans inv.ended_is
+        run_on W.alone c.args.k c.args.shown c.loop-scan.ended inv.scans inv.ended_is
             (omega (arith, c.from.ensures, c.if-from-ended.false)) inv.not_out,
       );
-      ends = run_out alone c.args.k c.args.shown (inv.scans ++ w ∷ [])
-          (out_pushed alone inv.scans w ∙ ap (λ one. ends_run one s) (sym c.is_alone-alone.ensures) ∙ sym c.ends_run.ensures ∙ c.if-ends_run.true);
+      ends = run_out W.alone c.args.k c.args.shown (inv.scans ++ w ∷ [])
+          (out_pushed W.alone inv.scans w ∙ ap (λ one. ends_run one s) (sym c.is_alone-alone.ensures) ∙ sym c.ends_run.ensures ∙ c.if-ends_run.true);
       ended_is = c.saturating_sub-ended.ensures ∙ sym (since_pushed c.args.shown inv.scans w);
-      adds = scans_add S g.B.Board.alone a b d inv.scans s x inv.adds;
+      adds = scans_add W a b d inv.scans s x inv.adds;
     }
 
 pub returns-in_err-seen-clause-err : goal.returns-in_err-seen-clause-err
 returns-in_err-seen-clause-err g c =
-    let S = g.B.Board.stands_for in
-    let K = g.B.Board.broke_off in
+    let W = g.B.Board in
     let inv = c.loop-scan.invariant in
-    if_err (broke_behind S K c.args.board.now c.loop-scan.board c.scan.new.self _ (all_quiet inv.scans) inv.adds c.in_err-seen.ensures.err) c.from_residual.result
+    if_err (broke_behind W c.args.board.now c.loop-scan.board c.scan.new.self _ (all_quiet inv.scans) inv.adds c.in_err-seen.ensures.err) c.from_residual.result
 
 pub returns-clause-err : goal.returns-clause-err
 returns-clause-err g c =
     let inv = c.loop-scan.invariant in
-    saw_alone g.B.Board.stands_for g.B.Board.broke_off c.args.board.now c.loop-scan.board _ (all_quiet inv.scans) inv.adds
+    saw_alone g.B.Board c.args.board.now c.loop-scan.board _ (all_quiet inv.scans) inv.adds

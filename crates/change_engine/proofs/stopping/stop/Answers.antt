@@ -12,6 +12,7 @@ use Rattle.change_engine.proofs.Breaking.{broke_in_stop, on_err}
 use Rattle.change_engine.proofs.EngineLemmas.{in_ok}
 use Rattle.change_engine.proofs.Growing.{grew_none, if_err}
 use Rattle.change_engine.proofs.Quieting.{all_live, all_noted, stop_grew}
+use Rattle.change_engine.specs.Growing.{telling}
 use Rattle.change_engine.proofs.stopping.stop.Goals as goal
 
 nothing_left : {A : Type 0} (xs : List A) (n : ℕ) → n ≡ length xs → (n == 0) ≡ true → xs ≡ []
@@ -44,7 +45,7 @@ collect-requires g c =
 
 pub returns-then-is_empty-clause-ok : goal.returns-then-is_empty-clause-ok
 returns-then-is_empty-clause-ok g c =
-    let S = g.B.Board.stands_for in
+    let W = g.B.Board in
     let a = c.args.board.now in
     let b = c.passivate.new.board in
     let d = c.collect.new.self in
@@ -56,13 +57,13 @@ returns-then-is_empty-clause-ok g c =
     let w = c.in_ok-passivate.ensures.ok in
     let left = c.passivate.new.waiting.left in
     let none_ = sym w.left_is ∙ nothing_left left.items (vec_len left) left.ok.0 (sym c.if-is_empty.ensures) in
-    in_ok (λ x. Collects S b d taken x) (λ x. Stops S a d taken h j ports (2 ^ 64 - 1) x)
+    in_ok (λ x. Collects W.stands_for b d taken x) (λ x. Stops W (telling a h) (telling d j) ports (2 ^ 64 - 1) x)
     (λ x collected. record {
       how = w.how;
       is_passivation = w.is_passivation;
       none_left = none_;
       quiet = b;
-      grew = stop_grew S a b h i j ports w.how (c.put.ensures.items ∙ ap (λ ls. ls ++ to.Stop ∷ []) c.reserve.ensures.items) w.grew;
+      grew = stop_grew W a b h i j ports w.how (c.put.ensures.items ∙ ap (λ ls. ls ++ to.Stop ∷ []) c.reserve.ensures.items) w.grew;
       collected = collected;
     })
     c.collect.result c.collect.ensures.ok
@@ -71,7 +72,7 @@ pub returns-then-is_empty-clause-closes_alone : goal.returns-then-is_empty-claus
 returns-then-is_empty-clause-closes_alone g c =
     let w = c.in_ok-passivate.ensures.ok in
     let began = c.put.ensures.items ∙ ap (λ ls. ls ++ to.Stop ∷ []) c.reserve.ensures.items in
-    on_err (λ broke. inr (broke_in_stop g.B.Board.stands_for g.B.Board.broke_off c.args.board.now c.collect.new.self c.args.history.now.items c.put.new.list.items c.passivate.new.history.items
+    on_err (λ broke. inr (broke_in_stop g.B.Board c.args.board.now c.collect.new.self c.args.history.now.items c.put.new.list.items c.passivate.new.history.items
     c.args.ports.now (2 ^ 64 - 1) w.how w.is_passivation began w.grew.adds_lines
     (λ r s. inr (broke (r ++ entries (passivation_items c.args.ports.now w.how)) (w.grew.adds r s))))) c.collect.result c.collect.ensures.err
 
@@ -79,20 +80,20 @@ pub returns-clause-closes_alone : goal.returns-clause-closes_alone
 returns-clause-closes_alone g c =
     let w = c.in_ok-passivate.ensures.ok in
     let began = c.put.ensures.items ∙ ap (λ ls. ls ++ to.Stop ∷ []) c.reserve.ensures.items in
-    inr (broke_in_stop g.B.Board.stands_for g.B.Board.broke_off c.args.board.now c.passivate.new.board c.args.history.now.items c.put.new.list.items c.passivate.new.history.items
+    inr (broke_in_stop g.B.Board c.args.board.now c.passivate.new.board c.args.history.now.items c.put.new.list.items c.passivate.new.history.items
     c.args.ports.now (2 ^ 64 - 1) w.how w.is_passivation began w.grew.adds_lines (λ r s. inl (w.grew.adds r s)))
 
 pub returns-in_err-waiting-clause-closes_alone : goal.returns-in_err-waiting-clause-closes_alone
 returns-in_err-waiting-clause-closes_alone g c =
-    if_err (inl (grew_none g.B.Board.stands_for c.args.board.now c.args.history.now.items c.args.history.now.items refl)) c.from_residual.result
+    if_err (inl (grew_none g.B.Board c.args.board.now c.args.history.now.items c.args.history.now.items refl)) c.from_residual.result
 
 pub returns-in_err-reserve-clause-closes_alone : goal.returns-in_err-reserve-clause-closes_alone
 returns-in_err-reserve-clause-closes_alone g c =
-    if_err (inl (grew_none g.B.Board.stands_for c.args.board.now c.args.history.now.items c.reserve.new.self.items c.reserve.ensures.items)) c.from_residual-in_err-reserve.result
+    if_err (inl (grew_none g.B.Board c.args.board.now c.args.history.now.items c.reserve.new.self.items c.reserve.ensures.items)) c.from_residual-in_err-reserve.result
 
 pub returns-in_err-passivate-clause-closes_alone : goal.returns-in_err-passivate-clause-closes_alone
 returns-in_err-passivate-clause-closes_alone g c =
     let x = c.in_err-passivate.ensures.err in
     let began = c.put.ensures.items ∙ ap (λ ls. ls ++ to.Stop ∷ []) c.reserve.ensures.items in
-    if_err (inr (broke_in_stop g.B.Board.stands_for g.B.Board.broke_off c.args.board.now c.passivate.new.board c.args.history.now.items c.put.new.list.items c.passivate.new.history.items
+    if_err (inr (broke_in_stop g.B.Board c.args.board.now c.passivate.new.board c.args.history.now.items c.put.new.list.items c.passivate.new.history.items
     c.args.ports.now (2 ^ 64 - 1) x.how x.is_passivation began x.told_all (λ r s. inr (x.broke r s)))) c.from_residual-in_err-passivate.result

@@ -6,5 +6,5 @@ abbrev pub invariant-loop-step : goal.invariant-loop-step
 invariant-loop-step g l =
     (goal.iterator-loop-step g).can_next l.step-iterator ×
     (goal.iterator-loop-step g).is_finite l.step-iterator ×
-    Progress g.B.Board.stands_for g.B.Board.alone l.fn.start l.yielded l.step-iterator.rest.items l.engine l.given_up ×
+    Progress g.B.Board g.L.Listener.heard l.fn.start l.yielded l.step-iterator.rest.items l.engine l.listener l.given_up ×
     (l.yielded ++ l.step-iterator.rest.items ≡ l.fn.steps.items)

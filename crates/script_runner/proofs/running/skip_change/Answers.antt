@@ -5,7 +5,7 @@ use Rattle.script_runner.proofs.running.skip_change.Goals as goal
 
 pub returns : goal.returns
 returns g c = λ t idle given.
-    let S = g.B.Board.stands_for in
+    let W = g.B.Board in
     let e = c.args.engine.now in
     let f = c.skip.new.self in
-    skipped S g.B.Board.alone e f c.args.change (subst (λ xs. HasSkipped S e f c.args.change.name xs) c.into_vec.ensures c.in_ok-skip.ensures.ok) t idle given
+    skipped W e f c.args.change (subst (λ xs. HasSkipped W e f c.args.change.name xs) c.into_vec.ensures c.in_ok-skip.ensures.ok) t idle given

@@ -8,19 +8,19 @@ pub carry_out-requires-clause-may : goal.carry_out-requires-clause-may
 carry_out-requires-clause-may g c =
     let e = c.args.self.now in
     let w = c.requires.pending in
-    (entries w.0, w.3.is_open.tells.board, abandon_may g.B.Board.stands_for g.B.Board.room g.met.B.Board.is_of_run e w.0 w.1 c.args.plan w.2 c.in-Some.change w.3.is_open (sym c.take.ensures.value ∙ c.in-Some.is))
+    (entries w.0, w.3.is_open.tells.board, abandon_may g.B.Board g.met.B.Board.is_of_run e w.0 w.1 c.args.plan w.2 c.in-Some.change w.3.is_open (sym c.take.ensures.value ∙ c.in-Some.is))
 
 pub carry_out-requires-clause-room : goal.carry_out-requires-clause-room
 carry_out-requires-clause-room g c =
     let w = c.requires.pending in
-    abandon_fits g.B.Board.stands_for g.B.Board.room g.met.B.Board.is_of_run c.args.self.now w.0 w.1 c.args.plan w.2 c.in-Some.change (g.B.Board.room c.args.self.now.board) w.3.is_open (sym c.take.ensures.value ∙ c.in-Some.is)
+    abandon_fits g.B.Board g.met.B.Board.is_of_run c.args.self.now w.0 w.1 c.args.plan w.2 c.in-Some.change (g.B.Board.room c.args.self.now.board) w.3.is_open (sym c.take.ensures.value ∙ c.in-Some.is)
 
 pub returns : goal.returns
 returns g c =
     let w = c.requires.pending in
     let e = c.args.self.now in
     let open_ : e.change ≡ Some c.in-Some.change = sym c.take.ensures.value ∙ c.in-Some.is in
-    abandoned g.B.Board.stands_for g.B.Board.room g.met.B.Board.is_of_run c.args.self.now c.carry_out.new.board c.carry_out.new.history c.take.new.self c.in-Some.change c.args.plan
+    abandoned g.B.Board g.met.B.Board.is_of_run c.args.self.now c.carry_out.new.board c.carry_out.new.history c.take.new.self c.in-Some.change c.args.plan
     open_ c.take.ensures.after
     (c.carry_out.ensures [] (to.Abandon ∷ [])
-    (reopen_lines_for g.B.Board.stands_for g.B.Board.room g.met.B.Board.is_of_run e w.0 w.1 c.args.plan w.2 c.in-Some.change w.3.is_open open_))
+    (reopen_lines_for g.B.Board g.met.B.Board.is_of_run e w.0 w.1 c.args.plan w.2 c.in-Some.change w.3.is_open open_))

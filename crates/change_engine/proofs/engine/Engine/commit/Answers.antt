@@ -13,7 +13,7 @@ carry_out-requires-clause-may g c =
     let runs = g.met.B.Board.is_of_run in (
       entries t,
       m.is_open.tells.board,
-      commit_may g.B.Board.stands_for g.B.Board.room runs e t w.1 c.args.plan c.args.new c.in-Some.change m (sym c.take.ensures.value ∙ c.in-Some.is)
+      commit_may g.B.Board runs e t w.1 c.args.plan c.args.new c.in-Some.change m (sym c.take.ensures.value ∙ c.in-Some.is)
           (c.plans_may_be_carried_out.ensures.may e.graph c.args.new w.1 c.args.plan (entries t) (runs e.board (entries t) m.is_open.tells.board) m.may_),
     )
 
@@ -22,7 +22,7 @@ returns g c =
     let w = c.requires.passive in
     let e = c.args.self.now in
     let open_ : e.change ≡ Some c.in-Some.change = sym c.take.ensures.value ∙ c.in-Some.is in
-    committed g.B.Board.stands_for g.B.Board.room g.met.B.Board.is_of_run c.args.self.now c.carry_out.new.board c.carry_out.new.history c.take.new.self c.in-Some.change c.args.plan c.args.new
+    committed g.B.Board g.met.B.Board.is_of_run c.args.self.now c.carry_out.new.board c.carry_out.new.history c.take.new.self c.in-Some.change c.args.plan c.args.new
     open_ c.take.ensures.after c.plans_may_be_carried_out.ensures.graph
     (c.carry_out.ensures [] (to.Commit ∷ [])
-    (lines_for g.B.Board.stands_for g.B.Board.room g.met.B.Board.is_of_run e w.0 w.1 c.args.plan c.args.new c.in-Some.change w.2.is_open open_))
+    (lines_for g.B.Board g.met.B.Board.is_of_run e w.0 w.1 c.args.plan c.args.new c.in-Some.change w.2.is_open open_))

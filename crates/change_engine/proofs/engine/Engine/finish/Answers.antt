@@ -4,16 +4,16 @@ use Rattle.change_engine.specs.Finishing.{Finished}
 use Rattle.change_engine.specs.declared.engine.Engine.{Engine}
 use Rattle.change_engine.proofs.Breaking.{on_both_errs}
 use Rattle.change_engine.proofs.EngineLemmas.{has_finished, in_ok}
+use Rattle.change_engine.specs.Growing.{telling}
 use Rattle.change_engine.proofs.engine.Engine.finish.Goals as goal
 
 pub returns-clause-ok : goal.returns-clause-ok
 returns-clause-ok g c =
-    let S = g.B.Board.stands_for in
-    let alone = g.B.Board.alone in
+    let W = g.B.Board in
     let e = c.args.self.now in
     let f : Engine g.row.B.Denot = record { board = c.finish.new.board; history = c.finish.new.history; graph = e.graph; layout = e.layout; change = e.change } in
-    in_ok (λ rounds. Finished S alone e.board f.board e.history.items f.history.items c.args.n rounds) (λ rounds. HasFinished S alone e f c.args.n rounds)
-    (λ rounds x. has_finished S alone e f c.args.n rounds refl refl refl x) c.finish.result c.finish.ensures.ok
+    in_ok (λ rounds. Finished W (telling e.board e.history.items) (telling f.board f.history.items) c.args.n rounds) (λ rounds. HasFinished W e f c.args.n rounds)
+    (λ rounds x. has_finished W e f c.args.n rounds refl refl refl x) c.finish.result c.finish.ensures.ok
 
 pub returns-clause-untold : goal.returns-clause-untold
 returns-clause-untold g c =

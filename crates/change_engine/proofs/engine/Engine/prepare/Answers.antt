@@ -26,10 +26,10 @@ list_change-requires g c =
 
 pub returns-in_err-reserve-clause-err : goal.returns-in_err-reserve-clause-err
 returns-in_err-reserve-clause-err g c =
-    let S = g.B.Board.stands_for in
+    let W = g.B.Board in
     let e = c.args.self.now in
     let f : Engine g.row.B.Denot = record { board = e.board; history = c.reserve.new.self; graph = e.graph; layout = e.layout; change = e.change } in
-    if_err (idle_still S e f (λ r s. subst (S e.board) (sym (append-nil r)) s) c.reserve.ensures.items refl refl refl) c.from_residual-in_err-reserve.result
+    if_err (idle_still W e f (λ r s. subst (W.stands_for e.board) (sym (append-nil r)) s) c.reserve.ensures.items refl refl refl) c.from_residual-in_err-reserve.result
 
 pub overflow_cast-items : goal.overflow_cast-items
 overflow_cast-items g c =
@@ -49,10 +49,10 @@ reserve-requires-2 g c =
 
 pub returns-in_err-reserve-2-clause-err : goal.returns-in_err-reserve-2-clause-err
 returns-in_err-reserve-2-clause-err g c =
-    let S = g.B.Board.stands_for in
+    let W = g.B.Board in
     let e = c.args.self.now in
     let f : Engine g.row.B.Denot = record { board = c.reserve-2.new.self; history = c.reserve.new.self; graph = e.graph; layout = e.layout; change = e.change } in
-    if_err (idle_still S e f c.reserve-2.ensures.board c.reserve.ensures.items refl refl refl) c.from_residual-in_err-reserve-2.result
+    if_err (idle_still W e f c.reserve-2.ensures.board c.reserve.ensures.items refl refl refl) c.from_residual-in_err-reserve-2.result
 
 pub put-requires : goal.put-requires
 put-requires g c =
@@ -63,20 +63,19 @@ put-requires g c =
 
 pub returns-clause-ok : goal.returns-clause-ok
 returns-clause-ok g c =
-    let S = g.B.Board.stands_for in
-    let R = g.B.Board.room in
+    let W = g.B.Board in
     let e = c.args.self.now in
     let v = c.put.new.list in
     let f : Engine g.row.B.Denot = record { board = c.reserve-2.new.self; history = v; graph = e.graph; layout = e.layout; change = Some c.in_ok-change.change } in
     let room = c.in_ok-reserve.ensures.ok in
     let small = c.reserve.new.self.small in
     let lines = c.line_count.ensures (omega (arith, room, small)) in
-    has_prepared S R g.met.B.Board.is_of_run e f c.args.name c.args.args.items c.args.plan.now c.args.new.now c.in_ok-change.change
+    has_prepared W g.met.B.Board.is_of_run e f c.args.name c.args.args.items c.args.plan.now c.args.new.now c.in_ok-change.change
     c.reserve-2.ensures.board
     (c.put.ensures.items ∙ ap (λ ls. ls ++ to.Change c.args.name c.of.result ∷ []) c.reserve.ensures.items ∙ ap (λ xs. e.history.items ++ to.Change c.args.name xs ∷ []) c.of.ensures)
     refl refl refl c.in_ok-change.ensures.for_plan
-    (λ t h. c.commits_have_room.ensures.room e.graph c.args.new.now c.args.plan.now (config_of (entries t)) (R c.reserve-2.new.self)
-    (subst (λ js. length js ≤ (R c.reserve-2.new.self).nodes) c.items.ensures c.in_ok-reserve-2.ensures.nodes)
+    (λ t h. c.commits_have_room.ensures.room e.graph c.args.new.now c.args.plan.now (config_of (entries t)) (W.room c.reserve-2.new.self)
+    (subst (λ js. length js ≤ (W.room c.reserve-2.new.self).nodes) c.items.ensures c.in_ok-reserve-2.ensures.nodes)
     (c.in_ok-reserve-2.ensures.sources (entries t) h.tells.board))
     (record {
       commit_lines = omega (arith, room, lines, c.put.ensures.len, c.put.ensures.capacity);

@@ -25,7 +25,7 @@ pub returns-clause-ok : goal.returns-clause-ok
 returns-clause-ok g c =
     let e = c.args.self.now in
     let f : Engine g.row.B.Denot = record { board = c.scan_until.new.board; history = c.push.new.self; graph = e.graph; layout = e.layout; change = e.change } in
-    has_run g.B.Board.stands_for g.B.Board.alone e f c.count_ended-shown.new.board c.port_count.result c.count_ended-shown.result c.args.k c.in_ok-ended.ended refl refl refl
+    has_run g.B.Board e f c.count_ended-shown.new.board c.port_count.result c.count_ended-shown.result c.args.k c.in_ok-ended.ended refl refl refl
     (λ t h. c.port_count.ensures ∙ as_many e.layout e.graph (config_of (entries t)) h.tells.layout)
     c.count_ended-shown.ensures.counts c.in_ok-ended.ensures.ok c.in_ok-push.ensures.items
 
@@ -33,7 +33,7 @@ pub returns-in_err-ended-clause-untold : goal.returns-in_err-ended-clause-untold
 returns-in_err-ended-clause-untold g c =
     let x = c.count_ended-shown.ensures.counts in
     if_err (record {
-      broke = saw_before g.B.Board.stands_for g.B.Board.broke_off c.args.self.now.board c.count_ended-shown.new.board c.scan_until.new.board _ (looks_quiet x.looks) x.adds c.in_err-ended.ensures.err;
+      broke = saw_before g.B.Board c.args.self.now.board c.count_ended-shown.new.board c.scan_until.new.board _ (looks_quiet x.looks) x.adds c.in_err-ended.ensures.err;
       history_is = refl;
       layout_is = refl;
       change_is = refl;
@@ -41,13 +41,12 @@ returns-in_err-ended-clause-untold g c =
 
 pub returns-in_err-push-clause-untold : goal.returns-in_err-push-clause-untold
 returns-in_err-push-clause-untold g c =
-    let S = g.B.Board.stands_for in
-    let K = g.B.Board.broke_off in
+    let W = g.B.Board in
     let x = c.count_ended-shown.ensures.counts in
     let y = c.in_ok-ended.ensures.ok in
     if_err (record {
-      broke = saw_before S K c.args.self.now.board c.count_ended-shown.new.board c.scan_until.new.board _ (looks_quiet x.looks) x.adds
-          (saw_alone S K c.count_ended-shown.new.board c.scan_until.new.board _ (all_quiet y.scans) y.adds);
+      broke = saw_before W c.args.self.now.board c.count_ended-shown.new.board c.scan_until.new.board _ (looks_quiet x.looks) x.adds
+          (saw_alone W c.count_ended-shown.new.board c.scan_until.new.board _ (all_quiet y.scans) y.adds);
       history_is = c.in_err-push.ensures.items;
       layout_is = refl;
       change_is = refl;

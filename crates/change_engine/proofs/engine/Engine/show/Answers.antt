@@ -8,7 +8,7 @@ pub returns-clause-ok : goal.returns-clause-ok
 returns-clause-ok g c =
     let e = c.args.self.now in
     let f : Engine g.row.B.Denot = record { board = e.board; history = c.push.new.self; graph = e.graph; layout = e.layout; change = e.change } in
-    continues g.B.Board.stands_for e f _
-    (said_alone g.B.Board.stands_for e.board e.history.items c.push.new.self.items (to.Show e.graph ∷ [])
+    continues g.B.Board e f _
+    (said_alone g.B.Board e.board e.history.items c.push.new.self.items (to.Show e.graph ∷ [])
     (c.in_ok-push.ensures.items ∙ ap (λ h. e.history.items ++ to.Show h ∷ []) c.in_ok-graph.ensures))
     refl refl refl refl

@@ -9,10 +9,10 @@ use Rattle.change_engine.proofs.engine.Engine.skip.Goals as goal
 
 pub returns-in_err-reserve-clause-err : goal.returns-in_err-reserve-clause-err
 returns-in_err-reserve-clause-err g c =
-    let S = g.B.Board.stands_for in
+    let W = g.B.Board in
     let e = c.args.self.now in
     let f : Engine g.row.B.Denot = record { board = e.board; history = c.reserve.new.self; graph = e.graph; layout = e.layout; change = e.change } in
-    if_err (idle_still S e f (λ r s. subst (S e.board) (sym (append-nil r)) s) c.reserve.ensures.items refl refl refl) c.from_residual.result
+    if_err (idle_still W e f (λ r s. subst (W.stands_for e.board) (sym (append-nil r)) s) c.reserve.ensures.items refl refl refl) c.from_residual.result
 
 pub put-requires : goal.put-requires
 put-requires g c = record { place = omega (arith, c.in_ok-reserve.ensures.ok) }
@@ -25,8 +25,8 @@ returns-clause-ok g c =
     let e = c.args.self.now in
     let f : Engine g.row.B.Denot = record { board = e.board; history = c.put-2.new.list; graph = e.graph; layout = e.layout; change = e.change } in
     let change = to.Change c.args.name c.args.args.items in
-    continues g.B.Board.stands_for e f _
-    (said_alone g.B.Board.stands_for e.board e.history.items c.put-2.new.list.items (change ∷ to.Skipped ∷ [])
+    continues g.B.Board e f _
+    (said_alone g.B.Board e.board e.history.items c.put-2.new.list.items (change ∷ to.Skipped ∷ [])
     (c.put-2.ensures.items ∙ ap (λ ls. ls ++ to.Skipped ∷ []) (c.put.ensures.items ∙ ap (λ ls. ls ++ to.Change c.args.name c.of.result ∷ []) c.reserve.ensures.items
     ∙ ap (λ xs. e.history.items ++ to.Change c.args.name xs ∷ []) c.of.ensures) ∙ append_assoc e.history.items (change ∷ []) (to.Skipped ∷ [])))
     refl refl refl refl

@@ -12,9 +12,9 @@ take_logs-requires-clause-few g c =
 pub take_logs-requires-clause-all : goal.take_logs-requires-clause-all
 take_logs-requires-clause-all g c =
     let i = c.requires.idle in
-    (entries i.0, i.1.tells.board, all_are_live g.B.Board.stands_for c.args.self i.0 i.1)
+    (entries i.0, i.1.tells.board, all_are_live g.B.Board c.args.self i.0 i.1)
 
 pub returns : goal.returns
 returns g c =
-    has_stopped g.B.Board.stands_for g.B.Board.taken c.args.self c.take_logs.new.board c.take_logs.new.history.items c.in_ok-given.given c.report_of.result
+    has_stopped g.B.Board c.args.self c.take_logs.new.board c.take_logs.new.history.items c.in_ok-given.given c.report_of.result
     c.in_ok-given.ensures.ok c.report_of.ensures.history c.report_of.ensures.logs c.report_of.ensures.unfinished c.report_of.ensures.status

@@ -1,7 +1,0 @@
-use Rattle.change_engine.specs.Layouts.{is_live_at}
-use Rattle.change_engine.proofs.Listing.{passed_more}
-use Rattle.change_engine.proofs.layout.Layout.live_ports.Goals as goal
-
-pub loop-port-preserved : goal.loop-port-preserved
-loop-port-preserved c =
-    passed_more (is_live_at c.args.self.now.places.items c.args.self.now.ports.items) c.loop-port.port c.loop-port.live.items c.push_if_live.new.live.items c.loop-port.invariant c.in_ok-push_if_live.ensures

@@ -1,9 +1,0 @@
-use Rattle.std.proofs.Common.{◌≡◌, ◌++◌, map}
-use Rattle.std.specs.Prelude.{filter}
-use Rattle.std.specs.List.{range_with_len}
-use Rattle.quiesce_core.specs.declared.event.Event.TheVariants as event
-use Rattle.change_engine.specs.Lists.{is_unlinked_at}
-use Rattle.change_engine.proofs.layout.Layout.push_unlinks.Given as goal
-
-abbrev pub invariant-loop-port : goal.invariant-loop-port
-invariant-loop-port l = l.events.items ≡ l.fn.events.items ++ map event.Unlink (filter (is_unlinked_at l.self.places.items l.self.ports.items l.plan.unlink) (range_with_len 0 l.port))

@@ -1,8 +1,0 @@
-use Rattle.std.proofs.Common.{◌≡◌, ◌++◌, map, take}
-use Rattle.std.specs.List.{enumerate_from}
-use Rattle.config_graph.specs.Graph.{ports}
-use Rattle.quiescence_laws.specs.Starts.{reopen_of}
-use Rattle.change_engine.proofs.starting.push_reopens.Given as goal
-
-abbrev pub invariant-loop-port : goal.invariant-loop-port
-invariant-loop-port l = l.events.items ≡ l.initial.events.items ++ map reopen_of (take l.port (enumerate_from 0 (ports l.graph.nodes)))
