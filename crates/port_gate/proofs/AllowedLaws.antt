@@ -27,7 +27,7 @@ use Rattle.config_graph.proofs.KindLaws.{few_calls, few_mores, two_requires}
 use Rattle.base.proofs.OptionLaws.{Some-from_is_some}
 use Rattle.quiesce_core.specs.declared.state.Service.{Service}
 use Rattle.quiesce_core.specs.declared.state.Slot.{Slot}
-use Rattle.quiesce_core.proofs.KnownLaws.{judged_calls, judged_ended, judged_heard, judged_mores, judged_serves_through, judged_taken}
+use Rattle.quiesce_core.proofs.KnownLaws.{judged_calls, judged_ended, judged_heard, judged_mores, judged_serves_through, judged_taken, knows_none, knows_some}
 use Rattle.quiesce_core.proofs.StabilityLaws.{busy_is_live}
 use Rattle.quiesce_core.proofs.StateLaws.{served_busy, target_service_is}
 use Rattle.gate_word.proofs.PhaseLaws.{answered_not_more, asked_busy, more_not_answered, serving_busy}
@@ -108,14 +108,6 @@ serving_in (Some u) p h = (u, refl, eqb-true u.port p h)
 heard_in : (o : Option Served) → option_map_or (λ (u : Served). u.heard) o false ≡ true → (u : Served) × (o ≡ Some u)
 heard_in None h = absurd (false≢true h)
 heard_in (Some u) h = (u, refl)
-
-knows_some : (s : State) (o : Option Service) (u : Served) → KnowsService s o (Some u) → (v : Service) × (o ≡ Some v) × IsServed s v u
-knows_some s None u h = absurd h
-knows_some s (Some v) u h = (v, refl, h)
-
-knows_none : (s : State) (o : Option Service) → KnowsService s o None → o ≡ None
-knows_none s None h = refl
-knows_none s (Some v) h = absurd h
 
 module _ (s : State) (wf : IsWellFormed s) (con : IsConsistent s) (n : ℕ) (w : Known) (fits : FitsCore s n w) where
   abbrev m : Slot
