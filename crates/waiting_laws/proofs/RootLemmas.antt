@@ -32,7 +32,7 @@ use Rattle.report_laws.specs.SoundStatements.{AreSound}
 use Rattle.turn_laws.specs.Reached.{IsReached}
 use Rattle.turns.specs.Round.{after_rounds}
 use Rattle.turns.specs.World.{World}
-use Rattle.waiting_laws.specs.Roots.{NamesRoots, NamesWhatIsLeft, NamesWhatIsOpen, roots_in}
+use Rattle.waiting_laws.specs.Roots.{NameWhatIsLeft, NamesRoots, NamesWhatIsOpen, roots_in}
 use Rattle.waiting_laws.proofs.PartLemmas.{reached_before, said, shut, waiting_reached}
 use Rattle.waiting_laws.proofs.WaitLemmas.{left_in, rounds_reach}
 
@@ -127,7 +127,7 @@ module _ (w : World) (reached : IsReached w) (name : List ℕ) (args : List ℤ)
       subst (λ (u : World). has_root u.machine p (exchange u.machine p).serial ≡ true) (sym c.end_is)
       (root_there (after_rounds false c.waiting c.rounds).machine p closed (left_undrained c.waiting c.closed c.rounds p there))
 
-  names_left : NamesWhatIsLeft w name args g within moves lines v c
+  names_left : NameWhatIsLeft lines c.at_end c.found.left
   names_left = record { named = named; stand = stands }
 
 -- ---- each statement, and the stop
