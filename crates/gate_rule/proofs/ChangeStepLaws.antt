@@ -1,5 +1,5 @@
--- The steps of the change keep the rule: each is shown by the trace with its event, look or sight.
-use Rattle.std.proofs.Common.{◌≡◌, ◌∙◌, ℕ, ◌+◌, ◌<◌, true, ◌&&◌, List, [], ◌∷◌, length, set, Option, Some, None, refl, sym, ap, subst, arith}
+-- The steps of the change keep the rule: each is shown by the trace with its event, look, mark or sight.
+use Rattle.std.proofs.Common.{◌≡◌, ◌∙◌, ℕ, ◌+◌, ◌<◌, Bool, true, ◌&&◌, List, [], ◌∷◌, ◌++◌, length, set, Option, Some, None, refl, sym, ap, subst, arith}
 use Rattle.std.specs.Prelude.{◌==◌, bit_and, bit_or, bit_xor, nat_le, nat_lt, slice_index}
 use Rattle.std.proofs.lemmas.Bool.{and_parts, ltb-true}
 use Rattle.atomic_table.specs.Table.{Allows, keeps, step}
@@ -11,11 +11,12 @@ use Rattle.gate_word.specs.Operands.{link_difference}
 use Rattle.gate_word.specs.SlotWords.{pack_slot}
 use Rattle.gate_word.specs.declared.operands.TheConstants.{ALL_BUT_CLOSED, CLOSED}
 use Rattle.gate_word.specs.declared.slot_word.SlotWord.{SlotWord}
-use Rattle.gate_records.specs.Entries.{config_of}
-use Rattle.gate_records.specs.Records.{IsRecordOf, May, entry, events, state_at}
-use Rattle.gate_records.specs.declared.entry.Entry.TheVariants.{Did, Looked}
+use Rattle.gate_records.specs.Entries.{config_of, event_in}
+use Rattle.gate_records.specs.Records.{IsRecord, IsRecordOf, IsSo, May, entry, events, state_at}
+use Rattle.gate_records.specs.declared.entry.Entry.{Entry}
+use Rattle.gate_records.specs.declared.entry.Entry.TheVariants.{Did, Looked, Scanned}
 use Rattle.gate_records.proofs.NoteLaws.{may_is_allowed}
-use Rattle.gate_records.proofs.RecordLaws.{config_is}
+use Rattle.gate_records.proofs.RecordLaws.{config_is, seen_more}
 use Rattle.quiesce_core.specs.Doers.{is_of_change}
 use Rattle.quiesce_core.specs.Effect.{effect}
 use Rattle.quiesce_core.specs.Rules.{denial, is_live_port}
@@ -29,8 +30,8 @@ use Rattle.quiesce_core.proofs.LegalLaws.{legal}
 use Rattle.quiesce_core.proofs.OperationLaws.{close_by, link_by, make_by, reopen_by, unlink_by}
 use Rattle.quiesce_core.proofs.RunLaws.{runs_are_well_formed}
 use Rattle.gate_rule.specs.Growth.{ChangeProlongs, GatesTable, Prolongs}
-use Rattle.gate_rule.specs.Steps.{LooksAt, noted}
-use Rattle.gate_rule.specs.Views.{notes, of_change}
+use Rattle.gate_rule.specs.Steps.{LooksAt, MarksScan, noted}
+use Rattle.gate_rule.specs.Views.{change_of, notes, of_change}
 use Rattle.gate_rule.specs.Traces.{Holds}
 use Rattle.gate_rule.specs.declared.view.ChangeView.{ChangeView}
 use Rattle.gate_rule.specs.declared.view.NodeView.{NodeView}
@@ -49,6 +50,10 @@ module _ (nodes : List NodeView) (c : ChangeView) (t : GatesTable) (h : Holds t)
   -- its record is that of the trace
   is_record : IsRecordOf c.entries h.trace.moments
   is_record = subst (λ r. IsRecordOf r h.trace.moments) (sym ((h.views id (of_change nodes c) at).change c refl).entries) h.is_trace.is_record
+
+  -- and with what it sees, one of a run still
+  seen_record : (x : Entry) → event_in x ≡ None → IsSo h.trace.moments (entry x) → IsRecord (c.entries ++ x ∷ [])
+  seen_record x quiet so = record { moments = h.trace.moments ++ entry x ∷ []; is_of = seen_more c.entries h.trace.moments x is_record quiet so }
 
   config : config_of c.entries ≡ s.config
   config = config_is c.entries h.trace.moments is_record
@@ -118,6 +123,12 @@ module _ (slots id : ℕ) (nodes : List NodeView) (c : ChangeView) where
         let x = Looked p (slice_index t.words p) in
         subst (λ ws. With t h id (of_change nodes (notes c x)) ws (entry x ∷ [])) (sym (same_words t.words p)) (sees t h id t.homes nodes c x at refl (h.shows.ports p few))
 
+    mark_moves : (begins moved : Bool) (i : ℕ)
+        → With t h id (of_change nodes (notes c (Scanned begins moved))) (set t.words i (slice_index t.words i)) (entry (Scanned begins moved) ∷ [])
+    mark_moves begins moved i =
+        let x = Scanned begins moved in
+        subst (λ ws. With t h id (of_change nodes (notes c x)) ws (entry x ∷ [])) (sym (same_words t.words i)) (sees t h id t.homes nodes c x at refl tt)
+
     link_moves : (p n x : ℕ) → May c.entries (Link p n x) → By (Link p n x) p (bit_xor (slice_index t.words p) (link_difference (record { node = n; provide = x })))
     link_moves p n x may =
         let few = port_few nodes c t h id at p (legal s' (Link p n x) (allowed nodes c t h id at (Link p n x) may)).live in
@@ -157,14 +168,27 @@ module _ (slots id : ℕ) (nodes : List NodeView) (c : ChangeView) where
   pub reopen_prolongs : (p : ℕ) → May c.entries (Reopen p) → ChangeProlongs id nodes c p (λ x. bit_and x ALL_BUT_CLOSED) (Reopen p)
   reopen_prolongs p may t h at v a is = prolonged t h id p _ _ _ (straight t h id _ _ _ (reopen_moves t h at p may)) v a is
 
-  -- ---- look
+  -- ---- look, and mark by a load
 
-  pub looks : (p : ℕ) → p < MAX_PORTS → Allows Holds slots id (of_change nodes c, []) p (λ x. x) (λ found new. new ≡ noted (of_change nodes c, []) (Looked p found))
-  looks p few t h _ at _ = (of_change nodes (notes c (Looked p (slice_index t.words p))), keeps, tt, (look_moves t h at p few).holds, refl)
+  pub looks : (p : ℕ) → p < MAX_PORTS
+      → Allows Holds slots id (of_change nodes c, []) p (λ x. x) (λ found new. (new ≡ noted (of_change nodes c, []) (Looked p found)) × IsRecord (change_of new.0).entries)
+  looks p few t h _ at _ =
+      let x = Looked p (slice_index t.words p) in
+      (of_change nodes (notes c x), keeps, tt, (look_moves t h at p few).holds, (refl, seen_record nodes c t h id at x refl (h.shows.ports p few)))
+
+  pub marks : (begins moved : Bool) (i : ℕ)
+      → Allows Holds slots id (of_change nodes c, []) i (λ x. x) (λ found new. (new ≡ noted (of_change nodes c, []) (Scanned begins moved)) × IsRecord (change_of new.0).entries)
+  marks begins moved i t h _ at _ =
+      let x = Scanned begins moved in
+      (of_change nodes (notes c x), keeps, tt, (mark_moves t h at begins moved i).holds, (refl, seen_record nodes c t h id at x refl tt))
 
   pub look_prolongs : (slots p : ℕ) → p < MAX_PORTS
       → Prolongs id (of_change nodes c, []) p (λ x. x) (LooksAt (step slots p 0 0 none) (of_change nodes c, [])) (λ found. entry (Looked p found) ∷ [])
-  look_prolongs slots p few t h at v a is = prolonged t h id p _ _ _ (straight t h id _ _ _ (look_moves t h at p few)) v a is
+  look_prolongs slots p few t h at v a is = prolonged t h id p _ _ _ (straight t h id _ _ _ (look_moves t h at p few)) v a is.0
+
+  pub mark_prolongs : (slots i : ℕ) (begins moved : Bool)
+      → Prolongs id (of_change nodes c, []) i (λ x. x) (MarksScan begins moved (step slots i 0 0 none) (of_change nodes c, [])) (λ found. entry (Scanned begins moved) ∷ [])
+  mark_prolongs slots i begins moved t h at v a is = prolonged t h id i _ _ _ (straight t h id _ _ _ (mark_moves t h at begins moved i)) v a is.0
 
   -- ---- link and unlink
 

@@ -1,4 +1,4 @@
--- What the change learns of the nodes whose seats it took in.
+-- What the change learns of its record, and of the nodes whose seats it took in.
 use Rattle.std.proofs.Common.{◌≡◌, ◌∙◌, ℕ, ◌<◌, ◌≤◌, true, false, ◌||◌, cond, List, [], ◌∷◌, ◌++◌, set, Option, Some, None, refl, sym, ap, subst, ⊎_elim}
 use Rattle.std.specs.List.{AllByRecursion}
 use Rattle.std.specs.Prelude.{◌==◌, slice_index}
@@ -7,7 +7,7 @@ use Rattle.std.proofs.lemmas.Bool.{both_ways, cases_Bool, cases_lt, eqb-true}
 use Rattle.atomic_table.specs.Table.{Allows, keeps, step}
 use Rattle.config_graph.specs.declared.TheConstants.{MAX_PORTS}
 use Rattle.gate_records.specs.Entries.{config_of}
-use Rattle.gate_records.specs.Records.{IsRecordOf, entry, events}
+use Rattle.gate_records.specs.Records.{IsRecord, IsRecordOf, entry, events}
 use Rattle.gate_records.specs.declared.entry.Entry.{Entry}
 use Rattle.gate_records.specs.declared.entry.Entry.TheVariants.{Looked}
 use Rattle.gate_records.proofs.RecordLaws.{config_is, quiet_events, seen_more}
@@ -23,10 +23,10 @@ use Rattle.quiesce_core.specs.declared.known.Served.{Served}
 use Rattle.quiesce_core.specs.declared.state.Service.{Service}
 use Rattle.quiesce_core.proofs.RunLaws.{runs_are_consistent, runs_are_well_formed}
 use Rattle.gate_rule.specs.Growth.{Prolongs}
-use Rattle.gate_rule.specs.Merging.{AreAllAmong, IsOfRecord, Meets, MergeIntoRun, Merges}
+use Rattle.gate_rule.specs.Merging.{AreAllAmong, IsOfRecord, Learns, Meets, MergeIntoRun, Merges}
 use Rattle.gate_rule.specs.Steps.{noted}
 use Rattle.gate_rule.specs.Views.{is_among, log_in, notes, of_change}
-use Rattle.gate_rule.specs.Traces.{FitsNode, Holds, KnowsNode}
+use Rattle.gate_rule.specs.Traces.{FitsNode, HaveOwnSlots, Holds, KnowsNode}
 use Rattle.gate_rule.specs.declared.view.ChangeView.{ChangeView}
 use Rattle.gate_rule.specs.declared.view.NodeView.{NodeView}
 use Rattle.gate_rule.proofs.ChangeStepLaws.{look_moves}
@@ -53,9 +53,22 @@ of_record es r n config w k knows = record {
   unserving = λ removed. removed_serves_nothing (state_after es) n.slot w k (ap (λ c. is_live c n.slot) (sym config) ∙ removed) n.made.first_port n.known knows.known;
 }
 
--- by any load the change learns that of the seat that it took in last
+-- by any load the change learns that its record is one of a run, and that no two nodes that it took in are of one slot
+pub learns : (slots id i : ℕ) (nodes : List NodeView) (c : ChangeView) → Allows Holds slots id (of_change nodes c, []) i (λ x. x)
+    (λ found new. (new ≡ (of_change nodes c, [])) × IsRecord c.entries × HaveOwnSlots nodes)
+learns slots id i nodes c t h _ at _ =
+    let v = of_change nodes c in
+    let fit = h.views id v at in
+    let mine = subst (λ r. IsRecordOf r h.trace.moments) (sym (fit.change c refl).entries) h.is_trace.is_record in
+    (v, keeps, tt, (stays t h id i v at).holds, (refl, record { moments = h.trace.moments; is_of = mine }, fit.apart))
+
+pub learn_prolongs : (slots id i : ℕ) (nodes : List NodeView) (c : ChangeView)
+    → Prolongs id (of_change nodes c, []) i (λ x. x) (Learns (step slots i 0 0 none) (of_change nodes c, [])) (λ found. [])
+learn_prolongs slots id i nodes c t h at v a then_ = prolonged t h id i _ _ _ (straight t h id _ _ _ (stays t h id i (of_change nodes c) at)) v a then_.0
+
+-- and that of the seat that it took in last
 pub meets : (slots id i : ℕ) (n : NodeView) (nodes : List NodeView) (c : ChangeView) → Allows Holds slots id (of_change (n ∷ nodes) c, []) i (λ x. x)
-    (λ found new. (new ≡ (of_change (n ∷ nodes) c, [])) × IsOfRecord c.entries n)
+    (λ found new. (new ≡ (of_change (n ∷ nodes) c, [])) × IsRecord c.entries × IsOfRecord c.entries n)
 meets slots id i n nodes c t h _ at _ =
     let fit = h.views id (of_change (n ∷ nodes) c) at in
     let es = events h.trace.moments in
@@ -65,7 +78,7 @@ meets slots id i n nodes c t h _ at _ =
       keeps,
       tt,
       (stays t h id i (of_change (n ∷ nodes) c) at).holds,
-      (refl, of_record es c.entries n (config_is c.entries h.trace.moments mine) (runs_are_well_formed es run) (runs_are_consistent es run) fit.nodes.0.knows),
+      (refl, record { moments = h.trace.moments; is_of = mine }, of_record es c.entries n (config_is c.entries h.trace.moments mine) (runs_are_well_formed es run) (runs_are_consistent es run) fit.nodes.0.knows),
     )
 
 pub meet_prolongs : (slots id i : ℕ) (n : NodeView) (nodes : List NodeView) (c : ChangeView)

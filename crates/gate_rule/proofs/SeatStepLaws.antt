@@ -334,6 +334,35 @@ pub gives_back : (id : ℕ) (n : NodeView) (nodes : List NodeView) (c : ChangeVi
     → Splits Holds id (of_change (n ∷ nodes) c) (given_out (of_change (n ∷ nodes) c)) (seat_again (of_change (n ∷ nodes) c))
 gives_back id n nodes c t h at = (give_out_prolongs id n nodes c t h at).holds
 
+-- a node's seat is given on to a new seat, and nobody is left
+pub leave_prolongs : (id : ℕ) (n : NodeView) → SplitProlongs id (of_node n) nobody (of_node n)
+leave_prolongs id n t h at =
+    let w = h.trace in
+    let fit = h.views id (of_node n) at in
+    let new = length t.views in
+    let w' : Trace = record w { owner = own w.owner n.slot new } in
+    goes_on_parted t h w' refl id nobody (of_node n) t.homes
+    (record { is_record = h.is_trace.is_record; unseated = h.is_trace.unseated })
+    h.shows
+    (λ j u apart there.
+    let f = h.views j u there in
+    record {
+      nodes = all_into (FitsNode w j) (FitsNode w' j) u.nodes
+          (λ k g. other_owner w n.slot new w.seats j k (omega arith) (λ is. apart (sym g.owned ∙ ap w.owner is ∙ fit.nodes.0.owned)) g) f.nodes;
+      apart = f.apart;
+      change = λ d is. let c = f.change d is in record { change = c.change; seats = c.seats; entries = c.entries };
+    })
+    (record { nodes = tt; apart = tt; change = λ d is. absurd (cc is) })
+    (record {
+      nodes = (record { owned = own_here w.owner n.slot new; seated = fit.nodes.0.seated; knows = fit.nodes.0.knows }, tt);
+      apart = (tt, tt);
+      change = λ d is. absurd (cc is);
+    })
+    (parted w w.seats t.views id (of_node n) nobody n at h.seated (λ m apart among. absurd (false≢true (among_rest n [] m apart among))) (λ so. so) (λ m _ below. below))
+
+pub leaves : (id : ℕ) (n : NodeView) → Splits Holds id (of_node n) nobody (of_node n)
+leaves id n t h at = (leave_prolongs id n t h at).holds
+
 -- ---- the beginning
 
 count_of : (a b x y : ℕ) → length (replicate a x ++ replicate b y) ≡ a + b

@@ -1,15 +1,17 @@
--- What the change learns of the nodes whose seats it took in: of one, that its record made it so, and that it
--- services nothing once its record removed it; of all, that their events and its record are one run.
+-- What the change learns of its record, that it is one of a run, and of the nodes whose seats it took in: of one, that
+-- its record made it so, and that it services nothing once its record removed it; of all, that their events and its
+-- record are one run.
 use Rattle.std.specs.Prelude.{◌≡◌, ℕ, ◌<◌, false, List, Some, None, option_map, IsTrue}
 use Rattle.atomic_table.specs.Table.{Step}
 use Rattle.gate_records.specs.Entries.{config_of}
-use Rattle.gate_records.specs.Records.{IsRecordOf, Moment, events}
+use Rattle.gate_records.specs.Records.{IsRecord, IsRecordOf, Moment, events}
 use Rattle.gate_records.specs.declared.entry.Entry.{Entry}
 use Rattle.gate_records.specs.declared.entry.Entry.TheVariants.{Looked}
 use Rattle.quiesce_core.specs.Runs.{done_by}
 use Rattle.quiesce_core.specs.State.{is_live, slot}
 use Rattle.quiesce_core.specs.Words.{slot_fields_of}
 use Rattle.gate_rule.specs.Steps.{Seat, noted}
+use Rattle.gate_rule.specs.Traces.{HaveOwnSlots}
 use Rattle.gate_rule.specs.Views.{change_of, is_among, log_in, node_of, notes}
 use Rattle.gate_rule.specs.declared.view.NodeView.{NodeView}
 
@@ -29,9 +31,13 @@ pub record MergeIntoRun (r : List Entry) (nodes : List NodeView) : Type 0 where
   pub is_record : IsRecordOf r moments
   pub logs : (n : ℕ) → done_by n (events moments) ≡ log_in nodes n
 
+-- a load by the change, whose record is one of a run, as no two nodes are of one slot whose seats it took in
+abbrev pub Learns : Step (Unit {0}) → Seat → ℕ → Seat → Type 0
+Learns st me found new = (new ≡ me) × IsRecord (change_of me.0).entries × HaveOwnSlots me.0.nodes
+
 -- a load by the change, which took this node's seat in last
 abbrev pub Meets : Step (Unit {0}) → Seat → ℕ → Seat → Type 0
-Meets st me found new = (new ≡ me) × IsOfRecord (change_of me.0).entries (node_of me.0)
+Meets st me found new = (new ≡ me) × IsRecord (change_of me.0).entries × IsOfRecord (change_of me.0).entries (node_of me.0)
 
 -- a look of the change, which took all seats in
 abbrev pub Merges : Step (Unit {0}) → Seat → ℕ → Seat → Type 0

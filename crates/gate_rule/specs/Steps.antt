@@ -1,9 +1,10 @@
 -- What each kind of step tells its caller: of the step, of the seat before, and of the word that was found.
-use Rattle.std.specs.Prelude.{◌≡◌, ℕ, ◌==◌, List, [], Some, if◌then◌else◌}
+use Rattle.std.specs.Prelude.{◌≡◌, ℕ, Bool, ◌==◌, List, [], Some, if◌then◌else◌}
 use Rattle.std.specs.Option.{option_map_or}
 use Rattle.atomic_table.specs.Table.{Me, Step}
+use Rattle.gate_records.specs.Records.{IsRecord}
 use Rattle.gate_records.specs.declared.entry.Entry.{Entry}
-use Rattle.gate_records.specs.declared.entry.Entry.TheVariants.{Looked}
+use Rattle.gate_records.specs.declared.entry.Entry.TheVariants.{Looked, Scanned}
 use Rattle.gate_word.specs.Phases.{is_answered, is_asked, is_in_more}
 use Rattle.gate_word.specs.SlotWords.{unpack_slot}
 use Rattle.gate_word.specs.Words.{is_message_to, is_missing, unpack}
@@ -115,5 +116,9 @@ Adopts st me found new = (new ≡ me) × (unpack_slot found ≡ Some (node_of me
 
 -- ---- the change's steps
 
+-- a look; and the mark of a scan, by a load. By either the change learns that its record is one of a run.
 abbrev pub LooksAt : Step (Unit {0}) → Seat → ℕ → Seat → Type 0
-LooksAt st me found new = new ≡ noted me (Looked st.word found)
+LooksAt st me found new = (new ≡ noted me (Looked st.word found)) × IsRecord (change_of new.0).entries
+
+abbrev pub MarksScan : Bool → Bool → Step (Unit {0}) → Seat → ℕ → Seat → Type 0
+MarksScan begins moved st me found new = (new ≡ noted me (Scanned begins moved)) × IsRecord (change_of new.0).entries

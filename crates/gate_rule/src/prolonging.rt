@@ -1,13 +1,13 @@
 //! Laws of steps: each prolongs the run that the gates show by the event, look or sight that it is, or leaves it.
 
-ghost use Rattle.std.specs.Prelude.{◌≡◌, ℕ, ◌+◌, ◌<◌, ◌==◌, ◌%◌, ◌^◌, false, List, [], ◌∷◌, ◌++◌, length, Option, Some, bit_and, bit_or, bit_xor};
+ghost use Rattle.std.specs.Prelude.{◌≡◌, ℕ, Bool, ◌+◌, ◌<◌, ◌==◌, ◌%◌, ◌^◌, false, List, [], ◌∷◌, ◌++◌, length, Option, Some, bit_and, bit_or, bit_xor};
 ghost use Rattle.atomic_table.specs.Table.{opening, step};
 ghost use Rattle.config_graph.specs.declared.TheConstants.{MAX_PORTS};
 ghost use Rattle.config_graph.specs.declared.node.Node.{Node};
 ghost use Rattle.config_graph.specs.declared.node.Target.{Target};
 ghost use Rattle.gate_records.specs.Entries.{config_of};
 ghost use Rattle.gate_records.specs.Records.{May, Moment, entry};
-ghost use Rattle.gate_records.specs.declared.entry.Entry.TheVariants.{Looked, Sighted};
+ghost use Rattle.gate_records.specs.declared.entry.Entry.TheVariants.{Looked, Scanned, Sighted};
 ghost use Rattle.gate_word.specs.Operands.{call_difference, end_difference, link_difference, message_difference};
 ghost use Rattle.gate_word.specs.Phases.{is_asked};
 ghost use Rattle.gate_word.specs.SlotWords.{pack_slot};
@@ -19,8 +19,8 @@ ghost use Rattle.quiesce_core.specs.Rules.{last_serial};
 ghost use Rattle.quiesce_core.specs.State as state;
 ghost use Rattle.quiesce_core.specs.declared.event.Event.TheVariants as event;
 ghost use Rattle.gate_rule.specs.Growth.{ActProlongs, ChangeProlongs, GatesTable, JoinProlongs, LoadProlongs, Prolongs, RunGoesOn, SplitProlongs, asked_word, if_so};
-ghost use Rattle.gate_rule.specs.Merging.{Meets, Merges};
-ghost use Rattle.gate_rule.specs.Steps.{Adopts, Begins, Hears, LoadsWord, LooksAt, LooksToCall, Sees, Takes, value_served};
+ghost use Rattle.gate_rule.specs.Merging.{Learns, Meets, Merges};
+ghost use Rattle.gate_rule.specs.Steps.{Adopts, Begins, Hears, LoadsWord, LooksAt, LooksToCall, MarksScan, Sees, Takes, value_served};
 ghost use Rattle.gate_rule.specs.Traces.{Holds, first_words};
 ghost use Rattle.gate_rule.specs.Views.{given_out, new_seat, nobody, node_at, nothing_done, of_change, of_node, seat_again, with_seat, with_sight, without_seat};
 ghost use Rattle.gate_rule.specs.declared.view.ChangeView.{ChangeView};
@@ -73,8 +73,9 @@ pub fn node_steps_prolong_the_run()
         (Adopts (step slots (MAX_PORTS + n.slot) 0 0 none) (of_node n, [])) (λ found. []) }
 {}
 
-/// So it is of each step of the change on a word: the run has its event more, or its look. The load by which the
-/// change and a node that it took in meet leaves the run as it is.
+/// So it is of each step of the change on a word: the run has its event more, or its look, or its mark of a scan. The
+/// loads by which the change learns of its record, and by which it and a node that it took in meet, leave the run as
+/// it is.
 pub fn change_steps_prolong_the_run()
     ensures closes { (id p : ℕ) (nodes : List NodeView) (c : ChangeView) → May c.entries (event.Close p)
         → ChangeProlongs id nodes c p (λ x. bit_or x CLOSED) (event.Close p) }
@@ -83,6 +84,10 @@ pub fn change_steps_prolong_the_run()
     ensures looks { (slots id p : ℕ) (nodes : List NodeView) (c : ChangeView) → p < MAX_PORTS
         → Prolongs id (of_change nodes c, []) p (λ x. x) (LooksAt (step slots p 0 0 none) (of_change nodes c, []))
         (λ found. entry (Looked p found) ∷ []) }
+    ensures marks { (slots id i : ℕ) (begins moved : Bool) (nodes : List NodeView) (c : ChangeView)
+        → Prolongs id (of_change nodes c, []) i (λ x. x)
+        (MarksScan begins moved (step slots i 0 0 none) (of_change nodes c, []))
+        (λ found. entry (Scanned begins moved) ∷ []) }
     ensures links { (id p : ℕ) (to : Target) (nodes : List NodeView) (c : ChangeView)
         → May c.entries (event.Link p to.node to.provide)
         → ChangeProlongs id nodes c p (λ x. bit_xor x (link_difference to)) (event.Link p to.node to.provide) }
@@ -96,6 +101,9 @@ pub fn change_steps_prolong_the_run()
         → ChangeProlongs id nodes c (MAX_PORTS + n) (λ x. bit_or x (pack_slot
         (record { kind = node.kind; first_port = length (config_of c.entries).gates; arg = node.arg; from = from })))
         (event.Make n node from) }
+    ensures learns { (slots id i : ℕ) (nodes : List NodeView) (c : ChangeView)
+        → Prolongs id (of_change nodes c, []) i (λ x. x) (Learns (step slots i 0 0 none) (of_change nodes c, []))
+        (λ found. []) }
     ensures meets { (slots id i : ℕ) (n : NodeView) (nodes : List NodeView) (c : ChangeView)
         → Prolongs id (of_change (n ∷ nodes) c, []) i (λ x. x)
         (Meets (step slots i 0 0 none) (of_change (n ∷ nodes) c, [])) (λ found. []) }
@@ -104,7 +112,7 @@ pub fn change_steps_prolong_the_run()
         (λ found. entry (Looked p found) ∷ []) }
 {}
 
-/// A seat that is given out or taken in leaves the run as it is, and one that is taken in for a sight is that sight,
+/// A seat that is given out, given on or taken in leaves the run as it is, and one that is taken in for a sight is that sight,
 /// at its end.
 pub fn seat_steps_prolong_the_run()
     ensures new_seats { (id : ℕ) (nodes : List NodeView) (c : ChangeView) → c.seats < length (config_of c.entries).slots
@@ -117,6 +125,7 @@ pub fn seat_steps_prolong_the_run()
     ensures gives_out { (id : ℕ) (n : NodeView) (nodes : List NodeView) (c : ChangeView)
         → SplitProlongs id (of_change (n ∷ nodes) c) (given_out (of_change (n ∷ nodes) c))
         (seat_again (of_change (n ∷ nodes) c)) }
+    ensures leaves { (id : ℕ) (n : NodeView) → SplitProlongs id (of_node n) nobody (of_node n) }
 {}
 
 /// At the beginning the gates show the run without a moment, and a run that goes on by some moments and then by

@@ -2,7 +2,7 @@
 use Rattle.std.proofs.Common.{◌≡◌, ◌∙◌, ℕ, ◌<◌, List, [], ◌∷◌, sym, ap, subst}
 use Rattle.atomic_table.specs.Table.{Allows, Joins, Splits, step}
 use Rattle.config_graph.specs.declared.TheConstants.{MAX_PORTS}
-use Rattle.gate_rule.specs.Merging.{AreAllAmong, Meets, Merges}
+use Rattle.gate_rule.specs.Merging.{AreAllAmong, Learns, Meets, Merges}
 use Rattle.gate_rule.specs.Steps.{IsChange, IsNode, Seat}
 use Rattle.gate_rule.specs.Views.{change_of, given_out, node_of, nobody, of_change, of_node, seat_again, with_seat, with_sight}
 use Rattle.gate_rule.specs.Traces.{Holds}
@@ -34,6 +34,13 @@ module _ (id : ℕ) (me : Seat) (is : IsChange me) where
     pub meets : (slots i : ℕ) → Allows Holds slots id me i (λ x. x) (Meets (step slots i 0 0 none) me)
     meets slots i = as_holder (λ m. Allows Holds slots id m i (λ x. x) (Meets (step slots i 0 0 none) m)) (merging.meets slots id i (node_of me.0) nodes (change_of me.0))
 
+  pub learns : (slots i : ℕ) → Allows Holds slots id me i (λ x. x) (Learns (step slots i 0 0 none) me)
+  learns slots i = subst (λ m. Allows Holds slots id m i (λ x. x) (Learns (step slots i 0 0 none) m)) (sym is) (merging.learns slots id i me.0.nodes (change_of me.0))
+
   pub merges : (slots p : ℕ) → p < MAX_PORTS → AreAllAmong (change_of me.0).seats me.0.nodes → Allows Holds slots id me p (λ x. x) (Merges (step slots p 0 0 none) me)
   merges slots p few all =
       subst (λ m. Allows Holds slots id m p (λ x. x) (Merges (step slots p 0 0 none) m)) (sym is) (merging.merges slots id p me.0.nodes (change_of me.0) few all)
+
+-- a node's seat is given on to a new one
+pub leaves : (id : ℕ) (me : Seat) → IsNode me → Splits Holds id me.0 nobody me.0
+leaves id me is = subst (λ (m : Seat). Splits Holds id m.0 nobody m.0) (sym is) (seat_.leaves id (node_of me.0))

@@ -1,7 +1,7 @@
--- The steps by which the change links, unlinks and removes, at any seat that is the change's.
-use Rattle.std.proofs.Common.{◌≡◌, ℕ, [], Some, sym, subst}
+-- The steps by which the change links, unlinks, removes and marks, at any seat that is the change's.
+use Rattle.std.proofs.Common.{◌≡◌, ℕ, Bool, [], Some, sym, subst}
 use Rattle.std.specs.Prelude.{bit_xor}
-use Rattle.atomic_table.specs.Table.{Allows}
+use Rattle.atomic_table.specs.Table.{Allows, step}
 use Rattle.config_graph.specs.declared.node.Target.{Target}
 use Rattle.gate_records.specs.Entries.{config_of}
 use Rattle.gate_records.specs.Records.{May}
@@ -10,10 +10,11 @@ use Rattle.gate_word.specs.Operands.{link_difference}
 use Rattle.quiesce_core.specs.State.{target}
 use Rattle.quiesce_core.specs.declared.event.Event.{Event}
 use Rattle.quiesce_core.specs.declared.event.Event.TheVariants.{Link, Unlink, Remove}
-use Rattle.gate_rule.specs.Steps.{IsChange, Seat, noted}
+use Rattle.gate_rule.specs.Steps.{IsChange, MarksScan, Seat, noted}
 use Rattle.gate_rule.specs.Views.{change_of, of_change}
 use Rattle.gate_rule.specs.Traces.{Holds}
 use Rattle.gate_rule.proofs.ChangeStepLaws as change_
+use mathlib.Core.Option.{none}
 
 module _ (slots id : ℕ) (me : Seat) (is : IsChange me) where
   -- an event that an operand of exclusive or makes
@@ -38,3 +39,7 @@ module _ (slots id : ℕ) (me : Seat) (is : IsChange me) where
       subst (λ m. Allows Holds slots id m i (λ x. x) (λ found new. new ≡ noted m (Did e))) (sym is)
       (subst (λ e. Allows Holds slots id (of_change me.0.nodes (change_of me.0), []) i (λ x. x) (λ found new. new ≡ noted (of_change me.0.nodes (change_of me.0), []) (Did e))) (sym event)
       (change_.removes slots id me.0.nodes (change_of me.0) n i may))
+
+  pub marks : (begins moved : Bool) (i : ℕ) → Allows Holds slots id me i (λ x. x) (MarksScan begins moved (step slots i 0 0 none) me)
+  marks begins moved i =
+      subst (λ m. Allows Holds slots id m i (λ x. x) (MarksScan begins moved (step slots i 0 0 none) m)) (sym is) (change_.marks slots id me.0.nodes (change_of me.0) begins moved i)

@@ -3,5 +3,6 @@ mod Saying
 mod Sizes
 mod AsJoined
 mod Sighted
+mod Marked
 mod AsLinked
 mod Telling

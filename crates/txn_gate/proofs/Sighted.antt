@@ -6,6 +6,7 @@ use Rattle.std.specs.List.{cons_option}
 use Rattle.std.specs.Option.{option_map}
 use Rattle.commit_laws.specs.Steps.{change_all}
 use Rattle.gate_records.specs.Entries.{config_of, event_in, events_in}
+use Rattle.gate_records.specs.Records.{IsRecord}
 use Rattle.gate_records.specs.declared.entry.Entry.{Entry}
 use Rattle.gate_records.specs.declared.entry.Entry.TheVariants.{Sighted}
 use Rattle.quiesce_core.specs.State.{Configuration, empty, is_live, slot}
@@ -40,3 +41,6 @@ module _ (me you m : Seat) (is : m ≡ (with_sight me.0 you.0, [])) where
   -- and when it has given it out again
   pub sighted : (m2 m3 : Seat) → m2 ≡ m → m3 ≡ (given_out m2.0, []) → m3 ≡ noted me (Sighted (node_of you.0).slot (node_of you.0).log)
   sighted m2 m3 same given = given ∙ ap (λ (k : Seat). (given_out k.0, [])) (same ∙ is)
+
+  pub sighted_run : (m2 m3 : Seat) → m2 ≡ m → m3 ≡ (given_out m2.0, []) → IsRecord (change_of m.0).entries → IsRecord (change_of m3.0).entries
+  sighted_run m2 m3 same given run = subst (λ (k : Seat). IsRecord (change_of k.0).entries) (sym (given ∙ ap (λ (k : Seat). (given_out k.0, [])) same)) run

@@ -7,6 +7,7 @@ ghost use Rattle.config_graph.specs.declared.TheConstants.{MAX_NODES, MAX_PORTS}
 ghost use Rattle.gate_records.specs.Entries.{config_of};
 ghost use Rattle.gate_records.specs.Looks.{look_of};
 ghost use Rattle.gate_records.specs.Notes.{is_noted};
+ghost use Rattle.gate_records.specs.Records.{IsRecord};
 ghost use Rattle.gate_records.specs.declared.entry.Entry.TheVariants.{Did, Looked};
 ghost use Rattle.quiesce_core.specs.Knowledge.{nothing_known};
 ghost use Rattle.quiesce_core.specs.Legal.{CanMake};
@@ -202,6 +203,7 @@ impl Gates {
         ensures change { (word : ℕ)
             × (change_in seat.new ≡ notes (change_in seat.old) (Looked port word))
             × (result ≡ look_of word) }
+        ensures run { IsRecord (record_of seat.new) }
         ensures nodes { collected_in seat.new ≡ collected_in seat.old }
         ensures spare { seat.new.spare ≡ seat.old.spare }
     {

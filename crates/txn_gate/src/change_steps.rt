@@ -1,10 +1,10 @@
-//! The atomic steps by which the change links, unlinks and removes.
+//! The atomic steps by which the change links, unlinks and removes, and marks its scans.
 
 ghost use Rattle.std.specs.Prelude.{◌≡◌, ◌<◌, Some};
 ghost use Rattle.config_graph.specs.declared.TheConstants.{MAX_PORTS};
 ghost use Rattle.gate_records.specs.Entries.{config_of};
-ghost use Rattle.gate_records.specs.Records.{May};
-ghost use Rattle.gate_records.specs.declared.entry.Entry.TheVariants.{Did};
+ghost use Rattle.gate_records.specs.Records.{IsRecord, May};
+ghost use Rattle.gate_records.specs.declared.entry.Entry.TheVariants.{Did, Scanned};
 ghost use Rattle.gate_rule.specs.Steps.{IsChange, noted};
 ghost use Rattle.gate_rule.specs.Views.{change_of};
 ghost use Rattle.gate_word.specs.Words.{FitsTarget};
@@ -12,7 +12,7 @@ ghost use Rattle.quiesce_core.specs.State as state;
 ghost use Rattle.quiesce_core.specs.declared.event.Event.TheVariants as event;
 ghost use Rattle.txn_gate.specs.Places.{IsHere};
 
-use crate::plays::{Changing, Names};
+use crate::plays::{Changing, Marking, Marks, Names};
 use crate::steps::{AnySeat, Words};
 use config_graph::Target;
 use gate_word::link_operand;
@@ -61,4 +61,17 @@ pub fn remove<E: Names>(words: &Words, seat: &mut AnySeat, node: u32)
 {
     let _ = node;
     words.shared.load::<Changing<E>>(seat, 0);
+}
+
+/// The change marks a scan: a load, after which the record has the mark.
+pub fn mark<M: Marks>(words: &Words, seat: &mut AnySeat, begins: bool, moved: bool)
+    requires mark { (M.begins ≡ begins) × (M.moved ≡ moved) }
+    requires here { IsHere seat.old.table_id words.now.shared.table_id }
+    requires change { IsChange seat.old.me }
+    ensures here { seat.new.table_id ≡ seat.old.table_id }
+    ensures me { seat.new.me ≡ noted seat.old.me (Scanned begins moved) }
+    ensures run { IsRecord (change_of seat.new.me.0).entries }
+{
+    let (_, _) = (begins, moved);
+    words.shared.load::<Marking<M>>(seat, 0);
 }

@@ -18,6 +18,24 @@ impl Names for Brand {
     ghost event = { Miss 0 };
 }
 
+/// Names what the mark of a scan says, which no step's operands have.
+pub trait Marks {
+    ghost use Rattle.std.specs.Prelude.{Bool};
+
+    ghost begins: { Bool };
+
+    ghost moved: { Bool };
+}
+
+/// A call that passes `Brand` picks the mark that it names; this one is never meant.
+impl Marks for Brand {
+    ghost use Rattle.std.specs.Prelude.{true};
+
+    ghost begins = { true };
+
+    ghost moved = { true };
+}
+
 /// A load by a node's seat.
 pub struct Loading;
 
@@ -115,6 +133,17 @@ impl Play<(), View> for Looking {
     ghost use Rattle.gate_rule.specs.Steps.{LooksAt};
 
     ghost then = { LooksAt };
+}
+
+/// A load by which the change marks a scan, as `M` says.
+pub struct Marking<M> {
+    of: PhantomData<M>,
+}
+
+impl<M: Marks> Play<(), View> for Marking<M> {
+    ghost use Rattle.gate_rule.specs.Steps.{MarksScan};
+
+    ghost then = { MarksScan M.begins M.moved };
 }
 
 /// The seat of a new node is given out.

@@ -2,9 +2,11 @@
 
 ghost use Rattle.std.specs.Prelude.{◌≡◌, [], ◌∷◌, ◌<◌, List};
 ghost use Rattle.config_graph.specs.declared.TheConstants.{MAX_PORTS};
+ghost use Rattle.gate_records.specs.Records.{IsRecord};
 ghost use Rattle.gate_records.specs.declared.entry.Entry.TheVariants.{Looked};
 ghost use Rattle.gate_rule.specs.Merging.{AreAllAmong, IsOfRecord, MergeIntoRun};
 ghost use Rattle.gate_rule.specs.Steps.{IsChange, IsNode, noted};
+ghost use Rattle.gate_rule.specs.Traces.{HaveOwnSlots};
 ghost use Rattle.gate_rule.specs.Views.{change_of, given_out, node_of, seat_again, with_seat, with_sight};
 ghost use Rattle.gate_rule.specs.declared.view.NodeView.{NodeView};
 ghost use Rattle.txn_gate.specs.Places.{IsHere};
@@ -46,7 +48,27 @@ impl Split<View> for GivingOut {
     ghost right = { seat_again };
 }
 
-/// A load by which the change learns of the node whose seat it took in last.
+/// A node's seat is given on to a new one.
+pub struct Leaving;
+
+impl Split<View> for Leaving {
+    ghost use Rattle.gate_rule.specs.Views.{nobody};
+
+    ghost left = { λ v. nobody };
+
+    ghost right = { λ v. v };
+}
+
+/// A load by which the change learns of its record, and of all nodes whose seats it took in.
+pub struct Learning;
+
+impl Play<(), View> for Learning {
+    ghost use Rattle.gate_rule.specs.Merging.{Learns};
+
+    ghost then = { Learns };
+}
+
+/// A load by which the change learns of its record, and of the node whose seat it took in last.
 pub struct Meeting;
 
 impl Play<(), View> for Meeting {
@@ -88,14 +110,27 @@ pub fn sight(words: &Words, seat: &mut AnySeat, node: AnySeat)
     words.shared.join_seat::<Sighting>(seat, node);
 }
 
-/// The change learns of the node whose seat it took in last. A join tells its caller nothing, so this is a load of
-/// its own.
+/// The change learns that its record is one of a run, and that no two nodes whose seats it took in are of one slot.
+pub fn learn(words: &Words, seat: &mut AnySeat)
+    requires here { IsHere seat.old.table_id words.now.shared.table_id }
+    requires change { IsChange seat.old.me }
+    ensures here { seat.new.table_id ≡ seat.old.table_id }
+    ensures me { seat.new.me ≡ seat.old.me }
+    ensures run { IsRecord (change_of seat.old.me.0).entries }
+    ensures apart { HaveOwnSlots seat.old.me.0.nodes }
+{
+    words.shared.load::<Learning>(seat, 0);
+}
+
+/// The change learns of its record, and of the node whose seat it took in last. A join tells its caller nothing, so
+/// this is a load of its own.
 pub fn meet(words: &Words, seat: &mut AnySeat)
     requires here { IsHere seat.old.table_id words.now.shared.table_id }
     requires change { IsChange seat.old.me }
     requires some { (nodes : List NodeView) × (seat.old.me.0.nodes ≡ node_of seat.old.me.0 ∷ nodes) }
     ensures here { seat.new.table_id ≡ seat.old.table_id }
     ensures me { seat.new.me ≡ seat.old.me }
+    ensures run { IsRecord (change_of seat.old.me.0).entries }
     ensures learned { IsOfRecord (change_of seat.old.me.0).entries (node_of seat.old.me.0) }
 {
     words.shared.load::<Meeting>(seat, 0);
@@ -124,4 +159,14 @@ pub fn merge(words: &Words, seat: &mut AnySeat, port: u32) -> u64
     ensures merged { MergeIntoRun (change_of seat.new.me.0).entries seat.old.me.0.nodes }
 {
     words.shared.load::<Merging>(seat, port as usize)
+}
+
+/// A node's seat is given on to a new one, and nobody is left in its place.
+pub fn leave(words: &Words, seat: &mut AnySeat) -> AnySeat
+    requires here { IsHere seat.old.table_id words.now.shared.table_id }
+    requires node { IsNode seat.old.me }
+    ensures here { (seat.new.table_id ≡ seat.old.table_id) × (result.table_id ≡ seat.old.table_id) }
+    ensures node { result.me ≡ seat.old.me }
+{
+    words.shared.split_seat::<Leaving>(seat)
 }

@@ -2,7 +2,7 @@
 
 ghost use Rattle.std.specs.Prelude.{◌≡◌, ◌⊎◌, ◌∷◌, ℕ, ◌<◌, false, IsTrue, Some, None, length, option_map};
 ghost use Rattle.gate_records.specs.Entries.{config_of};
-ghost use Rattle.gate_records.specs.Records.{AreAllNoted};
+ghost use Rattle.gate_records.specs.Records.{AreAllNoted, IsRecord};
 ghost use Rattle.gate_records.specs.declared.entry.Entry.TheVariants.{Looked, Sighted};
 ghost use Rattle.quiesce_core.specs.State.{is_live, slot};
 ghost use Rattle.quiesce_core.specs.Words.{slot_fields_of};
@@ -16,37 +16,30 @@ use crate::node_seat::NodeSeat;
 use crate::seat_steps;
 
 impl Gates {
-    /// Notes in the record the node and all that it did so far, and gives its seat back with all that it knew. At the
-    /// first step, which takes the seat in, the change and the node meet.
-    pub fn sight(&self, seat: &mut ChangeSeat, node: NodeSeat) -> NodeSeat
+    /// Notes in the record the node and all that it did so far; its seat is as it was. At the first step, which takes
+    /// the seat in, the change and the node meet.
+    pub fn sight_in(&self, seat: &mut ChangeSeat, node: &mut NodeSeat)
         requires here { IsChangeSeatOf seat.old self.now }
-        requires node_here { IsSeatOf node self.now }
+        requires node_here { IsSeatOf node.old self.now }
         ensures here { (table_of_change seat.new ≡ table_of_change seat.old)
-            × (table_of_node result ≡ table_of_node node) }
+            × (table_of_node node.new ≡ table_of_node node.old) }
         ensures change { change_in seat.new ≡ notes (change_in seat.old)
-            (Sighted (node_in node).slot (node_in node).log) }
+            (Sighted (node_in node.old).slot (node_in node.old).log) }
         ensures nodes { collected_in seat.new ≡ collected_in seat.old }
         ensures spare { seat.new.spare ≡ seat.old.spare }
-        ensures node { node_in result ≡ node_in node }
+        ensures node { node_in node.new ≡ node_in node.old }
+        ensures kept { (node.new.slot ≡ node.old.slot) × (node.new.first_port ≡ node.old.first_port)
+            × (node.new.known ≡ node.old.known) }
         ensures made { option_map slot_fields_of (slot (config_of (record_of seat.old))
-            (node_in node).slot) ≡ Some (node_in node).made }
-        ensures removed { is_live (config_of (record_of seat.old)) (node_in node).slot
-            ≡ false → (node_in node).known.service ≡ None }
+            (node_in node.old).slot) ≡ Some (node_in node.old).made }
+        ensures removed { is_live (config_of (record_of seat.old)) (node_in node.old).slot
+            ≡ false → (node_in node.old).known.service ≡ None }
+        ensures run { IsRecord (record_of seat.new) }
     {
-        let NodeSeat {
-            slot,
-            first_port,
-            known,
-            seat: theirs,
-        } = node;
+        let theirs = seat_steps::leave(&self.words, &mut node.seat);
         seat_steps::sight(&self.words, &mut seat.seat, theirs);
         seat_steps::meet(&self.words, &mut seat.seat);
-        NodeSeat {
-            slot,
-            first_port,
-            known,
-            seat: seat_steps::give_out(&self.words, &mut seat.seat),
-        }
+        node.seat = seat_steps::give_out(&self.words, &mut seat.seat);
     }
 
     /// Takes the seat of a node in for good that was removed, or once every live port is noted as drained.

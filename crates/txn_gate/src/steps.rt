@@ -9,7 +9,7 @@ ghost use Rattle.gate_word.specs.SlotWords.{pack_slot, unpack_slot};
 ghost use Rattle.gate_word.specs.Words.{FitsWord, is_message_to, is_missing, pack, unpack};
 ghost use Rattle.gate_word.specs.declared.phase.Phase.TheVariants as phases;
 ghost use Rattle.gate_records.specs.Entries.{config_of};
-ghost use Rattle.gate_records.specs.Records.{May};
+ghost use Rattle.gate_records.specs.Records.{IsRecord, May};
 ghost use Rattle.gate_records.specs.declared.entry.Entry.TheVariants.{Did, Looked};
 ghost use Rattle.quiesce_core.specs.Rules.{last_serial};
 ghost use Rattle.quiesce_core.specs.declared.event.Event.TheVariants as event;
@@ -283,6 +283,7 @@ pub fn look(words: &Words, seat: &mut AnySeat, port: u32) -> u64
     requires port { port < MAX_PORTS }
     ensures here { seat.new.table_id ≡ seat.old.table_id }
     ensures me { seat.new.me ≡ noted seat.old.me (Looked port result) }
+    ensures run { IsRecord (change_of seat.new.me.0).entries }
 {
     words.shared.load::<Looking>(seat, port as usize)
 }

@@ -8,26 +8,45 @@ ghost use Rattle.txn_gate.specs.Seats.{IsSeatOf, node_in};
 use crate::gates::Gates;
 use crate::node_seat::NodeSeat;
 use port_gate::{BeginAnswer, CallAnswer, HearAnswer, PortGate, SeeAnswer, TakeAnswer};
+use std::marker::{Brand, PhantomData};
 
-/// The gates as one worker's gate. A seat fits where it is of these gates, and what each call says is what the gates'
-/// own says. It tells no state: others act meanwhile.
-#[derive(Drop)]
-pub struct TableGate<'g> {
-    pub gates: &'g Gates,
+/// Names what a slot's word says of its node.
+pub trait Makes {
+    ghost use Rattle.gate_word.specs.declared.slot_word.SlotWord.{SlotWord};
+
+    ghost made: { SlotWord };
 }
 
-impl<'g> TableGate<'g> {
-    pub fn new(gates: &'g Gates) -> TableGate<'g>
+/// A call that passes `Brand` picks what it names; this one is never meant.
+impl Makes for Brand {
+    ghost use Rattle.gate_rule.specs.Views.{unknown};
+
+    ghost made = { unknown.made };
+}
+
+/// The gates as one worker's gate. A seat fits where it is of these gates, and of a node that was made as `M` says;
+/// what each call says is what the gates' own says. It tells no state: others act meanwhile.
+#[derive(Drop)]
+pub struct TableGate<'g, M> {
+    pub gates: &'g Gates,
+    of: PhantomData<M>,
+}
+
+impl<'g, M: Makes> TableGate<'g, M> {
+    pub fn new(gates: &'g Gates) -> TableGate<'g, M>
         ensures { result.gates.now ≡ gates.now }
     {
-        TableGate { gates }
+        TableGate {
+            gates,
+            of: PhantomData,
+        }
     }
 }
 
-impl<'g> PortGate for TableGate<'g> {
+impl<'g, M: Makes> PortGate for TableGate<'g, M> {
     type Seat = NodeSeat;
 
-    ghost fits = { λ g s. IsSeatOf s g.gates.now };
+    ghost fits = { λ g s. IsSeatOf s g.gates.now × ((node_in s).made ≡ M.made) };
 
     ghost node = { λ g s. node_at (node_in s) };
 

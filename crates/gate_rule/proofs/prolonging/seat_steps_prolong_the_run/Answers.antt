@@ -1,4 +1,4 @@
-use Rattle.gate_rule.proofs.SeatStepLaws.{give_out_prolongs, new_seat_prolongs, sight_prolongs, take_in_prolongs}
+use Rattle.gate_rule.proofs.SeatStepLaws.{give_out_prolongs, leave_prolongs, new_seat_prolongs, sight_prolongs, take_in_prolongs}
 use Rattle.gate_rule.proofs.prolonging.seat_steps_prolong_the_run.Goals as goal
 
 pub returns : goal.returns
@@ -7,4 +7,5 @@ returns c = record {
   takes_in = λ id other nodes c n. take_in_prolongs id nodes c other n;
   sights = λ id other nodes c n. sight_prolongs id nodes c other n;
   gives_out = give_out_prolongs;
+  leaves = leave_prolongs;
 }

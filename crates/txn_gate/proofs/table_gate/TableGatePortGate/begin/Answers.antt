@@ -3,4 +3,4 @@ use Rattle.txn_gate.proofs.Telling.{begin_loads_told}
 use Rattle.txn_gate.proofs.table_gate.TableGatePortGate.begin.Goals as goal
 
 pub returns-clause-loads : goal.returns-clause-loads
-returns-clause-loads c = begin_loads_told c.args.port (node_of c.args.seat.now.seat.me.0) (node_of c.begin.new.seat.seat.me.0) c.args.value c.begin.result c.begin.ensures.words
+returns-clause-loads g c = begin_loads_told c.args.port (node_of c.args.seat.now.seat.me.0) (node_of c.begin.new.seat.seat.me.0) c.args.value c.begin.result c.begin.ensures.words
