@@ -5,3 +5,6 @@ mod AsJoined
 mod Sighted
 mod AsLinked
 mod Telling
+mod NotingTables
+mod NextTables
+mod BareTables

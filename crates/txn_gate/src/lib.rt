@@ -11,6 +11,8 @@ mod message_calls;
 mod node_calls;
 mod node_seat;
 mod plays;
+mod port_notes;
+mod record_tables;
 mod seat_steps;
 mod sight_calls;
 mod steps;

@@ -1,7 +1,7 @@
 use Rattle.std.proofs.Common.{◌∙◌, ◌∷◌, length, refl, sym, ap}
 use Rattle.gate_records.specs.declared.entry.Entry.TheVariants.{Sighted}
 use Rattle.gate_rule.specs.Views.{change_of, node_of}
-use Rattle.record_tables.proofs.NextLaws.{seen_tables}
+use Rattle.txn_gate.proofs.NextTables.{seen_tables}
 use Rattle.txn_gate.proofs.Sighted.{config_seen, holds_sight, learned, sighted}
 use Rattle.txn_gate.proofs.Sizes.{still_change, still_seats, still_tables, still_within}
 use Rattle.txn_gate.proofs.gates.Gates.sight.Goals as goal
