@@ -40,7 +40,7 @@ use Rattle.quiesce_core.specs.declared.state.Gate.{Gate}
 use Rattle.quiesce_core.specs.Effect.{effect}
 use Rattle.quiesce_core.proofs.AlterLaws.{reconfigured}
 use Rattle.quiescence_laws.proofs.ExtensionLaws.{closed_next, extends_further, extends_next, read_before}
-use Rattle.quiescence_laws.proofs.RootsSeen.{open_root_is_seen}
+use Rattle.quiescence_laws.proofs.RootsSeenLaws.{open_root_is_seen}
 use Rattle.merge_laws.specs.Guided.{Guided}
 use Rattle.merge_laws.proofs.GoingLemmas.{call_is_there}
 use Rattle.change_script.specs.declared.report.HistoryLine.{HistoryLine}

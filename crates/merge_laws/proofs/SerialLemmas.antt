@@ -18,7 +18,7 @@ use Rattle.quiescence_laws.specs.Events.{is_root_of, reopens}
 use Rattle.quiescence_laws.specs.Roots.{has_root, is_open_root_after}
 use Rattle.quiescence_laws.proofs.ExchangeLaws.{PortStep, begin_turns, stays, begins, calls, ends, port_step, serials_grow}
 use Rattle.quiescence_laws.proofs.RootLaws.{closed_stays}
-use Rattle.quiescence_laws.proofs.RootsSeen.{open_root_is_seen}
+use Rattle.quiescence_laws.proofs.RootsSeenLaws.{open_root_is_seen}
 use Rattle.merge_laws.specs.Guarded.{is_called_at}
 use Rattle.merge_laws.proofs.GoingLemmas.{call_is_there, called_alike}
 

@@ -42,7 +42,7 @@ use Rattle.quiescence_laws.specs.Configurations.{Extends}
 use Rattle.quiescence_laws.specs.Events.{is_reopen_or_link}
 use Rattle.quiescence_laws.proofs.ExtensionLaws.{depends_before, extends_next, owned_before, read_before}
 use Rattle.quiescence_laws.proofs.QuiescenceLaws.{still_if}
-use Rattle.quiescence_laws.proofs.Stillness.{still_next}
+use Rattle.quiescence_laws.proofs.StillLaws.{still_next}
 use Rattle.quiesce_swap_laws.specs.Independence.{AreIndependent, MayBeDoneBy, MayBeDoneByChange, clashes}
 use Rattle.quiesce_swap_laws.proofs.DoerLaws.{changes_have_no_doer, doer_alike, nodes_do_no_change, port_of}
 use Rattle.quiesce_swap_laws.proofs.NodeSwapLaws.{by_alike_all, same_state}

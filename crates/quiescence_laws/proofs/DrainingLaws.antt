@@ -26,7 +26,7 @@ use Rattle.quiescence_laws.specs.Events.{reopens}
 use Rattle.quiescence_laws.specs.Roots.{has_root}
 use Rattle.quiesce_core.proofs.StateLaws.{busy_made}
 use Rattle.quiescence_laws.proofs.RootLaws.{old_further, has_no_root}
-use Rattle.quiescence_laws.proofs.Stillness.{Concerns}
+use Rattle.quiescence_laws.proofs.StillLaws.{Concerns}
 use Rattle.gate_word.proofs.PhaseLaws.{serving_busy}
 
 -- reopenings are the change's alone

@@ -2,7 +2,7 @@ pub mod ExtensionLaws
 pub mod ExchangeLaws
 pub mod StartLaws
 pub mod WalkLemmas
-pub mod Stillness
+pub mod StillLaws
 pub mod OpenLaws
 pub mod QuiescenceLaws
 pub mod Engaged
@@ -12,8 +12,8 @@ pub mod Hearing
 pub mod CourseLemmas
 pub mod Counting
 pub mod OrderLaws
-pub mod RootsSeen
-pub mod OneRoot
+pub mod RootsSeenLaws
+pub mod OneRootLaws
 pub mod Strength
 pub mod DrainingLaws
 pub mod TotalLaws

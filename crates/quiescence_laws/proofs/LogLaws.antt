@@ -20,7 +20,7 @@ use Rattle.quiesce_core.proofs.StateLaws.{taken_busy}
 use Rattle.gate_word.proofs.PhaseLaws.{asked_busy, more_busy, answered_busy}
 use Rattle.quiescence_laws.specs.Events.{is_of_initiator, is_of_target}
 use Rattle.quiescence_laws.proofs.Engaged.{by_initiator, by_target}
-use Rattle.quiescence_laws.proofs.OneRoot.{found, one_place}
+use Rattle.quiescence_laws.proofs.OneRootLaws.{found, one_place}
 use Rattle.quiescence_laws.proofs.OpenLaws.{IsOpen}
 use Rattle.quiescence_laws.proofs.OrderLaws.{in_order, open_is_seen}
 

@@ -32,7 +32,7 @@ use Rattle.quiesce_core.proofs.AlterLaws.{reconfigured}
 use Rattle.quiesce_core.proofs.InductionLaws.{IsNext, place, further, along}
 use Rattle.quiesce_core.proofs.RunLaws.{fronts_are_runs}
 use Rattle.quiescence_laws.proofs.OpenLaws.{IsGoing, going}
-use Rattle.quiescence_laws.proofs.Stillness.{Concerns, IsStill, not_busy, none_called, none_begun, opening_bars, still_next}
+use Rattle.quiescence_laws.proofs.StillLaws.{Concerns, IsStill, not_busy, none_called, none_begun, opening_bars, still_next}
 
 pub still_if : (s : State) (n : ℕ) → Settled s n → IsStill s n
 still_if s n h = record {

@@ -6,3 +6,6 @@ mod Sighted
 mod Marked
 mod AsLinked
 mod Telling
+mod NotingTables
+mod NextTables
+mod BareTables

@@ -8,8 +8,8 @@ use Rattle.gate_records.specs.Entries.{config_of, event_in, events_in}
 use Rattle.gate_records.specs.Notes.{found_next}
 use Rattle.gate_records.specs.declared.entry.Entry.{Entry}
 use Rattle.gate_records.specs.declared.entry.Entry.TheVariants.{Scanned}
-use Rattle.record_tables.specs.Records.{IsTableOf, bare, note_of}
-use Rattle.record_tables.specs.Tabled.{Tabled}
+use Rattle.txn_gate.specs.TablesOf.{IsTableOf, bare, note_of}
+use Rattle.txn_gate.specs.Tabled.{Tabled}
 use Rattle.txn_gate.proofs.Sighted.{config_seen}
 
 pub marked_config : (r : List Entry) (begins moved : Bool) → config_of (r ++ Scanned begins moved ∷ []) ≡ config_of r

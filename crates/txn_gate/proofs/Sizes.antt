@@ -28,9 +28,10 @@ use Rattle.quiesce_core.specs.declared.event.Event.TheVariants.{Close, Reopen, M
 use Rattle.gate_rule.specs.Steps.{IsChange, Seat, noted}
 use Rattle.gate_rule.specs.Views.{change_of, new_seat, newest, notes, of_node, unknown, without_seat}
 use Rattle.gate_rule.specs.declared.view.ChangeView.{ChangeView}
-use Rattle.record_tables.specs.Records.{IsTableOf}
-use Rattle.record_tables.specs.Tabled.{Tabled}
-use Rattle.record_tables.proofs.NextLaws.{config_did, config_looked, room_of}
+use Rattle.txn_gate.specs.TablesOf.{IsTableOf}
+use Rattle.txn_gate.specs.Tabled.{Tabled}
+use Rattle.gate_records.proofs.EntryLaws.{config_did, config_looked}
+use Rattle.txn_gate.proofs.NextTables.{room_of}
 use Rattle.txn_gate.specs.Calls.{made_node}
 
 -- an event that makes no node, or a look: as many nodes and ports

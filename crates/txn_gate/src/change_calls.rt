@@ -23,13 +23,13 @@ use crate::change_seat::ChangeSeat;
 use crate::gates::Gates;
 use crate::node_seat::NodeSeat;
 use crate::plays::Names;
+use crate::record_tables::RecordTables;
 use crate::steps::{AnySeat, Words};
 use crate::{change_steps, steps};
 use config_graph::{MAX_NODES, MAX_PORTS, Made, NoMemory, Node, Target};
 use gate_records::Look;
 use gate_word::{CLOSED, SlotWord};
 use port_gate::unknown;
-use record_tables::RecordTables;
 use std::alloc::Global;
 use std::marker::Brand;
 

@@ -9,11 +9,11 @@ ghost use Rattle.gate_rule.specs.Steps.{IsChange};
 ghost use Rattle.gate_rule.specs.Views.{change_of};
 ghost use Rattle.quiesce_core.specs.Rules.{is_live_port};
 ghost use Rattle.quiesce_core.specs.State.{is_live, target};
-ghost use Rattle.record_tables.specs.Records.{IsTableOf};
+ghost use Rattle.txn_gate.specs.TablesOf.{IsTableOf};
 
+use crate::record_tables::RecordTables;
 use crate::steps::AnySeat;
 use config_graph::{Made, Target};
-use record_tables::RecordTables;
 
 /// The change's seat: its steps at the gates are the change's events, looks and sights. Contracts see its record of
 /// them (`change_in`). Each node that was made got its seat.

@@ -1,4 +1,4 @@
-use Rattle.quiescence_laws.proofs.RootsSeen.{open_root_is_seen}
+use Rattle.quiescence_laws.proofs.RootsSeenLaws.{open_root_is_seen}
 use Rattle.quiescence_laws.proofs.roots.open_roots_are_seen.Goals as goal
 
 pub returns : goal.returns

@@ -1,4 +1,4 @@
-use Rattle.quiescence_laws.proofs.OneRoot.{one_root, rooted}
+use Rattle.quiescence_laws.proofs.OneRootLaws.{one_root, rooted}
 use Rattle.quiescence_laws.proofs.roots.transactions_have_one_root.Goals as goal
 
 pub returns : goal.returns

@@ -7,7 +7,7 @@ use Rattle.quiesce_core.specs.Words.{slot_fields_of}
 use Rattle.std.proofs.Common.{◌∙◌, ◌∷◌, length, refl, sym, ap}
 use Rattle.gate_records.specs.declared.entry.Entry.TheVariants.{Sighted}
 use Rattle.gate_rule.specs.Views.{change_of, node_of}
-use Rattle.record_tables.proofs.NextLaws.{seen_tables}
+use Rattle.txn_gate.proofs.NextTables.{seen_tables}
 use Rattle.txn_gate.proofs.Sighted.{config_seen, holds_sight, learned, sighted, sighted_run}
 use Rattle.txn_gate.proofs.Sizes.{still_change, still_seats, still_tables, still_within}
 use Rattle.txn_gate.proofs.gates.Gates.sight_in.Goals as goal

@@ -1,3 +1,0 @@
-pub mod BareLaws
-pub mod NotingLaws
-pub mod NextLaws

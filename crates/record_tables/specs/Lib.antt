@@ -1,4 +1,0 @@
-pub mod Notes
-pub mod Tabled
-pub mod Records
-pub mod Inside
