@@ -1,13 +1,13 @@
 -- On a way no root is begun at a port at which services call, and whether they call there stays as it is.
 use Rattle.std.proofs.Common.{◌≡◌, ◌∙◌, ℕ, zero, suc, ◌<◌, true, false, List, [], ◌∷◌, length, None, refl, sym, ap, subst, ⊎_elim, arith}
-use Rattle.std.specs.Prelude.{◌||◌, is_none, fold}
+use Rattle.std.specs.Prelude.{is_none, fold}
 use Rattle.std.specs.List.{cons_option, list_any}
 use Rattle.std.proofs.lemmas.Bool.{and_parts, both_ways, or_cases, or_parts}
 use Rattle.base.proofs.OptionLaws.{None-from_is_none}
 use Rattle.quiesce_core.specs.declared.event.Event.{Event}
 use Rattle.quiesce_core.specs.declared.event.Event.TheVariants as event
 use Rattle.quiesce_core.specs.Rules.{denial}
-use Rattle.quiesce_core.specs.State.{Configuration, State, empty}
+use Rattle.quiesce_core.specs.State.{Configuration, State}
 use Rattle.quiesce_core.proofs.LegalLaws.{legal}
 use Rattle.quiesce_core.proofs.RunLaws.{runs_are_consistent, runs_are_well_formed}
 use Rattle.quiesce_core.proofs.TableLaws.{gate_place}
@@ -16,8 +16,8 @@ use Rattle.quiescence_laws.specs.Events.{is_root_of}
 use Rattle.quiescence_laws.proofs.ExtensionLaws.{extends_next}
 use Rattle.change_script.specs.declared.report.HistoryLine.{HistoryLine}
 use Rattle.change_script.specs.declared.report.HistoryLine.TheVariants as to
-use Rattle.change_law.specs.Members.{Member, events, state_at}
-use Rattle.merge_laws.specs.Guarded.{Left, all_left, can_go, go, is_beyond, is_called_at, is_met, log_of, may_go, may_tell, told, told_state, waits}
+use Rattle.change_law.specs.Members.{Member, events}
+use Rattle.merge_laws.specs.Guarded.{Left, all_left, can_go, go, is_beyond, is_called_at, is_met, may_go, may_tell, told, told_state, waits}
 use Rattle.merge_laws.specs.Merges.{HasRootsApart}
 use Rattle.merge_laws.specs.Ways.{first_event, first_of, members_of, of_line}
 use Rattle.merge_laws.proofs.GoingLemmas.{Sound, does_of, done_is, go_keeps, tells_of, told_is}

@@ -1,6 +1,6 @@
 -- A system of chains, of each of which the next member may be done or not. Where what may be done stays so until it is done, and two
 -- members may be done in either order, all ways lead to the end if one does.
-use Rattle.std.proofs.Common.{◌≡◌, ◌∙◌, ℕ, zero, suc, ◌+◌, Bool, true, false, ◌&&◌, List, [], ◌∷◌, refl, sym, ap, subst, ⊎_elim, arith}
+use Rattle.std.proofs.Common.{◌≡◌, ℕ, ◌+◌, Bool, true, false, ◌&&◌, List, [], ◌∷◌, sym, subst, ⊎_elim, arith}
 use Rattle.std.specs.Prelude.{fold}
 use Rattle.std.proofs.lemmas.Bool.{and_parts, both_ways, cases_eq}
 

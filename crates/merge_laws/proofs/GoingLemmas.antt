@@ -1,11 +1,10 @@
 -- What may come next stays so until it came, and two members that may come next may come in either order. So whoever lets
 -- come whatever may comes to the end, where one way leads there.
-use Rattle.std.proofs.Common.{◌≡◌, ◌∙◌, ℕ, zero, suc, ◌+◌, ◌<◌, Bool, true, false, cond, not, ◌&&◌, ◌||◌, List, [], ◌∷◌, length, get_or, set, map, find, Option, Some, None, refl, sym, ap, ap₂, subst, ⊎_elim, inl, inr, arith, get_or-set_same, get_or-set_other, length-set}
+use Rattle.std.proofs.Common.{◌≡◌, ◌∙◌, ℕ, zero, suc, ◌+◌, ◌<◌, Bool, true, false, cond, not, ◌&&◌, ◌||◌, List, [], ◌∷◌, length, get_or, set, Option, Some, None, refl, sym, ap, ap₂, subst, ⊎_elim, arith, get_or-set_other}
 use Rattle.std.specs.Prelude.{◌==◌, nat_le, nat_lt, is_none, is_some, fold}
 use Rattle.std.specs.List.{list_any}
 use Rattle.std.specs.Option.{option_map_or}
-use Rattle.std.proofs.lemmas.Bool.{and_from, and_parts, both_ways, cases_Bool, cases_eq, cases_lt, eqb-true, eq-eqb, false_from_ne_true, lt-ltb, not-true, not_from_false, or_cases, or_from, or_left, or_parts, or_right}
-use Rattle.std.proofs.lemmas.List.{ext_get_or}
+use Rattle.std.proofs.lemmas.Bool.{and_from, and_parts, both_ways, eqb-true, eq-eqb, false_from_ne_true, lt-ltb, not-true, or_cases, or_from, or_left, or_parts, or_right}
 use Rattle.std.proofs.lemmas.Option.{same_Some}
 use Rattle.base.proofs.OptionLaws.{None-from_is_none, map_or_true}
 use Rattle.config_graph.specs.Kinds.{depends_on, is_depended_on}
@@ -13,9 +12,8 @@ use Rattle.config_graph.proofs.KindLaws.{depended_if}
 use Rattle.config_graph.specs.declared.node.Node.{Node}
 use Rattle.gate_word.specs.Phases.{is_idle}
 use Rattle.quiesce_core.specs.declared.event.Event.{Event}
-use Rattle.quiesce_core.specs.declared.event.Event.TheVariants.{Begin, Call, Take, Give, End, More, Ask, Hear, Miss, Close, Reopen, Make, Link, Unlink, Remove}
+use Rattle.quiesce_core.specs.declared.event.Event.TheVariants.{Begin, Call, End, Close, Reopen, Make, Link, Unlink, Remove}
 use Rattle.quiesce_core.specs.declared.state.Exchange.{Exchange}
-use Rattle.quiesce_core.specs.declared.state.Gate.{Gate}
 use Rattle.quiesce_core.specs.declared.state.Service.{Service}
 use Rattle.quiesce_core.specs.declared.state.Slot.{Slot}
 use Rattle.quiesce_core.specs.State.{Configuration, State, depends, exchange, gate, is_live, owner, provision, service, slot}
@@ -35,7 +33,7 @@ use Rattle.quiescence_laws.proofs.ExchangeLaws.{PortStep, stays, begins, calls, 
 use Rattle.quiescence_laws.proofs.ExtensionLaws.{extends_next, read_before}
 use Rattle.change_script.specs.declared.report.HistoryLine.{HistoryLine}
 use Rattle.change_script.specs.declared.report.HistoryLine.TheVariants as to
-use Rattle.change_law.specs.Members.{event_of, is_close}
+use Rattle.change_law.specs.Members.{is_close}
 use Rattle.quiesce_swap_laws.specs.Independence.{clashes}
 use Rattle.merge_laws.specs.Guarded.{Left, can_go, amount, closes_before, do_first, go, is_beyond, is_called_at, is_met, is_root_line, left, log_of, may_do, may_do_first, may_go, may_tell, may_tell_first, tell_first, tells, told, told_state, waits}
 use Rattle.merge_laws.proofs.SwapLemmas.{change_and_node, does_still, two_nodes}

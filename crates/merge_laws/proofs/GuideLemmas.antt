@@ -1,9 +1,9 @@
 -- A merge meets the guards.
-use Rattle.std.proofs.Common.{◌≡◌, ◌∙◌, ℕ, ◌+◌, ◌<◌, ◌≤◌, Bool, true, false, cond, not, ◌&&◌, ◌||◌, List, [], ◌∷◌, ◌++◌, append_assoc, append-nil, length, length-append, find, Option, Some, None, All, refl, sym, ap, ap₂, subst, ⊎_elim, inl, inr, arith}
-use Rattle.std.specs.Prelude.{◌==◌, ◌⊎◌, nat_lt, filter, filter_map}
+use Rattle.std.proofs.Common.{◌≡◌, ◌∙◌, ℕ, ◌<◌, ◌≤◌, Bool, true, false, cond, not, ◌&&◌, ◌||◌, List, [], ◌∷◌, ◌++◌, append_assoc, append-nil, length, length-append, Option, Some, None, All, refl, sym, ap, ap₂, subst, ⊎_elim, arith}
+use Rattle.std.specs.Prelude.{◌==◌, nat_lt, filter_map}
 use Rattle.std.specs.List.{list_any}
 use Rattle.std.specs.Option.{option_map_or}
-use Rattle.std.proofs.lemmas.Bool.{and_from, and_parts, both_ways, cases_Bool, eq-eqb, eqb-true, false_from_ne_true, ltb-true, not-true, or_from, or_left, or_parts, or_right}
+use Rattle.std.proofs.lemmas.Bool.{and_from, and_parts, both_ways, eq-eqb, eqb-true, false_from_ne_true, ltb-true, not-true, or_from, or_left, or_parts, or_right}
 use Rattle.std.proofs.lemmas.List.{append_cancel_left}
 use Rattle.std.proofs.lemmas.List.Elements.{filter-append}
 use Rattle.std.proofs.lemmas.List.Folds.{list_any-append}
@@ -31,10 +31,8 @@ use Rattle.quiesce_core.specs.declared.state.Slot.{Slot}
 use Rattle.quiesce_core.specs.State.{owner, slot}
 use Rattle.quiesce_core.specs.WellFormed.{IsSound}
 use Rattle.quiesce_core.proofs.InductionLaws.{along}
-use Rattle.quiesce_core.proofs.PortEventLaws.{next_serial}
-use Rattle.quiesce_core.proofs.RunLaws.{runs_are_well_formed, state_more}
+use Rattle.quiesce_core.proofs.RunLaws.{runs_are_well_formed}
 use Rattle.quiescence_laws.specs.Configurations.{Extends}
-use Rattle.quiescence_laws.specs.Roots.{is_open_root_after}
 use Rattle.quiescence_laws.proofs.ExchangeLaws.{PortStep, stays, begins, calls, ends, port_step}
 use Rattle.quiesce_core.specs.declared.state.Gate.{Gate}
 use Rattle.quiesce_core.specs.Effect.{effect}
@@ -234,11 +232,6 @@ module _ {history : List HistoryLine} {m : List Member} (merge : IsMergeWith his
       let begun : list_any (is_root_of p k) (events y) ≡ true = (and_parts (list_any (is_root_of p k) (events y)) _ (open_root_is_seen (events y) p k run ∙ h)).0 in
       free_roots p k (ap (list_any (is_root_of p k)) (ap events is ∙ events_parts y w) ∙ list_any-append (is_root_of p k) (events y) (events w)
       ∙ or_left (list_any (is_root_of p k) (events y)) (list_any (is_root_of p k) (events w)) begun)
-
-  -- what is left of the lines
-  cut : (x z : List Member) (c r : List HistoryLine) → m ≡ x ++ z → history ≡ c ++ r → lines x ≡ without_roots c → lines z ≡ without_roots r
-  cut x z c r is has same = append_cancel_left (lines x) (lines z) (without_roots r)
-      (sym (lines_parts x z) ∙ sym (ap lines is) ∙ merge.lines_are ∙ ap without_roots has ∙ filter-append (λ l. not (is_root l)) c r ∙ ap (λ ls. ls ++ without_roots r) (sym same))
 
   kinds_of : (x z : List Member) → m ≡ x ++ z → All IsOfItsKind z
   kinds_of x z is = (all_parts IsOfItsKind x z (subst (All IsOfItsKind) is merge.by_nodes)).1

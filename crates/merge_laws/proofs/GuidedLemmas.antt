@@ -1,31 +1,29 @@
 -- A list that is a merge of a report, at each place of which the guards let its next member come, is a way to the end.
-use Rattle.std.proofs.Common.{◌≡◌, ◌∙◌, ℕ, zero, suc, ◌+◌, ◌≤◌, Bool, true, false, cond, not, ◌&&◌, List, [], ◌∷◌, ◌++◌, append_assoc, append-nil, length, get_or, set, Option, Some, None, refl, sym, ap, ap₂, subst, ⊎_elim, arith, get_or-set_same, get_or-set_other}
-use Rattle.std.specs.Prelude.{◌==◌, is_none, fold, filter}
+use Rattle.std.proofs.Common.{◌≡◌, ◌∙◌, ℕ, zero, suc, ◌+◌, ◌≤◌, true, false, cond, not, List, [], ◌∷◌, ◌++◌, append_assoc, append-nil, length, get_or, set, Option, Some, None, refl, sym, ap, subst, ⊎_elim, arith, get_or-set_same, get_or-set_other}
+use Rattle.std.specs.Prelude.{◌==◌, is_none, fold}
 use Rattle.std.specs.List.{cons_option}
 use Rattle.std.specs.Option.{option_map_or}
-use Rattle.std.proofs.lemmas.Bool.{and_from, both_ways, cases_eq, cases_lt, eq-eqb, ne_eqb}
+use Rattle.std.proofs.lemmas.Bool.{and_from, cases_eq, cases_lt, eq-eqb, ne_eqb}
 use Rattle.std.proofs.lemmas.List.{get_or_past}
 use Rattle.std.proofs.lemmas.List.Elements.{filter-append}
 use Rattle.base.proofs.PlaceLaws.{heads_are, tails_are}
 use Rattle.quiesce_core.specs.declared.event.Event.{Event}
 use Rattle.quiesce_core.specs.declared.event.Event.TheVariants as event
-use Rattle.quiesce_core.specs.State.{State, empty, exchange, gate}
-use Rattle.quiesce_core.specs.Doers.{is_of_change}
+use Rattle.quiesce_core.specs.State.{State}
 use Rattle.quiesce_core.specs.Effect.{effect}
 use Rattle.quiesce_core.specs.Rules.{denial}
 use Rattle.quiesce_core.specs.Runs.{IsRun, doer, done_by, done_from, is_doer, state_after}
 use Rattle.quiesce_core.proofs.InductionLaws.{IsNext, place}
 use Rattle.quiesce_core.proofs.LegalLaws.{allowed}
 use Rattle.quiesce_core.proofs.RunLaws.{doer_there, runs_are_consistent, runs_are_well_formed, state_more}
-use Rattle.quiescence_laws.specs.Drained.{is_drained}
 use Rattle.change_script.specs.declared.report.HistoryLine.{HistoryLine}
 use Rattle.change_script.specs.declared.report.HistoryLine.TheVariants as to
 use Rattle.change_law.specs.Members.{Member, by_node, of_history, event_of, events, is_root, lines, state_at, without_roots}
 use Rattle.change_law.proofs.MemberLaws.{events_parts, lines_parts}
-use Rattle.merge_laws.specs.Guarded.{Left, all_left, amount, can_go, do_first, go, is_called_at, is_met, left, may_do, may_do_first, may_go, may_tell, told, told_state, waits}
+use Rattle.merge_laws.specs.Guarded.{Left, all_left, amount, can_go, do_first, go, is_met, left, may_do, may_do_first, may_go, may_tell, told, told_state}
 use Rattle.merge_laws.specs.Guided.{Guided}
 use Rattle.merge_laws.proofs.ConfluenceLemmas as confluence
-use Rattle.merge_laws.proofs.GoingLemmas.{May, Sound, go_keeps, go_to, go_leaves_less, go_stays, go_swaps, may_if}
+use Rattle.merge_laws.proofs.GoingLemmas.{Sound, go_keeps, go_to, go_leaves_less, go_stays, go_swaps, may_if}
 
 -- what is left leads to the end
 abbrev pub Finds : Left → Type 0

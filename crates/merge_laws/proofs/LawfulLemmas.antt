@@ -1,9 +1,7 @@
 -- The list of a lawful report is a merge with its history.
-use Rattle.std.proofs.Common.{◌≡◌, ◌∙◌, ℕ, true, List, [], ◌∷◌, ◌++◌, append-nil, refl, sym, subst}
+use Rattle.std.proofs.Common.{◌≡◌, ℕ, true, List, [], ◌∷◌, ◌++◌, append-nil, sym, subst}
 use Rattle.base.specs.Each.{Each}
 use Rattle.base.proofs.EachLaws.{each_at}
-use Rattle.quiesce_core.specs.declared.event.Event.{Event}
-use Rattle.quiesce_core.specs.declared.event.Event.TheVariants as event
 use Rattle.quiesce_core.specs.State.{gate}
 use Rattle.quiesce_core.specs.Runs.{IsRun, state_after}
 use Rattle.quiesce_core.proofs.RunLaws.{fronts_are_runs}
@@ -11,7 +9,7 @@ use Rattle.change_script.specs.declared.report.HistoryLine.{HistoryLine}
 use Rattle.change_script.specs.declared.report.HistoryLine.TheVariants as to
 use Rattle.change_script.specs.declared.report.Report.{Report}
 use Rattle.change_law.specs.Lawful.{IsLawfulBy, StoodOpen, StoodOpenWhereSaid}
-use Rattle.change_law.specs.Members.{Member, of_history, events, state_at}
+use Rattle.change_law.specs.Members.{Member, of_history, events}
 use Rattle.change_law.specs.Statements.{Statement}
 use Rattle.change_law.proofs.MemberLaws.{events_parts}
 use Rattle.merge_laws.specs.Merges.{IsMergeWith, StandsOpen}

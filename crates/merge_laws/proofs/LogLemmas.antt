@@ -1,26 +1,24 @@
 -- The logs of a lawful report, by slots: there is one for each node made, and what a node that wasn't made does is nothing.
-use Rattle.std.proofs.Common.{◌≡◌, ◌∙◌, ℕ, zero, suc, ◌+◌, ◌<◌, ◌≤◌, Bool, true, false, cond, ◌&&◌, List, [], ◌∷◌, ◌++◌, length, map, get_or, Option, Some, None, All, refl, sym, ap, subst, ⊎_elim, arith}
-use Rattle.std.specs.Prelude.{◌==◌, filter, filter_map, slice_get, not}
+use Rattle.std.proofs.Common.{◌≡◌, ◌∙◌, ℕ, ◌<◌, ◌≤◌, true, false, cond, ◌&&◌, List, [], ◌∷◌, ◌++◌, length, map, get_or, Option, Some, None, refl, sym, ap, subst, ⊎_elim, arith}
+use Rattle.std.specs.Prelude.{◌==◌, filter, filter_map}
 use Rattle.std.specs.List.{cons_option, range_with_len}
 use Rattle.std.proofs.lemmas.Bool.{and_parts, both_ways, cases_Bool, cases_lt, eqb-true}
 use Rattle.std.proofs.lemmas.List.{append-nil, get_or-map, get_or_past, length-map}
 use Rattle.std.proofs.lemmas.List.Elements.{filter_map-append}
 use Rattle.std.proofs.lemmas.List.FromFn.{get_or-range_with_len, length-range_with_len}
-use Rattle.std.proofs.lemmas.Option.{get_or_from_slice_get, slice_get_within}
+use Rattle.std.proofs.lemmas.Option.{slice_get_within}
 use Rattle.base.proofs.PlaceLaws.{slice_get-there}
 use Rattle.base.proofs.RisingLaws.{places_more}
 use Rattle.component_trait.specs.States.{NodeState}
-use Rattle.config_graph.specs.declared.node.Target.{Target}
-use Rattle.gate_word.proofs.PhaseLaws.{asked_busy}
 use Rattle.quiesce_core.specs.declared.event.Event.{Event}
-use Rattle.quiesce_core.specs.declared.event.Event.TheVariants.{Begin, Call, Take, Give, End, More, Ask, Hear, Miss, Close, Reopen, Make, Link, Unlink, Remove}
+use Rattle.quiesce_core.specs.declared.event.Event.TheVariants.{Begin, Call, End, Ask, Miss, Close, Reopen, Make, Link, Unlink, Remove}
 use Rattle.quiesce_core.specs.declared.state.Slot.{Slot}
 use Rattle.quiesce_core.specs.State.{Configuration, State, is_live, owner, slot}
 use Rattle.quiesce_core.specs.Alters.{nodes_next}
 use Rattle.quiesce_core.specs.Doers.{is_of_change, is_of_owner}
 use Rattle.quiesce_core.specs.Effect.{effect}
 use Rattle.quiesce_core.specs.Legal.{Legal}
-use Rattle.quiesce_core.specs.Rules.{has_room, is_live_port}
+use Rattle.quiesce_core.specs.Rules.{is_live_port}
 use Rattle.quiesce_core.specs.Runs.{IsRun, done_by, is_doer, state_after}
 use Rattle.quiesce_core.specs.WellFormed.{IsWellFormed}
 use Rattle.quiesce_core.proofs.AlterLaws.{reconfigured}
@@ -34,8 +32,8 @@ use Rattle.change_script.specs.declared.report.Last.{Last}
 use Rattle.change_script.specs.declared.report.NodeLog.{NodeLog}
 use Rattle.change_script.specs.declared.report.Report.{Report}
 use Rattle.change_law.specs.Endings.{moved_to}
-use Rattle.change_law.specs.Lawful.{EndsAs, IsFolded, IsLawfulBy, IsLogIn, IsOfItsKind}
-use Rattle.change_law.specs.Members.{Member, event_of, events, is_root, lines, made_slot, without_roots}
+use Rattle.change_law.specs.Lawful.{EndsAs, IsFolded, IsLawfulBy}
+use Rattle.change_law.specs.Members.{Member, event_of, events, made_slot}
 use Rattle.change_law.specs.Opening.{fold_of_node}
 use Rattle.change_law.specs.Statements.{Statement}
 use Rattle.change_law.proofs.MemberLaws.{changes_are_lines, events_without_roots}
@@ -129,9 +127,6 @@ unmade_do_nothing n es run = always (λ xs. length (state_after xs).config.slots
 -- ---- the logs of a lawful report
 
 module _ (statements : List Statement) (report : Report) (m : List Member) (lawful : IsLawfulBy statements report m) where
-  slot_of : NodeLog → ℕ
-  slot_of l = l.slot
-
   slots_are : map (λ (l : NodeLog). l.slot) report.logs ≡ slots (state_after (events m))
   slots_are =
       lawful.merge.one_log_a_node

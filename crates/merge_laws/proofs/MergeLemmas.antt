@@ -1,6 +1,6 @@
 -- A way to the end is a merge: its members' events are a run, its lines are the history's, and each log is what its node does.
-use Rattle.std.proofs.Common.{◌≡◌, ◌∙◌, ℕ, zero, suc, ◌+◌, Bool, true, false, cond, not, ◌&&◌, List, [], ◌∷◌, ◌++◌, append_assoc, append-nil, length, get_or, set, Option, Some, None, All, refl, sym, ap, ap₂, subst, ⊎_elim, arith, get_or-set_same, get_or-set_other}
-use Rattle.std.specs.Prelude.{◌==◌, is_none, fold, option_map}
+use Rattle.std.proofs.Common.{◌≡◌, ◌∙◌, ℕ, zero, suc, ◌+◌, Bool, true, false, cond, not, List, [], ◌∷◌, ◌++◌, append-nil, length, get_or, set, Option, Some, None, All, refl, sym, ap, subst, ⊎_elim, arith, get_or-set_same, get_or-set_other}
+use Rattle.std.specs.Prelude.{◌==◌, is_none, fold}
 use Rattle.std.specs.List.{cons_option, list_all}
 use Rattle.std.specs.Option.{option_map_or}
 use Rattle.std.proofs.lemmas.Bool.{and_from, and_parts, both_ways, cases_Bool, cases_eq, eqb-true, ne_eqb}
@@ -16,7 +16,7 @@ use Rattle.change_script.specs.declared.report.HistoryLine.{HistoryLine}
 use Rattle.change_script.specs.declared.report.HistoryLine.TheVariants as to
 use Rattle.commit_laws.proofs.MeanwhileLaws.{after_more}
 use Rattle.change_law.specs.Found.{is_drained_at, is_of_its_kind, passes_each}
-use Rattle.change_law.specs.Members.{Member, by_node, of_history, event_of, events, is_root, lines, state_at, without_roots}
+use Rattle.change_law.specs.Members.{Member, by_node, of_history, events, is_root, lines, state_at, without_roots}
 use Rattle.change_law.proofs.MemberLaws.{events_parts}
 use Rattle.merge_laws.specs.Guarded.{Left, all_left, can_go, go, is_met, left, log_of, may_go, may_tell, told, told_state}
 use Rattle.std.proofs.lemmas.Bool.{not-true}
@@ -30,7 +30,7 @@ use Rattle.merge_laws.specs.Telling.{IsTold}
 use Rattle.merge_laws.proofs.OpenRootLemmas.{stands_open}
 use Rattle.merge_laws.specs.Ways.{first_event, first_of, members_of, of_line}
 use Rattle.merge_laws.proofs.GuidedLemmas.{below_of}
-use Rattle.merge_laws.proofs.GoingLemmas.{Does, May, Tells, does_of, done_is, tells_of, told_is}
+use Rattle.merge_laws.proofs.GoingLemmas.{does_of, done_is, tells_of, told_is}
 
 -- ---- its lines are those of the history
 

@@ -1,9 +1,8 @@
 -- On a way to the end each root that is told as open stands open at a place behind all closes, and its port is closed there.
-use Rattle.std.proofs.Common.{◌≡◌, ◌∙◌, ℕ, zero, suc, ◌+◌, Bool, true, false, cond, not, ◌&&◌, ◌||◌, List, [], ◌∷◌, ◌++◌, append_assoc, append-nil, length, Option, Some, None, refl, sym, ap, ap₂, subst, ⊎_elim, arith, length-append}
-use Rattle.std.specs.Prelude.{◌==◌, ◌⊎◌, is_none, is_some, fold, filter}
+use Rattle.std.proofs.Common.{◌≡◌, ◌∙◌, ℕ, zero, suc, Bool, true, false, cond, not, ◌&&◌, ◌||◌, List, [], ◌∷◌, ◌++◌, append_assoc, Option, Some, None, refl, sym, ap, ap₂, subst, ⊎_elim}
+use Rattle.std.specs.Prelude.{◌==◌, is_none, is_some, fold}
 use Rattle.std.specs.List.{cons_option, list_any}
-use Rattle.std.specs.Option.{option_map_or}
-use Rattle.std.proofs.lemmas.Bool.{and_from, and_parts, both_ways, cases_Bool, eq-eqb, eqb-true, not-true, or_from, or_left, or_parts, or_right}
+use Rattle.std.proofs.lemmas.Bool.{and_from, and_parts, both_ways, cases_Bool, eq-eqb, eqb-true, or_from, or_left, or_parts, or_right}
 use Rattle.std.proofs.lemmas.List.Elements.{filter-append}
 use Rattle.std.proofs.lemmas.List.Folds.{list_any-append}
 use Rattle.base.proofs.PlaceLaws.{heads_are, tails_are}
@@ -23,13 +22,13 @@ use Rattle.quiescence_laws.proofs.ExchangeLaws.{PortStep, stays, begins, calls, 
 use Rattle.commit_laws.proofs.MeanwhileLaws.{after_more}
 use Rattle.change_script.specs.declared.report.HistoryLine.{HistoryLine}
 use Rattle.change_script.specs.declared.report.HistoryLine.TheVariants as to
-use Rattle.change_law.specs.Members.{Member, by_node, of_history, event_of, events, is_close, is_root, lines, state_at, without_roots}
+use Rattle.change_law.specs.Members.{Member, by_node, of_history, events, is_close, is_root, lines, state_at, without_roots}
 use Rattle.change_law.proofs.MemberLaws.{events_parts, lines_parts}
-use Rattle.merge_laws.specs.Guarded.{Left, all_left, can_go, closes_before, go, is_met, is_root_line, left, log_of, may_go, may_tell, may_tell_first, tell_first, told, told_state, waits}
+use Rattle.merge_laws.specs.Guarded.{Left, all_left, can_go, closes_before, go, is_met, is_root_line, log_of, may_go, may_tell, may_tell_first, tell_first, told, told_state, waits}
 use Rattle.merge_laws.specs.Merges.{StandsOpen}
 use Rattle.merge_laws.specs.Telling.{IsShutBy, reopens_there}
-use Rattle.merge_laws.proofs.GuideLemmas.{close_stays, told_first}
-use Rattle.merge_laws.proofs.GoingLemmas.{Does, May, Sound, Tells, does_of, done_is, go_keeps, last_message, root_is_busy, tells_of, told_is}
+use Rattle.merge_laws.proofs.GuideLemmas.{told_first}
+use Rattle.merge_laws.proofs.GoingLemmas.{May, Sound, does_of, done_is, go_keeps, last_message, root_is_busy, tells_of, told_is}
 use Rattle.base.proofs.OptionLaws.{None-from_is_none}
 use Rattle.quiesce_core.proofs.RunLaws.{node_events_keep_the_configuration, runs_are_consistent, runs_are_well_formed}
 use Rattle.quiesce_core.proofs.AlterLaws.{reconfigured}

@@ -1,5 +1,5 @@
 -- A reader has no choice, and what it tests of a change is what a change must be.
-use Rattle.std.proofs.Common.{◌≡◌, ◌∙◌, ℕ, ◌≤◌, List, [], ◌∷◌, ◌++◌, append_assoc, append-nil, length, map, refl, sym, ap, subst, inl, inr}
+use Rattle.std.proofs.Common.{◌≡◌, ◌∙◌, ℕ, List, [], ◌∷◌, ◌++◌, append_assoc, append-nil, length, map, refl, sym, ap, subst, inl, inr}
 use Rattle.std.specs.Prelude.{◌⊎◌, ℤ}
 use Rattle.std.proofs.lemmas.List.{append_cancel_left, map-append}
 use Rattle.base.specs.Each.{EachAfter}
@@ -19,7 +19,7 @@ use Rattle.change_script.specs.declared.report.HistoryLine.TheVariants as to
 use Rattle.change_law.specs.Changes.{IsChange, IsCommitted, IsGivenUp, opening_lines, pending_lines, seen_in_all}
 use Rattle.change_law.specs.Follows.{Follows, IsRight, IsStop, Part, lines_of}
 use Rattle.change_law.specs.Members.{lines_of_events}
-use Rattle.change_law.specs.Scene.{AreSeen, Seen, config_after, drained_line}
+use Rattle.change_law.specs.Scene.{AreSeen, config_after, drained_line}
 use Rattle.change_law.specs.Statements.{Statement}
 use Rattle.change_law.proofs.PlanningLaws.{one_plan}
 use Rattle.merge_laws.specs.Descents.{pieces}

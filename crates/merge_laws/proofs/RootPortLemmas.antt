@@ -1,13 +1,12 @@
 -- What a node begins by itself it begins at a port at which no service calls: each kind that wants something has one requirement, and no
 -- provision that depends on it.
-use Rattle.std.proofs.Common.{◌≡◌, ◌∙◌, ℕ, ◌+◌, ◌<◌, Bool, true, false, cond, ◌&&◌, List, [], ◌∷◌, ◌++◌, length, Option, Some, None, refl, sym, ap, ap₂, subst, ⊎_elim, arith}
+use Rattle.std.proofs.Common.{◌≡◌, ◌∙◌, ℕ, ◌+◌, ◌<◌, Bool, true, false, cond, ◌&&◌, List, [], ◌∷◌, ◌++◌, length, Option, Some, None, refl, sym, ap, ap₂, subst, arith}
 use Rattle.std.specs.Prelude.{◌==◌, fold, option_map, option_and_then}
 use Rattle.std.specs.List.{list_any}
 use Rattle.std.specs.Option.{option_map_or}
 use Rattle.std.proofs.lemmas.Bool.{and_parts, both_ways, eq-eqb, eqb-true}
 use Rattle.std.proofs.lemmas.Option.{same_Some}
 use Rattle.base.proofs.OptionLaws.{map_or_true}
-use Rattle.base.proofs.PlaceLaws.{slice_get-below}
 use Rattle.config_graph.specs.Kinds.{is_depended_on, row}
 use Rattle.config_graph.specs.declared.kind.Kind.{Kind}
 use Rattle.config_graph.specs.declared.kind.Kind.TheVariants.{Philosopher, Source, Buffer, Teller, Asker}
@@ -20,15 +19,15 @@ use Rattle.component_trait.proofs.FoldLaws.{fold_keeps_kind, fold_none, where_so
 use Rattle.quiesce_core.specs.declared.event.Event.{Event}
 use Rattle.quiesce_core.specs.declared.event.Event.TheVariants.{Begin}
 use Rattle.quiesce_core.specs.declared.state.Slot.{Slot}
-use Rattle.quiesce_core.specs.State.{Configuration, State, empty, gate, owner, slot}
+use Rattle.quiesce_core.specs.State.{State, empty, gate, owner, slot}
 use Rattle.quiesce_core.specs.Effect.{effect}
 use Rattle.quiesce_core.specs.Runs.{IsRun, done_by, done_from, is_doer, state_after}
-use Rattle.quiesce_core.proofs.InductionLaws.{IsNext, place}
+use Rattle.quiesce_core.proofs.InductionLaws.{place}
 use Rattle.quiesce_core.proofs.RunLaws.{runs_are_well_formed}
 use Rattle.quiesce_core.proofs.TableLaws.{gate_place}
 use Rattle.quiescence_laws.specs.Events.{is_root_of}
 use Rattle.quiescence_laws.proofs.ExtensionLaws.{extends_further}
-use Rattle.quiescence_laws.proofs.OneRootLaws.{StandsIn, found}
+use Rattle.quiescence_laws.proofs.OneRoot.{found}
 use Rattle.change_law.specs.Opening.{argument_of, fold_at, fold_of_node, fold_within}
 use Rattle.merge_laws.specs.Guarded.{is_called_at}
 

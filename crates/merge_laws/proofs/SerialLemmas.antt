@@ -1,26 +1,20 @@
 -- Why a merge meets the guards: serials never fall, an ended root stays ended, and a closed port at which no service calls keeps its serial.
-use Rattle.std.proofs.Common.{◌≡◌, ◌∙◌, ℕ, ◌+◌, ◌≤◌, Bool, true, false, not, ◌&&◌, ◌||◌, List, [], ◌∷◌, ◌++◌, append_assoc, length, refl, sym, ap, subst, arith}
-use Rattle.std.specs.Prelude.{◌==◌, fold}
+use Rattle.std.proofs.Common.{◌≡◌, ◌∙◌, ℕ, ◌≤◌, Bool, true, false, not, ◌||◌, List, [], ◌∷◌, ◌++◌, append_assoc, refl, sym, ap, subst, arith}
+use Rattle.std.specs.Prelude.{◌==◌}
 use Rattle.std.specs.List.{list_any}
 use Rattle.std.proofs.lemmas.Bool.{and_from, and_parts, both_ways, eq-eqb, eqb-true, not-true, or_right}
 use Rattle.quiesce_core.specs.declared.event.Event.{Event}
-use Rattle.quiesce_core.specs.declared.event.Event.TheVariants.{Begin, Call, End, Close}
+use Rattle.quiesce_core.specs.declared.event.Event.TheVariants.{Begin, End}
 use Rattle.quiesce_core.specs.declared.state.Exchange.{Exchange}
-use Rattle.quiesce_core.specs.declared.state.Gate.{Gate}
-use Rattle.quiesce_core.specs.State.{State, exchange, gate, is_live, owner}
+use Rattle.quiesce_core.specs.State.{State, exchange, gate}
 use Rattle.quiesce_core.specs.Effect.{effect}
 use Rattle.quiesce_core.specs.Runs.{IsRun, is_begin_of, is_end_of, state_after}
-use Rattle.quiesce_core.proofs.InductionLaws.{IsNext, along, none_barred, place, unbarred}
-use Rattle.quiesce_core.proofs.RunLaws.{fronts_are_runs}
-use Rattle.quiesce_core.proofs.PortEventLaws.{next_serial}
-use Rattle.quiesce_core.proofs.TableLaws.{gate_place}
+use Rattle.quiesce_core.proofs.InductionLaws.{along, none_barred, place, unbarred}
 use Rattle.quiescence_laws.specs.Events.{is_root_of, reopens}
-use Rattle.quiescence_laws.specs.Roots.{has_root, is_open_root_after}
+use Rattle.quiescence_laws.specs.Roots.{has_root}
 use Rattle.quiescence_laws.proofs.ExchangeLaws.{PortStep, begin_turns, stays, begins, calls, ends, port_step, serials_grow}
 use Rattle.quiescence_laws.proofs.RootLaws.{closed_stays}
-use Rattle.quiescence_laws.proofs.RootsSeenLaws.{open_root_is_seen}
-use Rattle.merge_laws.specs.Guarded.{is_called_at}
-use Rattle.merge_laws.proofs.GoingLemmas.{call_is_there, called_alike}
+use Rattle.quiescence_laws.proofs.RootsSeen.{open_root_is_seen}
 
 -- serials never fall in a run
 serials_rise : (a b : List Event) (p : ℕ) → IsRun (a ++ b) → (exchange (state_after a) p).serial ≤ (exchange (state_after (a ++ b)) p).serial

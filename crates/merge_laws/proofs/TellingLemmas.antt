@@ -1,5 +1,5 @@
 -- A history that follows a script tells of each port that it closes, before it is reopened, and tells a root only of one.
-use Rattle.std.proofs.Common.{◌≡◌, ◌∙◌, ℕ, zero, suc, ◌+◌, ◌<◌, ◌≤◌, Bool, true, false, ◌||◌, cond, List, [], ◌∷◌, ◌++◌, append_assoc, length, map, refl, sym, ap, subst, ⊎_elim, inl, inr, arith}
+use Rattle.std.proofs.Common.{◌≡◌, ◌∙◌, ℕ, ◌+◌, ◌<◌, ◌≤◌, Bool, true, false, ◌||◌, cond, List, [], ◌∷◌, ◌++◌, append_assoc, length, map, refl, sym, ap, subst, ⊎_elim, inl, inr, arith}
 use Rattle.std.specs.Prelude.{◌==◌, ◌⊎◌, ℤ, filter_map}
 use Rattle.std.specs.List.{count_by, list_any}
 use Rattle.std.specs.List.Sorted.{IsStrictlyIncreasing}
@@ -15,20 +15,20 @@ use Rattle.base.proofs.PlaceLaws.{tails_are}
 use Rattle.config_graph.specs.Graph.{Graph}
 use Rattle.change_plan.specs.declared.plan_data.Move.{Move}
 use Rattle.change_plan.specs.declared.plan_data.Plan.{Plan}
-use Rattle.commit_laws.specs.Steps.{change_all, is_shaping, live_ports}
+use Rattle.commit_laws.specs.Steps.{change_all, live_ports}
 use Rattle.plan_laws.specs.Commit.{ports_to_close}
 use Rattle.quiesce_core.specs.Rules.{is_live_port}
 use Rattle.quiesce_core.specs.State.{Configuration}
 use Rattle.quiesce_core.specs.declared.event.Event.TheVariants as event
 use Rattle.change_script.specs.declared.report.HistoryLine.{HistoryLine}
 use Rattle.change_script.specs.declared.report.HistoryLine.TheVariants as to
-use Rattle.change_law.specs.Changes.{IsChange, IsCommitted, IsGivenUp, commit_lines, drained_lines, opening_lines, pending_lines, seen_in_all}
+use Rattle.change_law.specs.Changes.{IsChange, IsCommitted, IsGivenUp, commit_lines, opening_lines, seen_in_all}
 use Rattle.change_law.specs.Follows.{Follows, IsRight, IsStop, Part, lines_of, skip_lines, start_lines}
 use Rattle.change_law.specs.Members.{event_of, is_close, is_pending, is_root}
 use Rattle.change_law.specs.Scene.{AreSeen, Seen, config_after, drained_line, root_line}
 use Rattle.change_law.specs.Statements.{Statement, start, change, run, finish, show}
 use Rattle.change_law.proofs.MemberLaws.{parted_at}
-use Rattle.change_law.proofs.TestLaws.{counted_some, none_both, none_counted, none_mapped, range_rises, some_counted}
+use Rattle.change_law.proofs.TestLaws.{counted_some, none_both, none_mapped, range_rises, some_counted}
 use Rattle.merge_laws.proofs.ClosingPortLemmas.{closing_rise, config_more, still_to_close}
 use Rattle.merge_laws.specs.Guarded.{tells}
 use Rattle.merge_laws.specs.Telling.{IsShutBy, IsTold, IsToldOf, reopens_there}
