@@ -14,7 +14,7 @@ use Rattle.quiescence_laws.specs.Events.{is_root_of, reopens}
 use Rattle.quiescence_laws.specs.Roots.{has_root}
 use Rattle.quiescence_laws.proofs.ExchangeLaws.{PortStep, begin_turns, stays, begins, calls, ends, port_step, serials_grow}
 use Rattle.quiescence_laws.proofs.RootLaws.{closed_stays}
-use Rattle.quiescence_laws.proofs.RootsSeen.{open_root_is_seen}
+use Rattle.quiescence_laws.proofs.RootsSeenLaws.{open_root_is_seen}
 
 -- serials never fall in a run
 serials_rise : (a b : List Event) (p : ℕ) → IsRun (a ++ b) → (exchange (state_after a) p).serial ≤ (exchange (state_after (a ++ b)) p).serial
