@@ -1,0 +1,8 @@
+use Rattle.std.proofs.Common.{◌∙◌}
+use Rattle.paired_laws.proofs.PairedLaws.{seen_same}
+use Rattle.live_hall.specs.Doors.{missed}
+use Rattle.live_hall.proofs.door.Door.put.Goals as goal
+
+pub returns : goal.returns
+returns g c =
+    seen_same missed c.self.inside.locks.items c.args.node.node.slot c.index_mut.result.now c.put_until.new.lock c.index_mut.ensures.value c.put_until.ensures.same ∙ c.self.view_is

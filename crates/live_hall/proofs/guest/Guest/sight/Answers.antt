@@ -1,0 +1,47 @@
+use Rattle.std.proofs.Common.{◌≡◌, ◌∙◌, ℕ, ◌∷◌, [], ◌++◌, List, map, Some, None, refl, ap, sym, subst}
+use Rattle.std.specs.List.{AllByRecursion}
+use Rattle.gate_records.specs.Entries.{config_of}
+use Rattle.gate_rule.specs.Views.{node_at}
+use Rattle.gate_rule.specs.declared.view.ChangeView.{ChangeView}
+use Rattle.live_hall.specs.Lines.{LinePlace, line_words, seen_word}
+use Rattle.live_hall.specs.Sighting.{IsMadeIn, PastSeen, past_seen}
+use Rattle.live_hall.proofs.LineLaws.{line_with}
+use Rattle.live_hall.proofs.PastLaws.{each_place, hosted_with, made_more, read_off}
+use Rattle.txn_gate.specs.Seats.{node_in, record_of, table_of_node}
+use Rattle.txn_gate.specs.declared.node_seat.NodeSeat.{NodeSeat}
+use Rattle.live_hall.proofs.guest.Guest.sight.Goals as goal
+
+pub invariant_of-self : goal.invariant_of-self
+invariant_of-self c =
+    let x = c.args.self.now.node in
+    let past = c.sight_past.ensures.past in (
+      hosted_with _ _ _ _ _ _ _ _ _ _ x.hosted (read_off (λ p. past_seen p.slot p.first_port p.arg p.log.items p.seat) (λ (p : PastSeen). record { first = p.first; arg = p.arg; log = p.log }) c.sight_past.new.past.items x.past.items past) refl,
+      ((λ k p at. sym p.seat.slot_is ∙ each_place (λ p. past_seen p.slot p.first_port p.arg p.log.items p.seat) (λ (z : PastSeen). z.view.slot ≡ z.slot) c.sight_past.new.past.items x.past.items past (λ j z there. z.seat.slot_is ∙ x.past_slots j z there) k p at), tt),
+    )
+
+pub invariant_of-self-2 : goal.invariant_of-self-2
+invariant_of-self-2 c =
+    let g = c.args.self.now in
+    let x = g.node in
+    let past = c.sight_past.ensures.past in
+    let e = c.sight_in.ensures in (
+      (
+        hosted_with _ _ _ _ _ _ _ _ _ _ x.hosted (read_off (λ p. past_seen p.slot p.first_port p.arg p.log.items p.seat) (λ (p : PastSeen). record { first = p.first; arg = p.arg; log = p.log }) c.sight_past.new.past.items x.past.items past) (λ i. record { slot = e.kept.0 i; known = e.kept.2 i; told = Some (e.node i).log }),
+        ((λ k p at. sym p.seat.slot_is ∙ each_place (λ p. past_seen p.slot p.first_port p.arg p.log.items p.seat) (λ (z : PastSeen). z.view.slot ≡ z.slot) c.sight_past.new.past.items x.past.items past (λ j z there. z.seat.slot_is ∙ x.past_slots j z there) k p at), tt),
+      ),
+      (
+        line_with _ _ _ _ _ _ _ _ g.line (read_off (λ p. past_seen p.slot p.first_port p.arg p.log.items p.seat) (λ (p : PastSeen). seen_word p.view) c.sight_past.new.past.items x.past.items past) (read_off (λ p. past_seen p.slot p.first_port p.arg p.log.items p.seat) (λ (p : PastSeen). record { slot = p.slot; first = p.first; arg = p.arg }) c.sight_past.new.past.items x.past.items past) e.node,
+        (ap node_at e.node ∙ g.at, tt),
+      ),
+    )
+
+pub returns-clause-made : goal.returns-clause-made
+returns-clause-made c =
+    let e = c.sight_in.ensures in
+    made_more (record_of c.args.seat.now) (record_of c.sight_past.new.seat) (map (λ p. node_in p.seat) c.args.self.now.node.past.items) (node_in c.args.self.now.node.seat)
+    (ap (λ (k : ChangeView). k.entries) c.sight_past.ensures.change) c.sight_past.ensures.made (record { made = e.made; unserving = e.removed })
+
+pub returns-clause-tables : goal.returns-clause-tables
+returns-clause-tables c =
+    let past = read_off (λ p. past_seen p.slot p.first_port p.arg p.log.items p.seat) (λ (p : PastSeen). p.table) c.sight_past.new.past.items c.args.self.now.node.past.items c.sight_past.ensures.past in
+    λ i. c.sight_in.ensures.here.1 i ∷ past i

@@ -1,0 +1,4 @@
+pub mod Lines
+pub mod Houses
+pub mod Doors
+pub mod Sighting

@@ -1,0 +1,17 @@
+//! The hall: where nodes lie between their turns, a cell for each slot, which threads share by doors.
+#![tactic(auto)]
+
+mod cell;
+mod door;
+mod guest;
+mod guesting;
+mod hall;
+mod lock;
+mod making;
+mod place;
+
+pub use cell::Named;
+pub use door::Door;
+pub use guest::Guest;
+pub use hall::Hall;
+pub use place::Place;
