@@ -1,5 +1,5 @@
 -- Lemmas on the moves of a part.
-use Rattle.std.proofs.Common.{◌≡◌, ◌∙◌, ◌⊎◌, ◌<◌, ◌≤◌, ◌++◌, ℕ, zero, suc, List, [], ◌∷◌, Some, None, length, take, get_or, refl, ap, sym, subst, inl, inr, arith, Contains, slice_get}
+use Rattle.std.proofs.Common.{◌≡◌, ◌∙◌, ◌<◌, ◌≤◌, ℕ, zero, suc, List, ◌∷◌, Some, length, take, ap, sym, subst, inl, inr, arith, Contains, slice_get}
 use Rattle.std.specs.List.{Any}
 use Rattle.std.proofs.lemmas.List.{get_or-take, length-take-le}
 use Rattle.std.proofs.lemmas.List.Elements.{All-contains}
@@ -8,7 +8,7 @@ use Rattle.base.proofs.ContainsLaws.{Contains-at, at_some_place}
 use Rattle.base.proofs.PlaceLaws.{one_at}
 use Rattle.config_graph.specs.Graph.{Graph, IsGraph, PathsRise}
 use Rattle.config_graph.specs.declared.node.Node.{Node}
-use Rattle.change_plan.specs.Moves.{IsFit, IsGoneAt, MayMove, MayMoveAll, MovesFrom, MovesTo}
+use Rattle.change_plan.specs.Moves.{IsFit, MayMove, MayMoveAll}
 use Rattle.change_plan.specs.Selects.{Selects}
 use Rattle.change_plan.specs.Selects.Selects.{ends, takes, skips}
 use Rattle.change_plan.specs.declared.plan_data.Move.{Move}

@@ -1,10 +1,9 @@
 -- There is one list of parts.
-use Rattle.std.proofs.Common.{◌≡◌, ◌∙◌, ◌⊎◌, ◌≤◌, ◌<◌, ◌++◌, ℕ, zero, suc, List, [], ◌∷◌, length, take, drop, refl, ap, sym, subst, inl, inr, arith, Contains}
-use Rattle.std.proofs.lemmas.Bool.{cases_eq, cases_lt}
+use Rattle.std.proofs.Common.{◌≡◌, ◌∙◌, ◌≤◌, ◌<◌, ◌++◌, ℕ, List, [], ◌∷◌, length, take, refl, ap, sym, subst, inl, inr, arith, Contains}
+use Rattle.std.proofs.lemmas.Bool.{cases_lt}
 use Rattle.base.proofs.OrderedLaws.{one_order}
 use Rattle.config_graph.specs.Cycles.{HasCycle}
 use Rattle.config_graph.specs.Graph.{Graph, IsGraph}
-use Rattle.config_graph.specs.declared.node.Node.{Node}
 use Rattle.config_graph.proofs.GraphByLaws.{one_graph}
 use Rattle.config_graph.proofs.PathLaws.{irreflexive}
 use Rattle.std.specs.Cmp.Lexicographic.{nat_list_cmp_total}
@@ -12,7 +11,7 @@ use Rattle.change_plan.specs.Plans.{IsPlanOf}
 use Rattle.change_plan.specs.declared.plan_data.Move.{Move}
 use Rattle.change_plan.proofs.SelectsLaws.{Selects-one}
 use Rattle.change_plan.proofs.PlanLaws.{one_plan}
-use Rattle.change_parts.specs.Groups.{AreGroups, IsBefore, IsIn}
+use Rattle.change_parts.specs.Groups.{AreGroups, IsBefore}
 use Rattle.change_parts.specs.Parts.{AreParts, ArePartsFrom, HasEndsIn, IsPart}
 use Rattle.change_parts.specs.Parts.ArePartsFrom.{none_left, then_}
 use Rattle.change_parts.specs.Stages.{AreLinkedAfter, IsAfter, IsNodeAfter}

@@ -194,17 +194,6 @@ module _ (old new : Graph) (old_graph : IsGraph old) (new_graph : IsGraph new) (
         gone_listed (stage_after old ps k) p.next p.plan.remove w.part_is.plan_is.steps.remove n ((w.stage_is.nodes_are n).1 (inl (lost.there, λ v. apart k p w n v.0 is_in)))
         (λ there. elim ((w.part_is.leads_to.nodes_are n).0 there) [ inl v ↦ v.1 (is_in, lost) | inr v ↦ v.1.gone lost.there ])
 
-    -- and no others
-    created_in : (k : ℕ) (p : Part) (w : At parts.groups old ps k p) (n : Node) → IsAtOneOf p.next p.plan.create n → In w.taken n
-    created_in k p w n at =
-        let missing = listed_gone p.next (stage_after old ps k) p.plan.create w.part_is.plan_is.steps.create n at in
-        elim ((w.part_is.leads_to.nodes_are n).0 (Contains-at p.next.nodes at.0 n at.2)) [ inl v ↦ absurd (missing v.0) | inr v ↦ v.0 ]
-
-    removed_in : (k : ℕ) (p : Part) (w : At parts.groups old ps k p) (n : Node) → IsAtOneOf (stage_after old ps k) p.plan.remove n → ¬ (¬ In w.taken n)
-    removed_in k p w n at not_in =
-        listed_gone (stage_after old ps k) p.next p.plan.remove w.part_is.plan_is.steps.remove n at
-        ((w.part_is.leads_to.nodes_are n).1 (inl (Contains-at (stage_after old ps k).nodes at.0 n at.2, λ v. not_in v.0)))
-
     -- what goes on from stage to stage
     goes_on : (Q : Graph → Type 0) → ((m : ℕ) (p : Part) → slice_get ps m ≡ Some p → Q (stage_after old ps m) → Q p.next) → (j d : ℕ) → j + d ≤ length ps → Q (stage_after old ps j) → Q (stage_after old ps (j + d))
     goes_on Q step j zero within has = subst (λ m. Q (stage_after old ps m)) (omega arith) has

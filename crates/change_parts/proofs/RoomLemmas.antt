@@ -1,13 +1,13 @@
 -- Lemmas on the room that parts need: together they create no more than the whole change.
-use Rattle.std.proofs.Common.{◌≡◌, ◌∙◌, ◌⊎◌, ◌≤◌, ◌<◌, ◌+◌, ℕ, zero, suc, List, [], ◌∷◌, ◌++◌, Option, Some, None, length, refl, ap, sym, subst, inl, inr, arith, All, Contains, slice_get, filter_map, get_or, append_assoc, length-append}
+use Rattle.std.proofs.Common.{◌≡◌, ◌∙◌, ◌⊎◌, ◌≤◌, ◌<◌, ◌+◌, ℕ, zero, suc, List, [], ◌∷◌, ◌++◌, Option, Some, None, length, refl, ap, sym, subst, inl, inr, arith, Contains, slice_get, filter_map, get_or, append_assoc, length-append}
 use Rattle.std.specs.List.{cons_option, range_with_len, sum_by}
 use Rattle.std.proofs.lemmas.List.FromFn.{get_or-range_with_len, length-range_with_len}
 use Rattle.std.specs.Option.{option_map_or}
 use Rattle.std.specs.Prelude.{AllPairs}
-use Rattle.std.proofs.lemmas.List.Elements.{All-contains, All-cons, Contains-append_cases}
+use Rattle.std.proofs.lemmas.List.Elements.{All-contains, Contains-append_cases}
 use Rattle.std.proofs.lemmas.List.Sums.{sum_by-append, sum_by-cons}
 use Rattle.std.proofs.lemmas.Option.{none-some, slice_get_within}
-use Rattle.base.proofs.ContainsLaws.{Contains-at, Contains-cons_cases, Contains-filter_map, Contains-from_filter_map, Contains-here, Contains-nil, Contains-there, at_some_place}
+use Rattle.base.proofs.ContainsLaws.{Contains-at, Contains-filter_map, Contains-from_filter_map, Contains-here, Contains-nil, Contains-there, at_some_place}
 use Rattle.base.proofs.PlaceLaws.{slice_get-there}
 use Rattle.config_graph.specs.Graph.{Graph, IsGraph, PathsRise, requires_at, requires_of}
 use Rattle.config_graph.specs.Sound.{Sound}
@@ -15,25 +15,22 @@ use Rattle.config_graph.specs.declared.node.Made.{Made}
 use Rattle.config_graph.specs.declared.node.Node.{Node}
 use Rattle.config_graph.specs.declared.TheConstants.{MAX_NODES, MAX_PORTS}
 use Rattle.config_graph.proofs.PathLaws.{one_place}
-use Rattle.change_plan.specs.Applying.{IsAtOneOf}
 use Rattle.change_plan.specs.Differences.{GoneNodes, IsGone}
-use Rattle.change_plan.specs.Moves.{MayMoveAll}
-use Rattle.change_plan.specs.Refusals.{CanPlan, CreatesSoMany}
-use Rattle.change_plan.specs.Room.{HasRoom}
+use Rattle.change_plan.specs.Refusals.{CanPlan}
 use Rattle.change_plan.specs.Selects.{Selects}
 use Rattle.change_plan.specs.Selects.Selects.{ends, takes, skips}
 use Rattle.change_plan.specs.declared.plan_data.Move.{Move}
 use Rattle.change_plan.proofs.SelectsLaws.{Selects-only, Selects-part}
 use Rattle.change_plan.proofs.StepLaws.{gone_listed, listed_gone}
-use Rattle.change_parts.specs.Groups.{AreGroups, IsBefore, IsIn}
-use Rattle.change_parts.specs.Parts.{AreParts, ArePartsFrom, HasEndsIn, IsPart}
+use Rattle.change_parts.specs.Groups.{IsBefore}
+use Rattle.change_parts.specs.Parts.{AreParts, ArePartsFrom, IsPart}
 use Rattle.change_parts.specs.Parts.ArePartsFrom.{none_left, then_}
 use Rattle.change_parts.specs.Stages.{IsAfter}
-use Rattle.change_parts.specs.Ties.{IsCreated, IsRemoved}
+use Rattle.change_parts.specs.Ties.{IsCreated}
 use Rattle.change_parts.specs.declared.part.Part.{Part}
 use Rattle.change_parts.proofs.PartLemmas.{apart_groups, front_rises, next_stage}
 use Rattle.change_parts.proofs.StageLemmas.{first_stage, stage_sound}
-use Rattle.change_parts.specs.Carrying.{CanCarryOut, CanCarryOutAll, made_with}
+use Rattle.change_parts.specs.Carrying.{CanCarryOutAll, made_with}
 use Rattle.change_parts.proofs.MovingLemmas.{part_may_move}
 use Rattle.change_parts.proofs.CountLemmas.{Distinct, distinct_both, sum_within}
 use Rattle.change_parts.proofs.CountLemmas.Distinct.{nil, cons}

@@ -1,5 +1,5 @@
 -- Parts that may be carried out one after the other.
-use Rattle.std.specs.Prelude.{◌≡◌, ◌+◌, ⊤, List, [], ◌∷◌, length, sum_by}
+use Rattle.std.specs.Prelude.{◌+◌, ⊤, List, [], ◌∷◌, length, sum_by}
 use Rattle.config_graph.specs.Graph.{Graph, IsGraph, requires_at}
 use Rattle.config_graph.specs.Sound.{Sound}
 use Rattle.config_graph.specs.declared.node.Made.{Made}
