@@ -120,3 +120,33 @@ fn busy_then_drained(rt: HostRuntime) -> Result<(), Fail> {
     assert!(rt; !change.settled(0) && !change.settled(1));
     Ok(())
 }
+
+/// Sights, marks and what the change learns leave what nodes know and what it tells: a transaction goes on over them.
+#[test]
+fn seen_on_the_way(rt: HostRuntime) -> Result<(), Fail> {
+    let (gates, mut change) = Gates::new(rt.alloc())?;
+    gates.reserve(&mut change, 2)?;
+    let (mut s, mut t) = pipe(rt.alloc(), &gates, &mut change)?;
+    s.begin(&gates, 0, 5)?;
+    gates.sight_in(&mut change, &mut s.seat);
+    gates.mark(&mut change, true, true);
+    t.take(&gates, 0)?;
+    gates.sight_in(&mut change, &mut t.seat);
+    gates.learn(&mut change);
+    t.give(&gates, 0, 1)?;
+    assert_eq!(rt; s.see(&gates, 0)?, SeeAnswer::Answer { value: 1 });
+    s.end(&gates, 0)?;
+    gates.mark(&mut change, false, false);
+    assert!(rt; !change.is_noted(0));
+    close(&gates, &mut change, 0)?;
+    let drained = Look::Drained {
+        serial: 1,
+        idle: true,
+    };
+    assert_eq!(rt; look(&gates, &mut change, 0)?, drained);
+    gates.mark(&mut change, false, false);
+    gates.sight_in(&mut change, &mut s.seat);
+    assert!(rt; change.settled(0) && change.settled(1));
+    assert!(rt; s.seat.slot() == 0 && t.seat.slot() == 1);
+    Ok(())
+}

@@ -138,20 +138,6 @@ fn replace(
     Ok(made)
 }
 
-/// A sight of a node.
-fn sighted(gates: &Gates, change: &mut ChangeSeat, node: Seated) -> Seated
-    requires change { IsChangeSeatOf change.old gates.now }
-    requires node { IsSeatOf node.seat gates.now }
-    ensures change { table_of_change change.new ≡ table_of_change change.old }
-    ensures node { table_of_node result.seat ≡ table_of_node node.seat }
-{
-    let Seated { kind, seat } = node;
-    Seated {
-        kind,
-        seat: gates.sight(change, seat),
-    }
-}
-
 /// A transaction of the source and the new sink.
 fn exchange(rt: &impl Abort, gates: &Gates, s: &mut Seated, u: &mut Seated) -> Result<(), Unfit>
     requires source { IsSeatOf s.old.seat gates.now }
@@ -228,10 +214,10 @@ fn replaced(rt: HostRuntime) -> Result<(), Fail> {
     let sink = node(alloc, b"t", Kind::Sink, None)?;
     let (gates, mut change) = Gates::new(alloc)?;
     gates.reserve(&mut change, 3)?;
-    let (mut s, t) = open_two(&gates, &mut change, &source, &sink)?;
-    let u = replace(&rt, &gates, &mut change, &source, &sink, &sink)?;
-    let t = sighted(&gates, &mut change, t);
-    let mut u = sighted(&gates, &mut change, u);
+    let (mut s, mut t) = open_two(&gates, &mut change, &source, &sink)?;
+    let mut u = replace(&rt, &gates, &mut change, &source, &sink, &sink)?;
+    gates.sight_in(&mut change, &mut t.seat);
+    gates.sight_in(&mut change, &mut u.seat);
     exchange(&rt, &gates, &mut s, &mut u)?;
     collect_removed(&gates, &mut change, t)?;
     finish_three(&gates, &mut change, s, u)?;
