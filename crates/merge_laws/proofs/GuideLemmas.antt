@@ -43,11 +43,11 @@ use Rattle.merge_laws.specs.Guided.{Guided}
 use Rattle.merge_laws.proofs.GoingLemmas.{call_is_there}
 use Rattle.change_script.specs.declared.report.HistoryLine.{HistoryLine}
 use Rattle.change_script.specs.declared.report.HistoryLine.TheVariants as to
-use Rattle.change_law.specs.Lawful.{IsDrainedAt, IsOfItsKind}
+use Rattle.change_law.specs.Lawful.{IsDrainedAt, IsOfItsKind, StoodOpen}
 use Rattle.change_law.specs.Members.{Member, by_node, of_history, event_of, events, is_close, is_root, lines, state_at, without_roots}
 use Rattle.change_law.proofs.MemberLaws.{AtLine, all_parts, at_line, events_parts, lines_parts, none_happens, parted_at}
 use Rattle.merge_laws.specs.Guarded.{closes_before, is_beyond, is_called_at, is_met, is_root_line, tells, told, waits}
-use Rattle.merge_laws.specs.Merges.{HasRootsApart, IsMergeWith, StandsOpen}
+use Rattle.merge_laws.specs.Merges.{HasRootsApart, IsMergeWith}
 use Rattle.merge_laws.specs.Telling.{IsShutBy, IsTold, IsToldOf, reopens_there}
 use Rattle.merge_laws.proofs.SerialLemmas.{ended_for_good, none_begins_closed, not_beyond}
 
@@ -245,13 +245,13 @@ module _ {history : List HistoryLine} {m : List Member} (merge : IsMergeWith his
       and_from (is_drained (state_at x) p) ((exchange (state_at x) p).serial == k) w.0 (eq-eqb (exchange (state_at x) p).serial k w.1)
 
   -- behind that place
-  later_is : (c g : List HistoryLine) (x d : List Member) (p k : ℕ) (s : StandsOpen m (c ++ g) p k) → lines x ≡ without_roots c → x ≡ s.front ++ d → s.later ≡ lines d ++ without_roots g
+  later_is : (c g : List HistoryLine) (x d : List Member) (p k : ℕ) (s : StoodOpen m (c ++ g) p k) → lines x ≡ without_roots c → x ≡ s.front ++ d → s.later ≡ lines d ++ without_roots g
   later_is c g x d p k s same is = append_cancel_left (lines s.front) s.later (lines d ++ without_roots g)
       (s.place ∙ filter-append (λ l. not (is_root l)) c g ∙ ap (λ ls. ls ++ without_roots g) (sym same ∙ ap lines is ∙ lines_parts s.front d)
       ∙ append_assoc (lines s.front) (lines d) (without_roots g))
 
   -- and the port isn't reopened there before the root is told
-  later_shut : (c r : List HistoryLine) (p k : ℕ) → history ≡ c ++ to.Root p k ∷ r → (s : StandsOpen m c p k) → list_any (reopens_there p) s.later ≡ false
+  later_shut : (c r : List HistoryLine) (p k : ℕ) → history ≡ c ++ to.Root p k ∷ r → (s : StoodOpen m c p k) → list_any (reopens_there p) s.later ≡ false
   later_shut c r p k has s = ⊎_elim
       (λ (w : (t : List HistoryLine) × (lines s.front ≡ without_roots by.front ++ to.Close p ∷ t)).
       let same : without_roots by.between ≡ w.0 ++ s.later = append_cancel_left (without_roots by.front ++ to.Close p ∷ []) (without_roots by.between) (w.0 ++ s.later)
@@ -297,7 +297,7 @@ module _ {history : List HistoryLine} {m : List Member} (merge : IsMergeWith his
 
   -- nor beyond a root that is told
   before_root : (x z : List Member) (e : Event) (c r : List HistoryLine) (p j k : ℕ) → m ≡ x ++ by_node e ∷ z → history ≡ c ++ r → lines x ≡ without_roots c
-      → is_begin_of p j e ≡ true → (w : Found p r (to.Root p k)) → ((s : StandsOpen m (c ++ w.between) p k) (d : List Member) → x ≡ s.front ++ d → ⊥) → nat_lt k j ≡ false
+      → is_begin_of p j e ≡ true → (w : Found p r (to.Root p k)) → ((s : StoodOpen m (c ++ w.between) p k) (d : List Member) → x ≡ s.front ++ d → ⊥) → nat_lt k j ≡ false
   before_root x z e c r p j k is has same begun w never =
       let whole : history ≡ (c ++ w.between) ++ to.Root p k ∷ w.later = has ∙ ap (λ ls. c ++ ls) w.parts ∙ sym (append_assoc c w.between (to.Root p k ∷ w.later)) in
       let s = merge.open_roots (c ++ w.between) w.later p k whole in
@@ -311,7 +311,7 @@ module _ {history : List HistoryLine} {m : List Member} (merge : IsMergeWith his
       (parted_at x (by_node e) z s.front s.rest (sym is ∙ s.parts)))
 
   not_told_beyond : (x z : List Member) (e : Event) (c r : List HistoryLine) (p j : ℕ) → m ≡ x ++ by_node e ∷ z → history ≡ c ++ r → lines x ≡ without_roots c
-      → is_begin_of p j e ≡ true → ((k : ℕ) (w : Found p r (to.Root p k)) (s : StandsOpen m (c ++ w.between) p k) (d : List Member) → x ≡ s.front ++ d → ⊥)
+      → is_begin_of p j e ≡ true → ((k : ℕ) (w : Found p r (to.Root p k)) (s : StoodOpen m (c ++ w.between) p k) (d : List Member) → x ≡ s.front ++ d → ⊥)
       → (o : Option HistoryLine) → told p r ≡ o → is_beyond j o ≡ false
   not_told_beyond x z e c r p j is has same begun never None at = refl
   not_told_beyond x z e c r p j is has same begun never (Some (to.Drained q k)) at = before_drained x z e c r p j q k is has same begun (found_told p r (to.Drained q k) at)
@@ -451,7 +451,7 @@ module _ {history : List HistoryLine} {m : List Member} (merge : IsMergeWith his
       whole = has ∙ ap (λ ls. c ++ to.Close p ∷ ls) (t.parts ∙ ap (λ l. t.between ++ l ∷ t.later) (line_is ∙ ap (λ i. to.Root i k) is_p))
           ∙ sym (append_assoc c (to.Close p ∷ t.between) (to.Root p k ∷ t.later))
 
-      s : StandsOpen m (c ++ to.Close p ∷ t.between) p k
+      s : StoodOpen m (c ++ to.Close p ∷ t.between) p k
       s = merge.open_roots (c ++ to.Close p ∷ t.between) t.later p k whole
 
   met_at : (x z : List Member) (p : ℕ) (c r : List HistoryLine) → m ≡ x ++ of_history (to.Close p) ∷ z → history ≡ c ++ to.Close p ∷ r → lines x ≡ without_roots c
@@ -476,7 +476,7 @@ module _ {history : List HistoryLine} {m : List Member} (merge : IsMergeWith his
       by : IsShutBy p c
       by = telling.roots p k c r has
 
-      s : StandsOpen m c p k
+      s : StoodOpen m c p k
       s = merge.open_roots c r p k has
 
       plain : lines x ≡ without_roots by.front ++ to.Close p ∷ without_roots by.between

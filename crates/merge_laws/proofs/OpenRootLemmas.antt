@@ -22,10 +22,10 @@ use Rattle.quiescence_laws.proofs.ExchangeLaws.{PortStep, stays, begins, calls, 
 use Rattle.commit_laws.proofs.MeanwhileLaws.{after_more}
 use Rattle.change_script.specs.declared.report.HistoryLine.{HistoryLine}
 use Rattle.change_script.specs.declared.report.HistoryLine.TheVariants as to
+use Rattle.change_law.specs.Lawful.{StoodOpen}
 use Rattle.change_law.specs.Members.{Member, by_node, of_history, events, is_close, is_root, lines, state_at, without_roots}
 use Rattle.change_law.proofs.MemberLaws.{events_parts, lines_parts}
 use Rattle.merge_laws.specs.Guarded.{Left, all_left, can_go, closes_before, go, is_met, is_root_line, log_of, may_go, may_tell, may_tell_first, tell_first, told, told_state, waits}
-use Rattle.merge_laws.specs.Merges.{StandsOpen}
 use Rattle.merge_laws.specs.Telling.{IsShutBy, reopens_there}
 use Rattle.merge_laws.proofs.GuideLemmas.{told_first}
 use Rattle.merge_laws.proofs.GoingLemmas.{May, Sound, does_of, done_is, go_keeps, last_message, root_is_busy, tells_of, told_is}
@@ -361,7 +361,7 @@ module _ (history : List HistoryLine) (logs : List (List Event)) (cs : List ℕ)
       ∙ ap (λ s. fold effect (effect s (event.Close p)) (events on.since)) (state_along at.first x at.can_first)
       ∙ ap (λ s. fold effect s (events on.since)) (sym state_is)
 
-  pub stands_open : StandsOpen (members_of (all_left history logs) cs) c p k
+  pub stands_open : StoodOpen (members_of (all_left history logs) cs) c p k
   stands_open = record {
     front = members_of x at.first ++ of_history (to.Close p) ∷ on.since;
     rest = on.rest;

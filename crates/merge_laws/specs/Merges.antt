@@ -5,26 +5,12 @@ use Rattle.std.specs.List.{list_any}
 use Rattle.base.specs.Each.{Each}
 use Rattle.quiesce_core.specs.declared.event.Event.{Event}
 use Rattle.quiesce_core.specs.Runs.{IsRun, done_by}
-use Rattle.quiesce_core.specs.State.{gate}
 use Rattle.quiescence_laws.specs.Events.{is_root_of}
-use Rattle.quiescence_laws.specs.Roots.{has_root}
 use Rattle.change_script.specs.declared.report.HistoryLine.{HistoryLine}
 use Rattle.change_script.specs.declared.report.HistoryLine.TheVariants as to
-use Rattle.change_law.specs.Lawful.{IsDrainedAt, IsOfItsKind}
-use Rattle.change_law.specs.Members.{Member, events, is_close, lines, state_at, without_roots}
+use Rattle.change_law.specs.Lawful.{IsDrainedAt, IsOfItsKind, StoodOpen}
+use Rattle.change_law.specs.Members.{Member, events, lines, state_at, without_roots}
 use Rattle.merge_laws.specs.Guarded.{is_called_at}
-
--- Root k of port p stands open, and the port closed, at a place behind all closes of the change and before the line that
--- says so.
-pub record StandsOpen (m : List Member) (before : List HistoryLine) (p k : ℕ) : Type 0 where
-  pub front : List Member
-  pub rest : List Member
-  pub later : List HistoryLine
-  pub parts : m ≡ front ++ rest
-  pub place : lines front ++ later ≡ without_roots before
-  pub behind_closes : list_any is_close later ≡ false
-  pub open_there : has_root (state_at front) p k ≡ true
-  pub closed_there : (gate (state_at front).config p).closed ≡ true
 
 pub record IsMergeWith (history : List HistoryLine) (m : List Member) : Type 0 where
   -- its events are a run of the change machine
@@ -36,7 +22,7 @@ pub record IsMergeWith (history : List HistoryLine) (m : List Member) : Type 0 w
   -- what is said to be drained is so, with the serial that is said
   pub drained : Each IsDrainedAt m
   -- and what is said to be open stands open
-  pub open_roots : (c r : List HistoryLine) (p k : ℕ) → history ≡ c ++ to.Root p k ∷ r → StandsOpen m c p k
+  pub open_roots : (c r : List HistoryLine) (p k : ℕ) → history ≡ c ++ to.Root p k ∷ r → StoodOpen m c p k
 
 -- each root was begun at a port at which no service calls
 abbrev pub HasRootsApart : List Member → Type 0
