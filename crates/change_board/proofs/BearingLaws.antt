@@ -5,15 +5,15 @@ use Rattle.std.specs.List.{cons_option}
 use Rattle.std.proofs.lemmas.Bool.{both_ways}
 use Rattle.base.specs.Each.{EachAfter}
 use Rattle.change_law.specs.Members.{event_of, line_of}
-use Rattle.change_script.specs.declared.report.HistoryLine.{HistoryLine}
-use Rattle.change_script.specs.declared.report.HistoryLine.TheVariants as to
+use Rattle.report_types.specs.declared.report.HistoryLine.{HistoryLine}
+use Rattle.report_types.specs.declared.report.HistoryLine.TheVariants as to
 use Rattle.quiesce_core.specs.declared.event.Event.{Event}
 use Rattle.quiesce_core.specs.declared.event.Event.TheVariants.{Begin, Call, Take, Give, End, More, Ask, Hear, Miss, Close, Reopen, Make, Link, Unlink, Remove}
 use Rattle.change_board.specs.Bearing.{Bears, IsBorne}
-use Rattle.gate_records.specs.Entries.{event_in, events_in}
-use Rattle.gate_records.specs.declared.entry.Entry.{Entry}
-use Rattle.gate_records.specs.declared.entry.Entry.TheVariants.{Did, Looked, Sighted, Scanned}
-use Rattle.gate_records.specs.Looks.{is_drained_word, serial_of}
+use Rattle.txn_records.specs.Entries.{event_in, events_in}
+use Rattle.txn_records.specs.declared.entry.Entry.{Entry}
+use Rattle.txn_records.specs.declared.entry.Entry.TheVariants.{Did, Looked, Sighted, Scanned}
+use Rattle.txn_records.specs.Looks.{is_drained_word, serial_of}
 use Rattle.change_board.specs.Transcripts.{Item, silent, told, said, entries, lines, tells}
 
 no_line : (l : HistoryLine) (e : Event) → None ≡ Some l → Some e ≡ event_of l

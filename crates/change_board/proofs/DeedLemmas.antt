@@ -9,11 +9,11 @@ use Rattle.config_graph.specs.declared.TheConstants.{MAX_NODES, MAX_PORTS}
 use Rattle.config_graph.specs.declared.node.Node.{Node}
 use Rattle.quiesce_core.specs.declared.event.Event.{Event}
 use Rattle.quiesce_core.specs.declared.event.Event.TheVariants.{Make}
-use Rattle.gate_records.specs.Entries.{config_of}
-use Rattle.gate_records.specs.declared.entry.Entry.{Entry}
-use Rattle.gate_records.specs.declared.entry.Entry.TheVariants.{Did}
+use Rattle.txn_records.specs.Entries.{config_of}
+use Rattle.txn_records.specs.declared.entry.Entry.{Entry}
+use Rattle.txn_records.specs.declared.entry.Entry.TheVariants.{Did}
 use Rattle.change_board.specs.Making.{Makes}
-use Rattle.gate_records.specs.Records.{Adds, May}
+use Rattle.txn_records.specs.Records.{Adds, May}
 use Rattle.change_board.specs.Sights.{sight_entry}
 use Rattle.change_board.specs.Doing.{DoesEvents}
 use Rattle.change_board.specs.Steps.{Deed, MayDoAll, deed_entries, entries_of, events_of}

@@ -8,17 +8,17 @@ use Rattle.std.proofs.lemmas.List.{append-nil}
 use Rattle.std.proofs.lemmas.List.Elements.{filter_map-append}
 use Rattle.std.proofs.lemmas.List.Folds.{list_any-append}
 use Rattle.std.proofs.lemmas.List.Sums.{fold_push}
-use Rattle.commit_laws.specs.Steps.{IsNoted, MayStep, MayStepAll, change_all}
+use Rattle.quiesce_commit_laws.specs.Steps.{IsNoted, MayStep, MayStepAll, change_all}
 use Rattle.quiesce_core.specs.declared.event.Event.{Event}
 use Rattle.quiesce_core.specs.declared.event.Event.TheVariants.{Begin, Call, Take, Give, End, More, Ask, Hear, Miss, Close, Reopen, Make, Link, Unlink, Remove}
 use Rattle.quiesce_core.specs.Effect.{change_next}
 use Rattle.quiesce_core.specs.State.{Configuration, empty, owner}
-use Rattle.quiescence_laws.specs.Events.{reopens}
-use Rattle.gate_records.specs.Entries.{config_of, event_in, events_in}
-use Rattle.gate_records.specs.declared.entry.Entry.{Entry}
-use Rattle.gate_records.specs.declared.entry.Entry.TheVariants.{Did}
-use Rattle.gate_records.specs.Notes.{found_next, is_found_drained, is_never_reopened, is_noted}
-use Rattle.gate_records.specs.Records.{May}
+use Rattle.quiesce_laws.specs.Events.{reopens}
+use Rattle.txn_records.specs.Entries.{config_of, event_in, events_in}
+use Rattle.txn_records.specs.declared.entry.Entry.{Entry}
+use Rattle.txn_records.specs.declared.entry.Entry.TheVariants.{Did}
+use Rattle.txn_records.specs.Notes.{found_next, is_found_drained, is_never_reopened, is_noted}
+use Rattle.txn_records.specs.Records.{May}
 use Rattle.change_board.specs.Sights.{Sight, sight_entry}
 use Rattle.change_board.specs.Steps.{Deed, MayDoAll, deed_entries, gates_come_last, is_turning}
 

@@ -3,14 +3,14 @@ use Rattle.std.specs.Prelude.{◌≡◌, ◌≤◌, ℕ, ◌+◌, Bool, true, fa
 use Rattle.std.specs.List.{count_by, list_all, list_any}
 use Rattle.base.specs.Each.{Each}
 use Rattle.change_law.specs.Members.{event_of, is_close, is_root}
-use Rattle.change_script.specs.declared.report.HistoryLine.{HistoryLine}
-use Rattle.change_script.specs.declared.report.HistoryLine.TheVariants as to
-use Rattle.gate_word.specs.Words.{has_root, unpack}
+use Rattle.report_types.specs.declared.report.HistoryLine.{HistoryLine}
+use Rattle.report_types.specs.declared.report.HistoryLine.TheVariants as to
+use Rattle.quiesce_word.specs.Words.{has_root, unpack}
 use Rattle.quiesce_core.specs.Rules.{is_live_port}
-use Rattle.gate_records.specs.Entries.{config_of, event_in}
-use Rattle.gate_records.specs.declared.entry.Entry.{Entry}
-use Rattle.gate_records.specs.declared.entry.Entry.TheVariants.{Looked, Scanned}
-use Rattle.gate_records.specs.Looks.{serial_of}
+use Rattle.txn_records.specs.Entries.{config_of, event_in}
+use Rattle.txn_records.specs.declared.entry.Entry.{Entry}
+use Rattle.txn_records.specs.declared.entry.Entry.TheVariants.{Looked, Scanned}
+use Rattle.txn_records.specs.Looks.{serial_of}
 use Rattle.change_board.specs.Transcripts.{Item, silent, told, said, entries, lines, tells}
 
 -- whether an entry is a look at this port, and one that loaded a root of this serial

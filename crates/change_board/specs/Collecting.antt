@@ -3,14 +3,14 @@ use Rattle.std.specs.Prelude.{◌≡◌, ℕ, Bool, false, not, ◌==◌, List, 
 use Rattle.std.specs.List.{range_with_len}
 use Rattle.std.specs.Option.{option_map_or}
 use Rattle.change_law.specs.Lawful.{EndsAs}
-use Rattle.change_script.specs.declared.report.NodeLog.{NodeLog}
+use Rattle.report_types.specs.declared.report.NodeLog.{NodeLog}
 use Rattle.quiesce_core.specs.State.{Configuration}
 use Rattle.quiesce_core.specs.declared.event.Event.{Event}
 use Rattle.quiesce_core.specs.declared.state.Slot.{Slot}
 use Rattle.change_board.specs.declared.board.Collected.{Collected}
-use Rattle.gate_records.specs.Entries.{config_of}
-use Rattle.gate_records.specs.declared.entry.Entry.{Entry}
-use Rattle.gate_records.specs.Records.{Adds}
+use Rattle.txn_records.specs.Entries.{config_of}
+use Rattle.txn_records.specs.declared.entry.Entry.{Entry}
+use Rattle.txn_records.specs.Records.{Adds}
 use Rattle.change_board.specs.Scans.{live_nodes}
 use Rattle.change_board.specs.Sights.{Sight, fold_seen, is_seen_done, sight_entry}
 

@@ -1,7 +1,7 @@
 -- Events of a change, done on a board one after the other.
 use Rattle.std.specs.Prelude.{◌≡◌, List}
 use Rattle.quiesce_core.specs.declared.event.Event.{Event}
-use Rattle.gate_records.specs.Records.{Adds}
+use Rattle.txn_records.specs.Records.{Adds}
 use Rattle.change_board.specs.declared.board.Board.{Ghosts as BoardWords}
 use Rattle.change_board.specs.Steps.{Deed, entries_of, events_of}
 

@@ -2,9 +2,9 @@
 use Rattle.std.specs.Prelude.{ℕ, List, ◌∷◌, ◌++◌, map, length, Option}
 use Rattle.config_graph.specs.declared.node.Node.{Node}
 use Rattle.quiesce_core.specs.declared.event.Event.TheVariants as event
-use Rattle.gate_records.specs.Entries.{config_of}
-use Rattle.gate_records.specs.declared.entry.Entry.{Entry}
-use Rattle.gate_records.specs.declared.entry.Entry.TheVariants.{Did}
+use Rattle.txn_records.specs.Entries.{config_of}
+use Rattle.txn_records.specs.declared.entry.Entry.{Entry}
+use Rattle.txn_records.specs.declared.entry.Entry.TheVariants.{Did}
 use Rattle.change_board.specs.Sights.{Sight, sight_entry}
 
 -- the event, in the slot that comes next, and sights that a board made of nodes that it handed over

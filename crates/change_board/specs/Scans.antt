@@ -4,11 +4,11 @@ use Rattle.std.specs.List.{list_all, range_with_len, sum_by}
 use Rattle.quiesce_core.specs.Rules.{is_live_port}
 use Rattle.quiesce_core.specs.State.{Configuration, is_live}
 use Rattle.change_board.specs.declared.board.Scan.{Scan}
-use Rattle.gate_records.specs.Entries.{config_of}
-use Rattle.gate_records.specs.declared.entry.Entry.{Entry}
-use Rattle.gate_records.specs.declared.entry.Entry.TheVariants.{Looked, Scanned}
-use Rattle.gate_records.specs.Looks.{ended_in_word, is_idle_word}
-use Rattle.gate_records.specs.Records.{Adds}
+use Rattle.txn_records.specs.Entries.{config_of}
+use Rattle.txn_records.specs.declared.entry.Entry.{Entry}
+use Rattle.txn_records.specs.declared.entry.Entry.TheVariants.{Looked, Scanned}
+use Rattle.txn_records.specs.Looks.{ended_in_word, is_idle_word}
+use Rattle.txn_records.specs.Records.{Adds}
 use Rattle.change_board.specs.Sights.{Sight, is_seen_done, seen_in, sight_entry}
 
 -- a port with the word that a look at it loaded

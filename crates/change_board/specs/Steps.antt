@@ -4,9 +4,9 @@ use Rattle.std.specs.List.{list_all}
 use Rattle.std.specs.Option.{option_map_or}
 use Rattle.quiesce_core.specs.declared.event.Event.{Event}
 use Rattle.quiesce_core.specs.declared.event.Event.TheVariants.{Close, Reopen, Make}
-use Rattle.gate_records.specs.declared.entry.Entry.{Entry}
-use Rattle.gate_records.specs.declared.entry.Entry.TheVariants.{Did}
-use Rattle.gate_records.specs.Records.{May}
+use Rattle.txn_records.specs.declared.entry.Entry.{Entry}
+use Rattle.txn_records.specs.declared.entry.Entry.TheVariants.{Did}
+use Rattle.txn_records.specs.Records.{May}
 use Rattle.change_board.specs.Sights.{Sight, sight_entry}
 
 -- by the record that those before it have added to
@@ -30,7 +30,7 @@ pub record Room : Type 0 where
   pub nodes : ℕ
   pub sources : ℕ
 
-pub record HasRoom (room : Room) (from : Option ℕ) : Type 0 where
+pub record HasRoomToMake (room : Room) (from : Option ℕ) : Type 0 where
   pub node : 0 < room.nodes
   pub source : option_map_or (λ k. nat_lt k room.sources) from true ≡ true
 
@@ -43,7 +43,7 @@ room_after room (Make n node from) = less_one room
 room_after room _ = room
 
 abbrev pub HasRoomToDo : Room → Event → Type 0
-HasRoomToDo room (Make n node from) = HasRoom room from
+HasRoomToDo room (Make n node from) = HasRoomToMake room from
 HasRoomToDo room _ = ⊤
 
 -- there is memory for each node that these events make

@@ -1,11 +1,11 @@
 -- Transcripts: entries of a board's record and lines of a history in one order, since some are both.
 use Rattle.std.specs.Prelude.{List, filter_map, Option, Some, None, if◌then◌else◌}
 use Rattle.change_law.specs.Members.{line_of}
-use Rattle.change_script.specs.declared.report.HistoryLine.{HistoryLine}
-use Rattle.change_script.specs.declared.report.HistoryLine.TheVariants as to
-use Rattle.gate_records.specs.declared.entry.Entry.{Entry}
-use Rattle.gate_records.specs.declared.entry.Entry.TheVariants.{Did, Looked, Sighted, Scanned}
-use Rattle.gate_records.specs.Looks.{is_drained_word, serial_of}
+use Rattle.report_types.specs.declared.report.HistoryLine.{HistoryLine}
+use Rattle.report_types.specs.declared.report.HistoryLine.TheVariants as to
+use Rattle.txn_records.specs.declared.entry.Entry.{Entry}
+use Rattle.txn_records.specs.declared.entry.Entry.TheVariants.{Did, Looked, Sighted, Scanned}
+use Rattle.txn_records.specs.Looks.{is_drained_word, serial_of}
 
 -- an entry of which the history says nothing, one that it tells, and a line that is no entry
 pub data Item : Type 0 where

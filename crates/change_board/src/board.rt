@@ -5,18 +5,18 @@ ghost use Rattle.config_graph.specs.declared.TheConstants.{MAX_NODES};
 ghost use Rattle.quiesce_core.specs.declared.event.Event.{Event};
 ghost use Rattle.quiesce_core.specs.declared.event.Event.TheVariants as event;
 ghost use Rattle.change_board.specs.Collecting.{Collects};
-ghost use Rattle.gate_records.specs.Entries.{config_of};
-ghost use Rattle.gate_records.specs.declared.entry.Entry.{Entry};
-ghost use Rattle.gate_records.specs.declared.entry.Entry.TheVariants.{Did};
+ghost use Rattle.txn_records.specs.Entries.{config_of};
+ghost use Rattle.txn_records.specs.declared.entry.Entry.{Entry};
+ghost use Rattle.txn_records.specs.declared.entry.Entry.TheVariants.{Did};
 ghost use Rattle.change_board.specs.Looking.{AddsLook};
 ghost use Rattle.change_board.specs.Making.{Makes};
-ghost use Rattle.gate_records.specs.Records.{Adds, AreAllNoted, IsRecord, IsRecordCut, May};
+ghost use Rattle.txn_records.specs.Records.{Adds, AreAllNoted, IsRecord, IsRecordCut, May};
 ghost use Rattle.change_board.specs.Scans.{AddsScan};
-ghost use Rattle.change_board.specs.Steps.{HasRoom, Room, less_one};
+ghost use Rattle.change_board.specs.Steps.{HasRoomToMake, Room, less_one};
 
-use change_script::NodeLog;
 use config_graph::{List, NoMemory, Node};
-use gate_records::Look;
+use report_types::NodeLog;
+use txn_records::Look;
 
 /// What a scan found.
 #[derive(Clone, Copy, Debug, PartialEq, Eq)]
@@ -110,7 +110,7 @@ pub trait Board {
     fn make(&mut self, node: Node, from: Option<u32>)
         requires may { (r : List Entry) × stands_for self.old r
             × May r (event.Make (length (config_of r).slots) node from) }
-        requires room { HasRoom (room self.old) from }
+        requires room { HasRoomToMake (room self.old) from }
         ensures board { Makes stands_for self.old self.new node from }
         ensures room { room self.new ≡ less_one (room self.old) };
 

@@ -3,14 +3,14 @@
 ghost use Rattle.std.specs.Prelude.{◌≡◌, ◌<◌, ℕ, Bool, List, Some, filter_map, length, IsTrue, Option};
 ghost use Rattle.change_law.specs.Members.{event_of};
 ghost use Rattle.change_law.specs.Opening.{fold_of_node};
-ghost use Rattle.change_script.specs.declared.report.HistoryLine.{HistoryLine};
-ghost use Rattle.commit_laws.specs.Steps.{MayStepAll};
+ghost use Rattle.report_types.specs.declared.report.HistoryLine.{HistoryLine};
+ghost use Rattle.quiesce_commit_laws.specs.Steps.{MayStepAll};
 ghost use Rattle.quiesce_core.specs.declared.event.Event.{Event};
 ghost use Rattle.quiesce_core.specs.Runs.{done_by, state_after};
 ghost use Rattle.change_board.specs.Bearing.{Bears};
-ghost use Rattle.gate_records.specs.Entries.{config_of, events_in};
-ghost use Rattle.gate_records.specs.declared.entry.Entry.{Entry};
-ghost use Rattle.gate_records.specs.Notes.{is_noted};
+ghost use Rattle.txn_records.specs.Entries.{config_of, events_in};
+ghost use Rattle.txn_records.specs.declared.entry.Entry.{Entry};
+ghost use Rattle.txn_records.specs.Notes.{is_noted};
 ghost use Rattle.change_board.specs.Sights.{fold_seen};
 ghost use Rattle.change_board.specs.Steps.{MayDoAll, gates_come_last};
 

@@ -3,10 +3,10 @@
 ghost use Rattle.std.specs.Prelude.{◌≡◌, List, [], ◌∷◌, Option};
 ghost use Rattle.quiesce_core.specs.declared.event.Event.{Event};
 ghost use Rattle.quiesce_core.specs.declared.event.Event.TheVariants as event;
-ghost use Rattle.gate_records.specs.declared.entry.Entry.{Entry};
-ghost use Rattle.gate_records.specs.Records.{May};
+ghost use Rattle.txn_records.specs.declared.entry.Entry.{Entry};
+ghost use Rattle.txn_records.specs.Records.{May};
 ghost use Rattle.change_board.specs.Doing.{DoesEvents};
-ghost use Rattle.change_board.specs.Steps.{HasRoomForAll, HasRoom, HasRoomToDo, MayDoAll, less_one, room_after};
+ghost use Rattle.change_board.specs.Steps.{HasRoomForAll, HasRoomToMake, HasRoomToDo, MayDoAll, less_one, room_after};
 
 use crate::board::Board;
 use config_graph::Node;
@@ -15,7 +15,7 @@ use quiesce_core::Event;
 /// Makes a node in the next slot, which is this one.
 fn make_in<B: Board>(board: &mut B, slot: u32, node: Node, from: Option<u32>)
     requires may { (r : List Entry) × B.stands_for board.old r × May r (event.Make slot node from) }
-    requires room { HasRoom (B.room board.old) from }
+    requires room { HasRoomToMake (B.room board.old) from }
     ensures board { DoesEvents B.Board board.old board.new (event.Make slot node from ∷ []) }
     ensures room { B.room board.new ≡ less_one (B.room board.old) }
 {

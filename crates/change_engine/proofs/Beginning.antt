@@ -8,7 +8,7 @@ use Rattle.std.proofs.lemmas.List.Folds.{list_any-append}
 use Rattle.config_graph.specs.Graph.{Graph, ports, target_of}
 use Rattle.config_graph.specs.declared.node.Port.{Port}
 use Rattle.config_graph.specs.declared.node.Target.{Target}
-use Rattle.commit_laws.specs.Steps.{IsNoted, MayStep, MayStepAll}
+use Rattle.quiesce_commit_laws.specs.Steps.{IsNoted, MayStep, MayStepAll}
 use Rattle.quiesce_core.specs.declared.event.Event.{Event}
 use Rattle.quiesce_core.specs.declared.event.Event.TheVariants.{Begin, Call, Take, Give, End, More, Ask, Hear, Miss, Close, Reopen, Make, Link, Unlink, Remove}
 use Rattle.quiesce_core.specs.Doers.{is_of_change}
@@ -19,7 +19,7 @@ use Rattle.quiesce_core.specs.State.{State, owner}
 use Rattle.quiesce_core.proofs.LegalLaws.{legal}
 use Rattle.quiesce_core.proofs.RunLaws.{effect_config, runs_are_well_formed, runs_grow, state_more}
 use Rattle.quiesce_core.proofs.SettledLaws.{settled_if}
-use Rattle.quiescence_laws.specs.Starts.{link_of, make_of, reopen_of, start_of}
+use Rattle.quiesce_laws.specs.Starts.{link_of, make_of, reopen_of, start_of}
 use Rattle.change_board.specs.Steps.{MayDoAll, gates_come_last, is_turning}
 use Rattle.change_board.proofs.StepLaws.{may_do_all}
 use Rattle.change_engine.proofs.ItemLaws.{all_mapped, start_is_of_change}

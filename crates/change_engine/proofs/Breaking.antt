@@ -2,11 +2,11 @@
 use Rattle.std.proofs.Common.{◌≡◌, ℕ, ◌<◌, List, [], ◌∷◌, ◌++◌, append_assoc, length, ap, ◌∙◌, subst, inl, inr, arith, Result, Ok, Err}
 use Rattle.std.specs.Prelude.{◌⊎◌, OnErr}
 use Rattle.std.proofs.lemmas.List.Elements.{filter_map-append}
-use Rattle.change_script.specs.declared.report.HistoryLine.{HistoryLine}
-use Rattle.change_script.specs.declared.report.HistoryLine.TheVariants as to
-use Rattle.gate_records.specs.Entries.{event_in, events_in}
-use Rattle.gate_records.specs.declared.entry.Entry.{Entry}
-use Rattle.gate_records.specs.Records.{Adds}
+use Rattle.report_types.specs.declared.report.HistoryLine.{HistoryLine}
+use Rattle.report_types.specs.declared.report.HistoryLine.TheVariants as to
+use Rattle.txn_records.specs.Entries.{event_in, events_in}
+use Rattle.txn_records.specs.declared.entry.Entry.{Entry}
+use Rattle.txn_records.specs.Records.{Adds}
 use Rattle.change_board.specs.Transcripts.{entries, lines}
 use Rattle.change_engine.specs.Breaking.{BrokeInRound, BrokeInRun, BrokeInScan, BrokeInStop}
 use Rattle.change_engine.specs.Growing.{BrokeOff, Grew, telling}

@@ -1,27 +1,26 @@
 -- An engine whose change is open.
-use Rattle.std.proofs.Common.{◌≡◌, ◌≤◌, ◌<◌, ◌+◌, ℕ, true, false, List, [], ◌∷◌, ◌++◌, length, map, Option, Some, None, get_or, refl, sym, ap, ◌∙◌, subst, ⊎_elim, arith}
+use Rattle.std.proofs.Common.{◌≡◌, ◌≤◌, ◌<◌, ◌+◌, ℕ, true, false, List, [], ◌∷◌, ◌++◌, length, map, Option, Some, None, get_or, refl, sym, ap, ◌∙◌, subst, ⊎_elim, arith, vec_len}
 use Rattle.std.specs.Prelude.{IfErr, IfOk, OnOk, Result, Ok, Err, flat_map}
 use Rattle.std.specs.Global.{Vec}
 use Rattle.std.specs.Vec.{vec_capacity}
-use Rattle.std.proofs.Common.{vec_len}
 use Rattle.std.proofs.lemmas.List.{append-nil, get_or-map, length-map, same_lists}
 use Rattle.std.proofs.lemmas.List.Elements.{All-head, All-tail}
 use Rattle.std.proofs.lemmas.Option.{same_Some}
 use Rattle.change_plan.specs.Refusals.{CanPlan}
 use Rattle.change_plan.specs.declared.plan_data.Move.{Move}
 use Rattle.change_plan.specs.declared.plan_data.Plan.{Plan}
-use Rattle.change_script.specs.declared.report.HistoryLine.{HistoryLine}
-use Rattle.change_script.specs.declared.report.HistoryLine.TheVariants as to
+use Rattle.report_types.specs.declared.report.HistoryLine.{HistoryLine}
+use Rattle.report_types.specs.declared.report.HistoryLine.TheVariants as to
 use Rattle.change_law.specs.Members.{lines_of_events}
-use Rattle.commit_laws.specs.Commits.{Differ}
-use Rattle.commit_laws.specs.Lists.{Apart, In}
-use Rattle.commit_laws.specs.Steps.{change_all}
-use Rattle.commit_laws.proofs.MemberLaws.{select, select_apart}
-use Rattle.commit_laws.proofs.TurningLaws.{SameLinks, live_port, same_graph, same_turned}
+use Rattle.quiesce_commit_laws.specs.Commits.{Differ}
+use Rattle.quiesce_commit_laws.specs.Lists.{Apart, In}
+use Rattle.quiesce_commit_laws.specs.Steps.{change_all}
+use Rattle.quiesce_commit_laws.proofs.MemberLaws.{select, select_apart}
+use Rattle.quiesce_commit_laws.proofs.TurningLaws.{SameLinks, live_port, same_graph, same_turned}
 use Rattle.config_graph.specs.Graph.{Graph}
 use Rattle.config_graph.specs.declared.node.Port.{Port}
-use Rattle.plan_laws.specs.Commit.{commit_events, is_one_of, ports_to_close}
-use Rattle.plan_laws.specs.Committing.{made_in}
+use Rattle.change_plan_laws.specs.Commit.{commit_events, is_one_of, ports_to_close}
+use Rattle.change_plan_laws.specs.Committing.{made_in}
 use Rattle.quiesce_core.specs.Effect.{with_closed}
 use Rattle.quiesce_core.specs.Live.{IsGraphOf}
 use Rattle.quiesce_core.specs.Rules.{is_live_port}
@@ -29,11 +28,11 @@ use Rattle.quiesce_core.specs.State.{Configuration, fresh_gate, gate, owner}
 use Rattle.quiesce_core.specs.WellFormed.{IsSound}
 use Rattle.quiesce_core.specs.declared.event.Event.TheVariants as event
 use Rattle.quiesce_core.specs.declared.state.Slot.{Slot}
-use Rattle.gate_records.specs.Entries.{config_of, events_in}
-use Rattle.gate_records.specs.declared.entry.Entry.{Entry}
-use Rattle.gate_records.specs.declared.entry.Entry.TheVariants.{Did}
-use Rattle.gate_records.specs.Notes.{is_noted}
-use Rattle.gate_records.specs.Records.{IsRecord}
+use Rattle.txn_records.specs.Entries.{config_of, events_in}
+use Rattle.txn_records.specs.declared.entry.Entry.{Entry}
+use Rattle.txn_records.specs.declared.entry.Entry.TheVariants.{Did}
+use Rattle.txn_records.specs.Notes.{is_noted}
+use Rattle.txn_records.specs.Records.{IsRecord}
 use Rattle.change_board.specs.Steps.{HasRoomForAll, Deed, MayDoAll, Room, events_of}
 use Rattle.change_board.specs.Transcripts.{Item, entries, lines, said}
 use Rattle.change_board.proofs.StepLaws.{config_more}
@@ -43,7 +42,7 @@ use Rattle.change_engine.specs.Calls.{HasAbandoned, HasBrokenOff, HasCommitted, 
 use Rattle.change_engine.specs.Draining.{Waits, WhereNoMemory, WherePending, left_lines, pending_items, root_item, root_line}
 use Rattle.change_engine.specs.declared.draining.PassError.{PassError}
 use Rattle.change_engine.specs.declared.draining.PassError.TheVariants.{NoMemory, Pending}
-use Rattle.change_engine.specs.Engines.{HasPlace, IsFor, IsOpen, IsPrepared, IsReadyToCommit, IsTold, Tells}
+use Rattle.change_engine.specs.Engines.{HasPlace, IsFor, IsOpen, IsPrepared, IsReadyToCommit, IsLaidOut, Tells}
 use Rattle.change_engine.specs.Growing.{Grew, telling}
 use Rattle.change_lists.specs.Layouts.{IsLayoutOf, place_in, port_of}
 use Rattle.change_engine.specs.Leaving.{IsRootLeft}
@@ -97,7 +96,7 @@ same_laid l c d g same h = record {
         ∙ ap (λ n. record { node = n; require = (gate d k).require }) (same.owners k) ∙ ap (λ r. record { node = owner c k; require = r }) (same.requirements k)
         ∙ sym (get_or-map port_of c.gates k fresh_gate x under)
 
-pub same_told : (l : Layout) (g : Graph) (c d : Configuration) → SameLinks c d → IsSound d → IsTold l g c → IsTold l g d
+pub same_told : (l : Layout) (g : Graph) (c d : Configuration) → SameLinks c d → IsSound d → IsLaidOut l g c → IsLaidOut l g d
 same_told l g c d same sound h = record { laid = same_laid l c d g same h.laid; graph = same_graph c d g same h.graph; sound = sound }
 
 same_made : (c d : Configuration) → SameLinks c d → made_in c ≡ made_in d
@@ -132,7 +131,7 @@ done_events deeds l =
     ap events_in (entries_both (flat_map deed_items deeds) (said l ∷ []) ∙ append-nil (entries (flat_map deed_items deeds)) ∙ carried_entries deeds) ∙ deeds_events deeds
 
 module _ {B : Type 0} (W : BoardWords B) (runs : (b : B) (r : List Entry) → W.stands_for b r → IsRecord r) (e : Engine B) where
-  told : (t : List Item) → Tells W e t → IsTold e.layout e.graph (config_of (entries t))
+  told : (t : List Item) → Tells W e t → IsLaidOut e.layout e.graph (config_of (entries t))
   told t h = record { laid = h.layout; graph = h.graph; sound = record_sound (entries t) (runs e.board (entries t) h.board) }
 
   -- the change that is open

@@ -4,12 +4,12 @@ use Rattle.std.specs.Prelude.{IfOk, Result, Ok, Err}
 use Rattle.std.specs.List.{AllByRecursion, range_with_len}
 use Rattle.base.specs.Each.{Each}
 use Rattle.change_law.specs.Endings.{status_of}
-use Rattle.change_script.specs.declared.report.HistoryLine.TheVariants as to
-use Rattle.change_script.specs.declared.report.Report.{Report}
+use Rattle.report_types.specs.declared.report.HistoryLine.TheVariants as to
+use Rattle.report_types.specs.declared.report.Report.{Report}
 use Rattle.std.proofs.lemmas.List.{append-nil, length-map}
 use Rattle.std.proofs.lemmas.List.Elements.{filter_map-append}
-use Rattle.change_script.specs.declared.report.HistoryLine.{HistoryLine}
-use Rattle.commit_laws.specs.Steps.{live_ports}
+use Rattle.report_types.specs.declared.report.HistoryLine.{HistoryLine}
+use Rattle.quiesce_commit_laws.specs.Steps.{live_ports}
 use Rattle.config_graph.specs.Graph.{Graph, IsGraph}
 use Rattle.config_graph.specs.Sound.{Sound}
 use Rattle.config_graph.specs.declared.TheConstants.{MAX_PORTS}
@@ -17,12 +17,12 @@ use Rattle.quiesce_core.specs.Live.{IsGraphOf}
 use Rattle.quiesce_core.specs.State.{Configuration}
 use Rattle.quiesce_core.specs.WellFormed.{IsSound}
 use Rattle.quiesce_core.proofs.RunLaws.{runs_are_well_formed}
-use Rattle.gate_records.specs.Entries.{config_of, event_in, events_in}
-use Rattle.gate_records.specs.declared.entry.Entry.{Entry}
-use Rattle.gate_records.specs.Records.{Adds, IsRecord, events}
+use Rattle.txn_records.specs.Entries.{config_of, event_in, events_in}
+use Rattle.txn_records.specs.declared.entry.Entry.{Entry}
+use Rattle.txn_records.specs.Records.{Adds, IsRecord, events}
 use Rattle.change_board.specs.Scans.{Found, look_entry}
 use Rattle.change_board.specs.Transcripts.{Item, entries, lines, said}
-use Rattle.gate_records.proofs.RecordLaws.{config_is}
+use Rattle.txn_records.proofs.RecordLaws.{config_is}
 use Rattle.change_board.specs.declared.board.Collected.{Collected}
 use Rattle.quiesce_core.specs.declared.event.Event.{Event}
 use Rattle.change_engine.specs.Calls.{Continues, HasFinished, HasRun, HasStopped}

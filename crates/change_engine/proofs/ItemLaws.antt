@@ -10,15 +10,15 @@ use Rattle.config_graph.specs.Graph.{Graph, ports, target_of}
 use Rattle.config_graph.specs.declared.node.Port.{Port}
 use Rattle.config_graph.specs.declared.node.Target.{Target}
 use Rattle.change_law.specs.Members.{line_of, lines_of_events}
-use Rattle.change_script.specs.declared.report.HistoryLine.{HistoryLine}
-use Rattle.change_script.specs.declared.report.HistoryLine.TheVariants as to
-use Rattle.gate_records.specs.declared.entry.Entry.{Entry}
-use Rattle.gate_records.specs.declared.entry.Entry.TheVariants.{Did, Looked}
-use Rattle.gate_records.specs.Looks.{is_drained_word, serial_of}
+use Rattle.report_types.specs.declared.report.HistoryLine.{HistoryLine}
+use Rattle.report_types.specs.declared.report.HistoryLine.TheVariants as to
+use Rattle.txn_records.specs.declared.entry.Entry.{Entry}
+use Rattle.txn_records.specs.declared.entry.Entry.TheVariants.{Did, Looked}
+use Rattle.txn_records.specs.Looks.{is_drained_word, serial_of}
 use Rattle.quiesce_core.specs.Doers.{is_of_change}
 use Rattle.quiesce_core.specs.declared.event.Event.{Event}
 use Rattle.quiesce_core.specs.declared.event.Event.TheVariants.{Link}
-use Rattle.quiescence_laws.specs.Starts.{link_of, make_of, reopen_of, start_of}
+use Rattle.quiesce_laws.specs.Starts.{link_of, make_of, reopen_of, start_of}
 use Rattle.change_board.specs.Scans.{Found, look_entry}
 use Rattle.change_board.specs.Sights.{Sight, sight_entry}
 use Rattle.change_board.specs.Steps.{Deed, deed_entries, entries_of, events_of}

@@ -8,15 +8,15 @@ use Rattle.std.proofs.lemmas.List.Concat.{flat_map-cons}
 use Rattle.std.proofs.lemmas.List.Elements.{filter_map-append}
 use Rattle.std.proofs.lemmas.List.Sums.{fold-append, fold_push}
 use Rattle.base.specs.Each.{EachAfter}
-use Rattle.commit_laws.specs.Commits.{Differ}
-use Rattle.commit_laws.specs.Lists.{Apart, In}
-use Rattle.quiescence_laws.specs.Events.{reopens}
-use Rattle.gate_records.specs.Entries.{config_of, event_in, events_in}
-use Rattle.gate_records.specs.declared.entry.Entry.{Entry}
-use Rattle.gate_records.specs.declared.entry.Entry.TheVariants.{Looked}
-use Rattle.gate_records.specs.Looks.{is_drained_word}
-use Rattle.gate_records.specs.Notes.{found_next, is_found_drained, is_never_reopened, is_noted}
-use Rattle.gate_records.specs.Records.{IsRecord}
+use Rattle.quiesce_commit_laws.specs.Commits.{Differ}
+use Rattle.quiesce_commit_laws.specs.Lists.{Apart, In}
+use Rattle.quiesce_laws.specs.Events.{reopens}
+use Rattle.txn_records.specs.Entries.{config_of, event_in, events_in}
+use Rattle.txn_records.specs.declared.entry.Entry.{Entry}
+use Rattle.txn_records.specs.declared.entry.Entry.TheVariants.{Looked}
+use Rattle.txn_records.specs.Looks.{is_drained_word}
+use Rattle.txn_records.specs.Notes.{found_next, is_found_drained, is_never_reopened, is_noted}
+use Rattle.txn_records.specs.Records.{IsRecord}
 use Rattle.change_board.specs.Scans.{Found, look_entry, ports_of, scan_entries}
 use Rattle.change_board.specs.Transcripts.{entries}
 use Rattle.change_engine.specs.Leaving.{IsRootLeft}

@@ -6,10 +6,10 @@ use Rattle.std.proofs.lemmas.Bool.{cases_Bool, eq-eqb, or_right}
 use Rattle.std.proofs.lemmas.List.Concat.{flat_map-cons}
 use Rattle.std.proofs.lemmas.List.Sums.{fold-append}
 use Rattle.base.specs.Each.{EachAfter}
-use Rattle.commit_laws.specs.Lists.{In}
-use Rattle.gate_records.specs.declared.entry.Entry.{Entry}
-use Rattle.gate_records.specs.Looks.{is_drained_word}
-use Rattle.gate_records.specs.Notes.{found_next, is_found_drained, is_never_reopened, is_noted}
+use Rattle.quiesce_commit_laws.specs.Lists.{In}
+use Rattle.txn_records.specs.declared.entry.Entry.{Entry}
+use Rattle.txn_records.specs.Looks.{is_drained_word}
+use Rattle.txn_records.specs.Notes.{found_next, is_found_drained, is_never_reopened, is_noted}
 use Rattle.change_board.specs.Scans.{Found, look_entry, ports_of, scan_entries}
 use Rattle.change_board.specs.Sights.{Sight, sight_entry}
 use Rattle.change_board.specs.Transcripts.{entries}

@@ -6,21 +6,21 @@ use Rattle.std.proofs.lemmas.List.{append-nil, map-append, length-append, take_m
 use Rattle.std.proofs.lemmas.List.Elements.{All-cons, All-head, All-tail, filter_map-append}
 use Rattle.std.proofs.lemmas.List.Sums.{fold-append}
 use Rattle.base.proofs.EachLaws.{each_pushed}
-use Rattle.commit_laws.specs.Steps.{change_all}
-use Rattle.commit_laws.proofs.TurningLaws.{SameLinks, live_port, live_still}
+use Rattle.quiesce_commit_laws.specs.Steps.{change_all}
+use Rattle.quiesce_commit_laws.proofs.TurningLaws.{SameLinks, live_port, live_still}
 use Rattle.quiesce_core.specs.declared.event.Event.TheVariants as event
 use Rattle.quiesce_core.specs.Effect.{change_next}
 use Rattle.quiesce_core.specs.Rules.{is_live_port}
 use Rattle.quiesce_core.specs.State.{Configuration, empty, is_live, owner}
-use Rattle.change_script.specs.declared.report.HistoryLine.{HistoryLine}
-use Rattle.change_script.specs.declared.report.HistoryLine.TheVariants as to
+use Rattle.report_types.specs.declared.report.HistoryLine.{HistoryLine}
+use Rattle.report_types.specs.declared.report.HistoryLine.TheVariants as to
 use Rattle.change_board.specs.declared.board.Scan.{Scan}
-use Rattle.gate_records.specs.declared.looking.Look.TheVariants.{Drained, Busy}
-use Rattle.gate_records.specs.Entries.{config_of, event_in, events_in}
-use Rattle.gate_records.specs.declared.entry.Entry.{Entry}
-use Rattle.gate_records.specs.declared.entry.Entry.TheVariants.{Did, Looked}
-use Rattle.gate_records.specs.Looks.{is_drained_word, is_idle_word, look_of, serial_of}
-use Rattle.gate_records.specs.Records.{Adds}
+use Rattle.txn_records.specs.declared.looking.Look.TheVariants.{Drained, Busy}
+use Rattle.txn_records.specs.Entries.{config_of, event_in, events_in}
+use Rattle.txn_records.specs.declared.entry.Entry.{Entry}
+use Rattle.txn_records.specs.declared.entry.Entry.TheVariants.{Did, Looked}
+use Rattle.txn_records.specs.Looks.{is_drained_word, is_idle_word, look_of, serial_of}
+use Rattle.txn_records.specs.Records.{Adds}
 use Rattle.change_board.specs.Scans.{AddsScan, Found, look_entry, ports_of, scan_entries}
 use Rattle.change_board.specs.Sights.{Sight, sight_entry}
 use Rattle.change_board.specs.Transcripts.{silent, told, entries, lines}

@@ -8,10 +8,10 @@ use Rattle.std.proofs.lemmas.List.{map-append}
 use Rattle.std.proofs.lemmas.List.Elements.{All-from_recursion, All-head, All-tail}
 use Rattle.std.proofs.lemmas.List.Sums.{fold_push}
 use Rattle.change_plan.specs.declared.plan_data.Plan.{Plan}
-use Rattle.commit_laws.specs.Steps.{change_all}
-use Rattle.commit_laws.proofs.TurningLaws.{SameLinks, live_port, same_turned}
+use Rattle.quiesce_commit_laws.specs.Steps.{change_all}
+use Rattle.quiesce_commit_laws.proofs.TurningLaws.{SameLinks, live_port, same_turned}
 use Rattle.config_graph.specs.Graph.{Graph}
-use Rattle.plan_laws.specs.Commit.{is_one_of, ports_to_close}
+use Rattle.change_plan_laws.specs.Commit.{is_one_of, ports_to_close}
 use Rattle.quiesce_core.specs.Effect.{with_closed}
 use Rattle.quiesce_core.specs.Rules.{is_live_port}
 use Rattle.quiesce_core.specs.State.{Configuration, is_live, owner}
@@ -19,9 +19,9 @@ use Rattle.quiesce_core.specs.declared.event.Event.TheVariants as event
 use Rattle.change_law.specs.Changes.{drained_lines, seen_in_all}
 use Rattle.change_law.specs.Members.{event_of, lines_of_events}
 use Rattle.change_law.specs.Scene.{Seen, drained_line, root_line}
-use Rattle.change_script.specs.declared.report.HistoryLine.TheVariants as to
-use Rattle.gate_records.specs.declared.entry.Entry.TheVariants.{Looked}
-use Rattle.gate_records.specs.Looks.{is_drained_word, serial_of}
+use Rattle.report_types.specs.declared.report.HistoryLine.TheVariants as to
+use Rattle.txn_records.specs.declared.entry.Entry.TheVariants.{Looked}
+use Rattle.txn_records.specs.Looks.{is_drained_word, serial_of}
 use Rattle.change_board.specs.Scans.{Found, scan_entries}
 use Rattle.change_board.specs.Transcripts.{silent, told, line_in, lines}
 use Rattle.change_engine.specs.Draining.{root_item}

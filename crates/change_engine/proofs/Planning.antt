@@ -9,12 +9,12 @@ use Rattle.change_plan.specs.Refusals.{CanPlan}
 use Rattle.change_plan.specs.declared.plan_data.Move.{Move}
 use Rattle.change_plan.specs.declared.plan_data.Plan.{Plan}
 use Rattle.config_graph.specs.Graph.{Graph}
-use Rattle.commit_laws.specs.Steps.{MayStepAll, change_all}
-use Rattle.commit_laws.specs.Work.{link_new, make_new}
-use Rattle.commit_laws.proofs.MeanwhileLaws.{front_is_of_change, now_is}
-use Rattle.commit_laws.proofs.TurningLaws.{live_port}
-use Rattle.plan_laws.specs.Commit.{commit_events, commit_steps, is_frozen_or_new, is_one_of, new_links, reopened_ports, work}
-use Rattle.plan_laws.specs.Committing.{MayCommit, made_in}
+use Rattle.quiesce_commit_laws.specs.Steps.{MayStepAll, change_all}
+use Rattle.quiesce_commit_laws.specs.Work.{link_new, make_new}
+use Rattle.quiesce_commit_laws.proofs.MeanwhileLaws.{front_is_of_change, now_is}
+use Rattle.quiesce_commit_laws.proofs.TurningLaws.{live_port}
+use Rattle.change_plan_laws.specs.Commit.{commit_events, commit_steps, is_frozen_or_new, is_one_of, new_links, reopened_ports, work}
+use Rattle.change_plan_laws.specs.Committing.{MayCommit, made_in}
 use Rattle.quiesce_core.specs.declared.event.Event.{Event}
 use Rattle.quiesce_core.specs.declared.event.Event.TheVariants.{Begin, Call, Take, Give, End, More, Ask, Hear, Miss, Close, Reopen, Make, Link, Unlink, Remove}
 use Rattle.quiesce_core.specs.Doers.{is_of_change}
@@ -24,15 +24,15 @@ use Rattle.quiesce_core.specs.Runs.{IsRun, state_after}
 use Rattle.quiesce_core.specs.State.{Configuration, owner}
 use Rattle.quiesce_core.proofs.LegalLaws.{legal}
 use Rattle.quiesce_core.proofs.RunLaws.{fronts_are_runs, last_step}
-use Rattle.quiescence_laws.specs.Events.{reopens}
-use Rattle.quiescence_laws.proofs.ExtensionLaws.{extends_further}
-use Rattle.gate_records.specs.Entries.{config_of, events_in}
-use Rattle.gate_records.specs.declared.entry.Entry.{Entry}
-use Rattle.gate_records.specs.Notes.{is_found_drained, is_never_reopened, is_noted}
-use Rattle.gate_records.specs.Records.{IsRecordOf, Moment, events}
+use Rattle.quiesce_laws.specs.Events.{reopens}
+use Rattle.quiesce_laws.proofs.ExtensionLaws.{extends_further}
+use Rattle.txn_records.specs.Entries.{config_of, events_in}
+use Rattle.txn_records.specs.declared.entry.Entry.{Entry}
+use Rattle.txn_records.specs.Notes.{is_found_drained, is_never_reopened, is_noted}
+use Rattle.txn_records.specs.Records.{IsRecordOf, Moment, events}
 use Rattle.change_board.specs.Steps.{MayDoAll, gates_come_last, is_turning}
-use Rattle.gate_records.proofs.NoteLaws.{noted_is_drained}
-use Rattle.gate_records.proofs.RecordLaws.{changes_of, config_is}
+use Rattle.txn_records.proofs.NoteLaws.{noted_is_drained}
+use Rattle.txn_records.proofs.RecordLaws.{changes_of, config_is}
 use Rattle.change_board.proofs.StepLaws.{may_do_all}
 use Rattle.change_engine.specs.Planning.{MayCarryOut}
 use Rattle.change_engine.proofs.Beginning.{none_mapped, turned_last}

@@ -10,21 +10,21 @@ use Rattle.change_plan.specs.Differences.{IsGone}
 use Rattle.change_plan.specs.declared.plan_data.Move.{Move}
 use Rattle.change_plan.specs.declared.plan_data.Plan.{Plan}
 use Rattle.change_plan.proofs.SelectsLaws.{Selects-one}
-use Rattle.change_script.specs.declared.report.HistoryLine.TheVariants as to
+use Rattle.report_types.specs.declared.report.HistoryLine.TheVariants as to
 use Rattle.config_graph.specs.Graph.{Graph, requires_at, requires_of}
 use Rattle.config_graph.specs.Kinds.{row}
 use Rattle.config_graph.specs.declared.TheConstants.{MAX_PORTS}
 use Rattle.config_graph.specs.declared.kind.Kind.TheVariants.{Fork}
 use Rattle.config_graph.specs.declared.node.Node.{Node}
-use Rattle.plan_laws.specs.Commit.{commit_events, node_at}
+use Rattle.change_plan_laws.specs.Commit.{commit_events, node_at}
 use Rattle.quiesce_core.specs.State.{Configuration}
-use Rattle.gate_records.specs.Entries.{config_of}
-use Rattle.gate_records.specs.declared.entry.Entry.{Entry}
-use Rattle.gate_records.specs.Records.{Adds, IsRecord}
+use Rattle.txn_records.specs.Entries.{config_of}
+use Rattle.txn_records.specs.declared.entry.Entry.{Entry}
+use Rattle.txn_records.specs.Records.{Adds, IsRecord}
 use Rattle.change_board.specs.Steps.{HasRoomForAll, Room}
 use Rattle.change_board.specs.Transcripts.{Item, entries, said}
 use Rattle.change_engine.specs.Calls.{Continues, HasPrepared}
-use Rattle.change_engine.specs.Engines.{HasPlace, IsFor, IsIdle, IsPlanned, IsPrepared, IsTold}
+use Rattle.change_engine.specs.Engines.{HasPlace, IsFor, IsIdle, IsPlanned, IsPrepared, IsLaidOut}
 use Rattle.change_lists.specs.Layouts.{IsLayoutOf, port_of}
 use Rattle.change_lists.specs.Lists.{ports_after, ports_from, ports_in}
 use Rattle.change_engine.specs.declared.engine.Change.{Change}
@@ -77,7 +77,7 @@ module _ {B : Type 0} (W : BoardWords B) where
         let c = config_of (entries t) in
         let tells = tells_more W e f.board f.history.items t items x.tells (record { adds = adds; adds_lines = history }) refl f refl refl graph layout in
         let same : config_of (entries (t ++ items)) ≡ c = config_goes t items refl in
-        let told : IsTold e.layout e.graph c = record { laid = x.tells.layout; graph = x.tells.graph; sound = record_sound (entries t) (runs e.board (entries t) x.tells.board) } in
+        let told : IsLaidOut e.layout e.graph c = record { laid = x.tells.layout; graph = x.tells.graph; sound = record_sound (entries t) (runs e.board (entries t) x.tells.board) } in
         record {
           is_open = record {
             tells = tells;

@@ -5,19 +5,19 @@ use Rattle.std.specs.List.{AllByRecursion, range_with_len}
 use Rattle.std.proofs.lemmas.List.{append-nil}
 use Rattle.std.proofs.lemmas.List.Concat.{flat_map-cons}
 use Rattle.std.proofs.lemmas.List.Elements.{All-from_recursion, filter_map-append}
-use Rattle.change_script.specs.declared.report.HistoryLine.{HistoryLine}
-use Rattle.change_script.specs.declared.report.HistoryLine.TheVariants as to
-use Rattle.commit_laws.specs.Lists.{In}
-use Rattle.commit_laws.specs.Steps.{change_all, live_ports}
-use Rattle.commit_laws.proofs.GateLaws.{live_unlisted}
-use Rattle.commit_laws.proofs.MemberLaws.{contains_in}
-use Rattle.commit_laws.proofs.TurningLaws.{SameLinks, live_port}
+use Rattle.report_types.specs.declared.report.HistoryLine.{HistoryLine}
+use Rattle.report_types.specs.declared.report.HistoryLine.TheVariants as to
+use Rattle.quiesce_commit_laws.specs.Lists.{In}
+use Rattle.quiesce_commit_laws.specs.Steps.{change_all, live_ports}
+use Rattle.quiesce_commit_laws.proofs.GateLaws.{live_unlisted}
+use Rattle.quiesce_commit_laws.proofs.MemberLaws.{contains_in}
+use Rattle.quiesce_commit_laws.proofs.TurningLaws.{SameLinks, live_port}
 use Rattle.quiesce_core.specs.declared.event.Event.TheVariants as event
 use Rattle.quiesce_core.specs.Rules.{is_live_port}
 use Rattle.quiesce_core.specs.State.{Configuration}
-use Rattle.gate_records.specs.Entries.{config_of, event_in, events_in}
-use Rattle.gate_records.specs.declared.entry.Entry.{Entry}
-use Rattle.gate_records.specs.Records.{AreAllNoted}
+use Rattle.txn_records.specs.Entries.{config_of, event_in, events_in}
+use Rattle.txn_records.specs.declared.entry.Entry.{Entry}
+use Rattle.txn_records.specs.Records.{AreAllNoted}
 use Rattle.change_board.specs.Transcripts.{entries}
 use Rattle.change_engine.specs.Growing.{Grew, telling}
 use Rattle.change_engine.specs.Passivating.{AreLivePorts, IsPassivation, Passivation, WaitingRound, close_item, left_after, look_item, passivation_items, round_items}

@@ -7,11 +7,11 @@ use Rattle.std.proofs.lemmas.List.Elements.{All-head, All-tail, filter_map-appen
 use Rattle.base.specs.Each.{Each, EachAfter}
 use Rattle.base.proofs.EachLaws.{each_at, each_parts}
 use Rattle.base.proofs.PlaceLaws.{heads_are, tails_are}
-use Rattle.commit_laws.specs.Lists.{In}
-use Rattle.commit_laws.specs.Steps.{change_all}
-use Rattle.commit_laws.proofs.TurningLaws.{IsLivePort, Turning, live_port, turn_next, turn_start}
-use Rattle.gate_word.specs.Phases.{is_idle}
-use Rattle.gate_word.specs.Words.{has_root, is_drained, unpack}
+use Rattle.quiesce_commit_laws.specs.Lists.{In}
+use Rattle.quiesce_commit_laws.specs.Steps.{change_all}
+use Rattle.quiesce_commit_laws.proofs.TurningLaws.{IsLivePort, Turning, live_port, turn_next, turn_start}
+use Rattle.quiesce_word.specs.Phases.{is_idle}
+use Rattle.quiesce_word.specs.Words.{has_root, is_drained, unpack}
 use Rattle.quiesce_core.specs.Effect.{with_closed}
 use Rattle.quiesce_core.specs.Fields.{fields_of}
 use Rattle.quiesce_core.specs.Runs.{IsRun}
@@ -21,17 +21,17 @@ use Rattle.quiesce_core.specs.Words.{word_of}
 use Rattle.quiesce_core.specs.declared.event.Event.TheVariants as event
 use Rattle.quiesce_core.proofs.RunLaws.{fronts_are_runs, runs_are_well_formed}
 use Rattle.quiesce_core.proofs.WordLaws.{port_words_decode, words_tell_drained}
-use Rattle.gate_records.specs.Entries.{config_of, event_in, events_in}
-use Rattle.gate_records.specs.declared.entry.Entry.{Entry}
-use Rattle.gate_records.specs.declared.entry.Entry.TheVariants.{Looked}
-use Rattle.gate_records.specs.Looks.{is_drained_word}
-use Rattle.gate_records.specs.Notes.{is_noted}
-use Rattle.gate_records.specs.Records.{IsRecord, IsRecordOf, IsSo, Moment, by_node, entry, event_at, events, state_at}
-use Rattle.gate_records.specs.Records as records
+use Rattle.txn_records.specs.Entries.{config_of, event_in, events_in}
+use Rattle.txn_records.specs.declared.entry.Entry.{Entry}
+use Rattle.txn_records.specs.declared.entry.Entry.TheVariants.{Looked}
+use Rattle.txn_records.specs.Looks.{is_drained_word}
+use Rattle.txn_records.specs.Notes.{is_noted}
+use Rattle.txn_records.specs.Records.{IsRecord, IsRecordOf, IsSo, Moment, by_node, entry, event_at, events, state_at}
+use Rattle.txn_records.specs.Records as records
 use Rattle.change_board.specs.Scans.{Found, look_entry, ports_of, scan_entries}
 use Rattle.change_board.specs.Transcripts.{entries}
-use Rattle.gate_records.proofs.NoteLaws.{noted_is_drained}
-use Rattle.gate_records.proofs.RecordLaws.{config_is}
+use Rattle.txn_records.proofs.NoteLaws.{noted_is_drained}
+use Rattle.txn_records.proofs.RecordLaws.{config_is}
 use Rattle.change_engine.specs.Passivating.{AreLivePorts, IsPassivation, IsRound, Passivation, WaitingRound, close_item, is_busy, left_after, look_item, passivation_items, root_of, root_ports, roots_of, round_items}
 use Rattle.change_engine.proofs.Passing.{close_entries, closes, closes_events, config_over, config_quiet, looks_quiet, roots_cons, round_entries}
 use Rattle.change_engine.proofs.Quieting.{rounds_quiet}

@@ -3,8 +3,8 @@ use Rattle.std.proofs.Common.{◌≡◌, ℕ, ◌+◌, ◌-◌, ◌<◌, ◌≤�
 use Rattle.std.specs.Prelude.{◌||◌, nat_le}
 use Rattle.std.proofs.lemmas.Bool.{le-leb, lt-leb, or_right}
 use Rattle.std.proofs.lemmas.List.Sums.{fold_push, sum_by-append}
-use Rattle.gate_records.specs.declared.looking.Look.TheVariants.{Drained, Busy}
-use Rattle.gate_records.specs.Looks.{ended_in_word, is_drained_word, is_idle_word, look_of, serial_of}
+use Rattle.txn_records.specs.declared.looking.Look.TheVariants.{Drained, Busy}
+use Rattle.txn_records.specs.Looks.{ended_in_word, is_drained_word, is_idle_word, look_of, serial_of}
 use Rattle.change_board.specs.Scans.{Found, ended_in}
 use Rattle.change_engine.specs.Finishing.{ScanSeen}
 use Rattle.change_engine.specs.Running.{ended_by, ended_since, is_out_after, ends_run, are_enough}

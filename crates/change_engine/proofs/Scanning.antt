@@ -6,12 +6,12 @@ use Rattle.std.proofs.lemmas.List.{append-nil}
 use Rattle.std.proofs.lemmas.List.Concat.{flat_map-cons}
 use Rattle.std.proofs.lemmas.List.Elements.{filter_map-append}
 use Rattle.std.proofs.lemmas.List.Sums.{sum_by-append}
-use Rattle.change_script.specs.declared.report.HistoryLine.{HistoryLine}
-use Rattle.change_script.specs.declared.report.HistoryLine.TheVariants as to
+use Rattle.report_types.specs.declared.report.HistoryLine.{HistoryLine}
+use Rattle.report_types.specs.declared.report.HistoryLine.TheVariants as to
 use Rattle.change_board.specs.declared.board.Scan.{Scan}
-use Rattle.gate_records.specs.Entries.{config_of, event_in, events_in}
-use Rattle.gate_records.specs.declared.entry.Entry.{Entry}
-use Rattle.gate_records.specs.Records.{Adds}
+use Rattle.txn_records.specs.Entries.{config_of, event_in, events_in}
+use Rattle.txn_records.specs.declared.entry.Entry.{Entry}
+use Rattle.txn_records.specs.Records.{Adds}
 use Rattle.change_board.specs.Scans.{AddsScan}
 use Rattle.change_board.specs.Transcripts.{Item, said, lines}
 use Rattle.change_engine.specs.Finishing.{Finished, IsScanIn, ScanSeen, Scans, all_entries, count_of, rounds_in, seen_entries}

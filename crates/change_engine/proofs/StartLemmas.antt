@@ -6,10 +6,10 @@ use Rattle.std.proofs.lemmas.Bool.{and_parts}
 use Rattle.std.proofs.lemmas.List.{append-nil}
 use Rattle.std.proofs.lemmas.List.Concat.{flat_map-cons}
 use Rattle.std.proofs.lemmas.List.Elements.{filter_map-append}
-use Rattle.change_script.specs.declared.report.HistoryLine.{HistoryLine}
-use Rattle.change_script.specs.declared.report.HistoryLine.TheVariants as to
-use Rattle.commit_laws.specs.Steps.{change_all}
-use Rattle.commit_laws.proofs.MeanwhileLaws.{now_is}
+use Rattle.report_types.specs.declared.report.HistoryLine.{HistoryLine}
+use Rattle.report_types.specs.declared.report.HistoryLine.TheVariants as to
+use Rattle.quiesce_commit_laws.specs.Steps.{change_all}
+use Rattle.quiesce_commit_laws.proofs.MeanwhileLaws.{now_is}
 use Rattle.config_graph.specs.Graph.{Graph, IsGraph, ports, target_of}
 use Rattle.config_graph.specs.Sound.{Sound}
 use Rattle.config_graph.specs.declared.TheConstants.{MAX_NODES, MAX_PORTS}
@@ -24,14 +24,14 @@ use Rattle.quiesce_core.specs.State.{State, empty}
 use Rattle.quiesce_core.specs.declared.event.Event.{Event}
 use Rattle.quiesce_core.specs.declared.event.Event.TheVariants.{Link}
 use Rattle.quiesce_core.proofs.GraphLaws.{graph_started}
-use Rattle.quiescence_laws.specs.Starts.{link_of, make_of, reopen_of, start_of}
-use Rattle.gate_records.specs.Entries.{config_of, event_in, events_in}
-use Rattle.gate_records.specs.declared.entry.Entry.{Entry}
-use Rattle.gate_records.specs.Records.{Adds}
+use Rattle.quiesce_laws.specs.Starts.{link_of, make_of, reopen_of, start_of}
+use Rattle.txn_records.specs.Entries.{config_of, event_in, events_in}
+use Rattle.txn_records.specs.declared.entry.Entry.{Entry}
+use Rattle.txn_records.specs.Records.{Adds}
 use Rattle.change_board.specs.Sights.{Sight, sight_entry}
 use Rattle.change_board.specs.Steps.{HasRoomForAll, Deed, Room, deed_entries, entries_of, less_one, events_of}
 use Rattle.change_board.specs.Transcripts.{entries, lines, said}
-use Rattle.change_engine.specs.Beginning.{Begins, start_items}
+use Rattle.change_engine.specs.Beginning.{StartsSystem, start_items}
 use Rattle.change_engine.specs.Calls.{HasStarted}
 use Rattle.change_engine.specs.Carrying.{CarriesOut, deed_items}
 use Rattle.change_lists.specs.Layouts.{IsLayoutOf}
@@ -93,7 +93,7 @@ start_config g is =
     ap (change_all empty.config) (sym (all_kept (start_of g) (start_is_of_change g))) ∙ sym (now_is [] (start_of g)) ∙ ap (λ (s : State). s.config) is
 
 pub began : {B : Type 0} (W : BoardWords B) (a mid b : B) (before history : List HistoryLine) (name : List ℕ) (args : List ℤ) (es : List Event) (g : Graph)
-    → Adds W.stands_for a mid [] → before ≡ [] → es ≡ start_of g → CarriesOut W (telling mid before) (telling b history) (to.Start name args ∷ []) es (to.Commit ∷ []) → Begins W a (telling b history) name args g
+    → Adds W.stands_for a mid [] → before ≡ [] → es ≡ start_of g → CarriesOut W (telling mid before) (telling b history) (to.Start name args ∷ []) es (to.Commit ∷ []) → StartsSystem W a (telling b history) name args g
 began W a mid b before history name args es g kept none_ are x = record {
   deeds = x.deeds;
   events_are = x.events_are ∙ are;
@@ -108,7 +108,7 @@ start_entries name args deeds = entries_both (flat_map deed_items deeds) (said t
 
 pub has_started : {B : Type 0} (W : BoardWords B) (a : B) (e : Engine B) (name : List ℕ) (args : List ℤ) (g : Graph) → W.stands_for a [] → IsGraph g → Sound g
     → length g.nodes ≤ MAX_NODES → length (ports g.nodes) ≤ MAX_PORTS → state_after (start_of g) ≡ started g
-    → Begins W a (telling e.board e.history.items) name args g → IsLayoutOf e.layout (started g).config g → e.graph ≡ g → e.change ≡ None → HasStarted W e name args g
+    → StartsSystem W a (telling e.board e.history.items) name args g → IsLayoutOf e.layout (started g).config g → e.graph ≡ g → e.change ≡ None → HasStarted W e name args g
 has_started W a e name args g nothing is_graph sound nodes few is x layout graph change =
     let t = start_items name args x.deeds in
     let made : config_of (entries t) ≡ (started g).config =

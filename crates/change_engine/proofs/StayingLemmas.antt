@@ -4,10 +4,10 @@ use Rattle.std.specs.Prelude.{filter}
 use Rattle.std.proofs.lemmas.Bool.{cases_eq}
 use Rattle.std.proofs.lemmas.List.{append-nil}
 use Rattle.std.proofs.lemmas.List.Elements.{All-head, All-tail, filter-append}
-use Rattle.commit_laws.specs.Lists.{In}
-use Rattle.commit_laws.specs.Steps.{change_all}
-use Rattle.commit_laws.proofs.MeanwhileLaws.{config_after}
-use Rattle.commit_laws.proofs.TurningLaws.{SameLinks, live_port, same_turned}
+use Rattle.quiesce_commit_laws.specs.Lists.{In}
+use Rattle.quiesce_commit_laws.specs.Steps.{change_all}
+use Rattle.quiesce_commit_laws.proofs.MeanwhileLaws.{config_after}
+use Rattle.quiesce_commit_laws.proofs.TurningLaws.{SameLinks, live_port, same_turned}
 use Rattle.quiesce_core.specs.declared.event.Event.{Event}
 use Rattle.quiesce_core.specs.declared.event.Event.TheVariants as event
 use Rattle.quiesce_core.specs.declared.state.Gate.{Gate}
@@ -17,11 +17,11 @@ use Rattle.quiesce_core.specs.Rules.{is_live_port}
 use Rattle.quiesce_core.specs.Runs.{state_after}
 use Rattle.quiesce_core.specs.State.{Configuration, empty, gate}
 use Rattle.quiesce_core.proofs.SoundnessLaws.{put_elsewhere, put_here}
-use Rattle.gate_records.specs.Entries.{config_of, events_in}
-use Rattle.gate_records.specs.declared.entry.Entry.{Entry}
-use Rattle.gate_records.specs.Records.{IsRecordCut}
-use Rattle.gate_records.specs.Records as records
-use Rattle.gate_records.proofs.RecordLaws.{changes_of}
+use Rattle.txn_records.specs.Entries.{config_of, events_in}
+use Rattle.txn_records.specs.declared.entry.Entry.{Entry}
+use Rattle.txn_records.specs.Records.{IsRecordCut}
+use Rattle.txn_records.specs.Records as records
+use Rattle.txn_records.proofs.RecordLaws.{changes_of}
 use Rattle.change_engine.specs.Breaking.{IsClosedOr, IsClosedStill}
 use Rattle.change_engine.specs.Passivating.{AreLivePorts}
 use Rattle.change_engine.proofs.Passing.{closes, closes_events, config_over}

@@ -1,13 +1,13 @@
 -- How calls break off for want of memory: a run behind looks and scans alone; a wait in a scan, behind closes, looks
 -- and rounds that left roots. What was closed stays closed.
 use Rattle.std.specs.Prelude.{◌≡◌, ◌⊎◌, ◌<◌, ℕ, List, [], ◌++◌, length, IsTrue}
-use Rattle.commit_laws.specs.Lists.{In}
+use Rattle.quiesce_commit_laws.specs.Lists.{In}
 use Rattle.quiesce_core.specs.Runs.{state_after}
 use Rattle.quiesce_core.specs.State.{Configuration, gate}
-use Rattle.gate_records.specs.Entries.{events_in}
-use Rattle.gate_records.specs.declared.entry.Entry.{Entry}
-use Rattle.gate_records.specs.Records.{IsRecordCut}
-use Rattle.gate_records.specs.Records as records
+use Rattle.txn_records.specs.Entries.{events_in}
+use Rattle.txn_records.specs.declared.entry.Entry.{Entry}
+use Rattle.txn_records.specs.Records.{IsRecordCut}
+use Rattle.txn_records.specs.Records as records
 use Rattle.change_board.specs.declared.board.Board.{Ghosts as BoardWords}
 use Rattle.change_board.specs.Transcripts.{entries, lines}
 use Rattle.change_engine.specs.Growing.{Telling}

@@ -4,19 +4,19 @@ use Rattle.std.specs.List.{AllByRecursion}
 use Rattle.base.specs.Each.{Each}
 use Rattle.change_plan.specs.declared.plan_data.Move.{Move}
 use Rattle.change_plan.specs.declared.plan_data.Plan.{Plan}
-use Rattle.change_script.specs.declared.report.HistoryLine.TheVariants as to
-use Rattle.change_script.specs.declared.report.Report.{Report}
-use Rattle.commit_laws.specs.Lists.{In}
-use Rattle.commit_laws.specs.Steps.{live_ports}
+use Rattle.report_types.specs.declared.report.HistoryLine.TheVariants as to
+use Rattle.report_types.specs.declared.report.Report.{Report}
+use Rattle.quiesce_commit_laws.specs.Lists.{In}
+use Rattle.quiesce_commit_laws.specs.Steps.{live_ports}
 use Rattle.config_graph.specs.Graph.{Graph}
-use Rattle.plan_laws.specs.Commit.{commit_events, ports_to_close}
+use Rattle.change_plan_laws.specs.Commit.{commit_events, ports_to_close}
 use Rattle.quiesce_core.specs.declared.event.Event.TheVariants as event
-use Rattle.quiescence_laws.specs.Starts.{start_of}
+use Rattle.quiesce_laws.specs.Starts.{start_of}
 use Rattle.change_law.specs.Endings.{status_of}
 use Rattle.change_board.specs.declared.board.Board.{Ghosts as BoardWords}
 use Rattle.change_board.specs.declared.board.Collected.{Collected}
 use Rattle.change_board.specs.Collecting.{Collects}
-use Rattle.gate_records.specs.Entries.{config_of}
+use Rattle.txn_records.specs.Entries.{config_of}
 use Rattle.change_board.specs.Scans.{Found, all_ports, ended_in, look_entry, ports_of}
 use Rattle.change_board.specs.Steps.{Deed, events_of}
 use Rattle.change_board.specs.Transcripts.{Item, entries, lines, said}

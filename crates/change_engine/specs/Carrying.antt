@@ -2,9 +2,9 @@
 use Rattle.std.specs.Prelude.{◌≡◌, List, ◌∷◌, ◌++◌, map, flat_map}
 use Rattle.std.specs.Option.{option_map_or}
 use Rattle.change_law.specs.Members.{line_of}
-use Rattle.change_script.specs.declared.report.HistoryLine.{HistoryLine}
+use Rattle.report_types.specs.declared.report.HistoryLine.{HistoryLine}
 use Rattle.quiesce_core.specs.declared.event.Event.{Event}
-use Rattle.gate_records.specs.declared.entry.Entry.TheVariants.{Did}
+use Rattle.txn_records.specs.declared.entry.Entry.TheVariants.{Did}
 use Rattle.change_board.specs.declared.board.Board.{Ghosts as BoardWords}
 use Rattle.change_board.specs.Sights.{Sight, sight_entry}
 use Rattle.change_board.specs.Steps.{Deed, events_of}

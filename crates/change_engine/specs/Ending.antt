@@ -1,8 +1,8 @@
 -- What a report says of a node that isn't done.
 use Rattle.std.specs.Prelude.{ℕ, Bool, true, false, List, Option, None, if◌then◌else◌}
 use Rattle.std.specs.List.{list_any}
-use Rattle.change_script.specs.declared.report.HistoryLine.{HistoryLine}
-use Rattle.change_script.specs.declared.report.HistoryLine.TheVariants as to
+use Rattle.report_types.specs.declared.report.HistoryLine.{HistoryLine}
+use Rattle.report_types.specs.declared.report.HistoryLine.TheVariants as to
 
 abbrev pub is_finish_line : HistoryLine → Bool
 is_finish_line (to.Finish n rounds) = true

@@ -5,19 +5,19 @@ use Rattle.change_plan.specs.Plans.{IsPlanOf}
 use Rattle.change_plan.specs.Refusals.{CanPlan}
 use Rattle.change_plan.specs.declared.plan_data.Move.{Move}
 use Rattle.change_plan.specs.declared.plan_data.Plan.{Plan}
-use Rattle.change_script.specs.declared.report.HistoryLine.{HistoryLine}
-use Rattle.change_script.specs.declared.report.HistoryLine.TheVariants as to
-use Rattle.commit_laws.specs.Steps.{change_all}
+use Rattle.report_types.specs.declared.report.HistoryLine.{HistoryLine}
+use Rattle.report_types.specs.declared.report.HistoryLine.TheVariants as to
+use Rattle.quiesce_commit_laws.specs.Steps.{change_all}
 use Rattle.config_graph.specs.Graph.{Graph, IsGraph}
 use Rattle.config_graph.specs.Sound.{Sound}
-use Rattle.plan_laws.specs.Commit.{commit_events, ports_to_close}
-use Rattle.plan_laws.specs.Committing.{made_in}
+use Rattle.change_plan_laws.specs.Commit.{commit_events, ports_to_close}
+use Rattle.change_plan_laws.specs.Committing.{made_in}
 use Rattle.quiesce_core.specs.Live.{IsGraphOf}
 use Rattle.quiesce_core.specs.State.{Configuration}
 use Rattle.quiesce_core.specs.WellFormed.{IsSound}
 use Rattle.quiesce_core.specs.declared.event.Event.TheVariants as event
 use Rattle.change_law.specs.Members.{lines_of_events}
-use Rattle.gate_records.specs.Entries.{config_of}
+use Rattle.txn_records.specs.Entries.{config_of}
 use Rattle.change_board.specs.declared.board.Board.{Ghosts as BoardWords}
 use Rattle.change_board.specs.Steps.{HasRoomForAll}
 use Rattle.change_board.specs.Transcripts.{Item, entries, lines}
@@ -51,7 +51,7 @@ pub record IsPlanned (old new : Graph) (moves : List Move) (plan : Plan) (c : Co
   pub can_plan : CanPlan old new moves (made_in c)
 
 -- a configuration that a layout tells, with its graph
-pub record IsTold (layout : Layout) (g : Graph) (c : Configuration) : Type 0 where
+pub record IsLaidOut (layout : Layout) (g : Graph) (c : Configuration) : Type 0 where
   pub laid : IsLayoutOf layout c g
   pub graph : IsGraphOf c g
   pub sound : IsSound c
@@ -59,9 +59,9 @@ pub record IsTold (layout : Layout) (g : Graph) (c : Configuration) : Type 0 whe
 -- What was prepared is what the plan asks for, in each configuration that the layout tells: ports may be closed or
 -- open.
 pub record IsFor (layout : Layout) (old new : Graph) (plan : Plan) (change : Change) : Type 0 where
-  pub closed : (c : Configuration) → IsTold layout old c → change.closed.items ≡ ports_to_close old plan c
-  pub events : (c : Configuration) → IsTold layout old c → change.events.items ≡ commit_events old new plan c
-  pub next_ : (c : Configuration) → IsTold layout old c
+  pub closed : (c : Configuration) → IsLaidOut layout old c → change.closed.items ≡ ports_to_close old plan c
+  pub events : (c : Configuration) → IsLaidOut layout old c → change.events.items ≡ commit_events old new plan c
+  pub next_ : (c : Configuration) → IsLaidOut layout old c
       → IsLayoutOf change.next (change_all c (commit_events old new plan c)) new
   pub lines_are : change.lines.items ≡ lines_of_events change.events.items ++ to.Commit ∷ []
   pub reopens : change.reopens.items ≡ map event.Reopen change.closed.items

@@ -1,13 +1,13 @@
 -- How a system is run until it is done: scans in which nodes may begin transactions.
 use Rattle.std.specs.Prelude.{◌≡◌, ◌⊎◌, ◌≤◌, ℕ, Bool, true, false, not, ◌&&◌, ◌||◌, List, [], ◌∷◌, ◌++◌, flat_map, length, if◌then◌else◌}
 use Rattle.std.specs.List.{AllByRecursion, sum_by}
-use Rattle.change_script.specs.declared.report.HistoryLine.TheVariants as to
+use Rattle.report_types.specs.declared.report.HistoryLine.TheVariants as to
 use Rattle.quiesce_core.specs.State.{Configuration}
 use Rattle.change_board.specs.declared.board.Board.{Ghosts as BoardWords}
 use Rattle.change_board.specs.declared.board.Scan.{Scan}
-use Rattle.gate_records.specs.Entries.{config_of}
-use Rattle.gate_records.specs.declared.entry.Entry.{Entry}
-use Rattle.gate_records.specs.Records.{Adds}
+use Rattle.txn_records.specs.Entries.{config_of}
+use Rattle.txn_records.specs.declared.entry.Entry.{Entry}
+use Rattle.txn_records.specs.Records.{Adds}
 use Rattle.change_board.specs.Scans.{Found, SightsAll, all_ports, ended_in, is_seen_at_rest, ports_of, scan_entries}
 use Rattle.change_board.specs.Sights.{Sight}
 use Rattle.change_board.specs.Transcripts.{said}
@@ -44,19 +44,19 @@ rounds_in scans = sum_by (λ (w : ScanSeen). count_of w.answer) scans
 abbrev pub ends_finish : Bool → Scan → Bool
 ends_finish alone s = s.done || (alone && not s.moved)
 
-abbrev pub GoesOn : Bool → ScanSeen → Type 0
-GoesOn alone w = ends_finish alone w.answer ≡ false
+abbrev pub ScansGoOn : Bool → ScanSeen → Type 0
+ScansGoOn alone w = ends_finish alone w.answer ≡ false
 
 -- some of these scans was the last, or so many were made
 pub record EndsWith (alone : Bool) (scans : List ScanSeen) : Type 0 where
   pub before : List ScanSeen
   pub final : ScanSeen
   pub parts : scans ≡ before ++ final ∷ []
-  pub go_on : AllByRecursion (GoesOn alone) before
+  pub go_on : AllByRecursion (ScansGoOn alone) before
   pub ends : ends_finish alone final.answer ≡ true
 
 abbrev pub EndsAfter : Bool → ℕ → List ScanSeen → Type 0
-EndsAfter alone n scans = EndsWith alone scans ⊎ ((length scans ≡ n) × AllByRecursion (GoesOn alone) scans)
+EndsAfter alone n scans = EndsWith alone scans ⊎ ((length scans ≡ n) × AllByRecursion (ScansGoOn alone) scans)
 
 -- at most so many scans
 pub record Scans {B : Type 0} (words : BoardWords B) (old new : B) (n rounds : ℕ) : Type 0 where

@@ -1,8 +1,8 @@
 -- How the records of a board and the history grow together: by a transcript.
 use Rattle.std.specs.Prelude.{◌≡◌, ◌⊎◌, List, ◌++◌}
-use Rattle.change_script.specs.declared.report.HistoryLine.{HistoryLine}
-use Rattle.gate_records.specs.declared.entry.Entry.{Entry}
-use Rattle.gate_records.specs.Records.{Adds}
+use Rattle.report_types.specs.declared.report.HistoryLine.{HistoryLine}
+use Rattle.txn_records.specs.declared.entry.Entry.{Entry}
+use Rattle.txn_records.specs.Records.{Adds}
 use Rattle.change_board.specs.declared.board.Board.{Ghosts as BoardWords}
 use Rattle.change_board.specs.Transcripts.{Item, entries, lines}
 

@@ -1,10 +1,10 @@
 -- What a wait leaves where it is given up: roots.
 use Rattle.std.specs.Prelude.{◌≡◌, ℕ, false, List, IsTrue}
-use Rattle.commit_laws.specs.Lists.{In}
-use Rattle.gate_word.specs.Words.{has_root, unpack}
-use Rattle.gate_records.specs.declared.entry.Entry.{Entry}
-use Rattle.gate_records.specs.Looks.{serial_of}
-use Rattle.gate_records.specs.Notes.{is_noted}
+use Rattle.quiesce_commit_laws.specs.Lists.{In}
+use Rattle.quiesce_word.specs.Words.{has_root, unpack}
+use Rattle.txn_records.specs.declared.entry.Entry.{Entry}
+use Rattle.txn_records.specs.Looks.{serial_of}
+use Rattle.txn_records.specs.Notes.{is_noted}
 use Rattle.change_board.specs.Scans.{Found}
 use Rattle.change_engine.specs.declared.passivating.LeftRoot.{LeftRoot}
 

@@ -2,16 +2,16 @@
 -- scans in which no node begins a transaction, until each was found drained.
 use Rattle.std.specs.Prelude.{◌≡◌, ◌⊎◌, ◌≤◌, ◌<◌, ℕ, All, IsTrue, Bool, false, not, List, [], ◌∷◌, ◌++◌, map, filter, flat_map, fold, length, vec_capacity, if◌then◌else◌}
 use Rattle.base.specs.Each.{Each}
-use Rattle.change_script.specs.declared.report.HistoryLine.{HistoryLine}
-use Rattle.change_script.specs.declared.report.HistoryLine.TheVariants as to
+use Rattle.report_types.specs.declared.report.HistoryLine.{HistoryLine}
+use Rattle.report_types.specs.declared.report.HistoryLine.TheVariants as to
 use Rattle.quiesce_core.specs.declared.event.Event.TheVariants as event
 use Rattle.quiesce_core.specs.Rules.{is_live_port}
 use Rattle.quiesce_core.specs.State.{Configuration}
-use Rattle.gate_records.specs.declared.looking.Look.{Look}
-use Rattle.gate_records.specs.declared.looking.Look.TheVariants.{Drained, Busy}
-use Rattle.gate_records.specs.declared.entry.Entry.{Entry}
-use Rattle.gate_records.specs.declared.entry.Entry.TheVariants.{Did, Looked}
-use Rattle.gate_records.specs.Looks.{is_drained_word, serial_of}
+use Rattle.txn_records.specs.declared.looking.Look.{Look}
+use Rattle.txn_records.specs.declared.looking.Look.TheVariants.{Drained, Busy}
+use Rattle.txn_records.specs.declared.entry.Entry.{Entry}
+use Rattle.txn_records.specs.declared.entry.Entry.TheVariants.{Did, Looked}
+use Rattle.txn_records.specs.Looks.{is_drained_word, serial_of}
 use Rattle.change_board.specs.declared.board.Board.{Ghosts as BoardWords}
 use Rattle.change_board.specs.Scans.{Found, ports_of, scan_entries}
 use Rattle.change_board.specs.Sights.{Sight}

@@ -6,13 +6,13 @@ use Rattle.change_plan.specs.declared.plan_data.Move.{Move}
 use Rattle.change_plan.specs.declared.plan_data.Plan.{Plan}
 use Rattle.config_graph.specs.Graph.{Graph, IsGraph}
 use Rattle.config_graph.specs.Sound.{Sound}
-use Rattle.plan_laws.specs.Commit.{is_one_of}
-use Rattle.plan_laws.specs.Committing.{made_in}
+use Rattle.change_plan_laws.specs.Commit.{is_one_of}
+use Rattle.change_plan_laws.specs.Committing.{made_in}
 use Rattle.quiesce_core.specs.Live.{IsGraphOf}
 use Rattle.quiesce_core.specs.State.{owner}
-use Rattle.gate_records.specs.Entries.{config_of}
-use Rattle.gate_records.specs.declared.entry.Entry.{Entry}
-use Rattle.gate_records.specs.Notes.{is_noted}
+use Rattle.txn_records.specs.Entries.{config_of}
+use Rattle.txn_records.specs.declared.entry.Entry.{Entry}
+use Rattle.txn_records.specs.Notes.{is_noted}
 
 -- The graph is the old one, the plan leads from there to a sound graph, and each port of each frozen node is noted as
 -- drained.

@@ -5,12 +5,12 @@ use Rattle.std.specs.List.{AllByRecursion, range_with_len}
 use Rattle.base.specs.Each.{Each}
 use Rattle.change_board.specs.declared.board.Board.{Ghosts as BoardWords}
 use Rattle.change_board.specs.declared.board.Scan.{Scan}
-use Rattle.gate_records.specs.declared.looking.Look.{Look}
-use Rattle.gate_records.specs.declared.looking.Look.TheVariants.{Drained, Busy}
-use Rattle.gate_records.specs.Entries.{config_of}
-use Rattle.gate_records.specs.declared.entry.Entry.{Entry}
-use Rattle.gate_records.specs.Looks.{ended_in_word}
-use Rattle.gate_records.specs.Records.{Adds}
+use Rattle.txn_records.specs.declared.looking.Look.{Look}
+use Rattle.txn_records.specs.declared.looking.Look.TheVariants.{Drained, Busy}
+use Rattle.txn_records.specs.Entries.{config_of}
+use Rattle.txn_records.specs.declared.entry.Entry.{Entry}
+use Rattle.txn_records.specs.Looks.{ended_in_word}
+use Rattle.txn_records.specs.Records.{Adds}
 use Rattle.change_board.specs.Scans.{Found, ended_in, look_entry, ports_of}
 use Rattle.change_engine.specs.Finishing.{IsScanIn, ScanSeen, all_entries}
 

@@ -1,16 +1,16 @@
 //! Events of a change that are done on a board and told in the history.
 
 ghost use Rattle.std.specs.Prelude.{◌≡◌, ◌+◌, ◌≤◌, ◌++◌, List, vec_capacity, vec_len};
-ghost use Rattle.gate_records.specs.declared.entry.Entry.{Entry};
+ghost use Rattle.txn_records.specs.declared.entry.Entry.{Entry};
 ghost use Rattle.change_board.specs.Steps.{HasRoomForAll, MayDoAll};
 ghost use Rattle.change_engine.specs.Carrying.{CarriesOut};
 ghost use Rattle.change_law.specs.Members.{lines_of_events};
 ghost use Rattle.change_engine.specs.Growing.{telling};
-ghost use Rattle.change_script.specs.declared.report.HistoryLine.{HistoryLine};
+ghost use Rattle.report_types.specs.declared.report.HistoryLine.{HistoryLine};
 
 use change_board::{Board, do_steps};
-use change_script::HistoryLine;
 use quiesce_core::Event;
+use report_types::HistoryLine;
 
 /// Does these events, in order, and appends lines to the history: the events' own lines, between others that are said
 /// before and behind them. It can't fail, and takes no memory.

@@ -1,8 +1,8 @@
 //! Waiting for the ports that a change closed to drain.
 
 ghost use Rattle.std.specs.Prelude.{◌≡◌, ◌≤◌, ◌<◌, ◌+◌, ◌*◌, ◌++◌, [], List, map, length, IfErr, OnErr, OnOk, vec_capacity, vec_len};
-ghost use Rattle.gate_records.specs.Entries.{config_of};
-ghost use Rattle.gate_records.specs.declared.entry.Entry.{Entry};
+ghost use Rattle.txn_records.specs.Entries.{config_of};
+ghost use Rattle.txn_records.specs.declared.entry.Entry.{Entry};
 ghost use Rattle.change_engine.specs.Breaking.{BrokeInRound};
 ghost use Rattle.change_engine.specs.Draining.{Waits, WhereNoMemory, WherePending, left_lines, root_line};
 ghost use Rattle.change_engine.specs.Growing.{telling};
@@ -10,8 +10,8 @@ ghost use Rattle.change_engine.specs.Passivating.{AreLivePorts, HasPlaceFor};
 
 use crate::passivating::{LeftRoot, Waiting, passivate, put};
 use change_board::Board;
-use change_script::HistoryLine;
 use config_graph::{List as Items, NoMemory};
+use report_types::HistoryLine;
 use std::alloc::AllocError;
 
 /// Why a change can't be committed.

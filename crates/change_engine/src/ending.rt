@@ -4,7 +4,7 @@ ghost use Rattle.std.specs.Prelude.{◌≡◌, ◌<◌, ◌^◌, ◌-◌, length
 ghost use Rattle.std.specs.List.{list_any};
 ghost use Rattle.change_law.specs.Endings as endings;
 ghost use Rattle.change_law.specs.Members as members;
-ghost use Rattle.gate_records.specs.declared.entry.Entry.{Entry};
+ghost use Rattle.txn_records.specs.declared.entry.Entry.{Entry};
 ghost use Rattle.change_engine.specs.Ending.{is_finish_line, unfinished_after};
 ghost use Rattle.change_lists.specs.Layouts.{live_at};
 ghost use Rattle.change_engine.specs.Growing.{telling};
@@ -13,8 +13,8 @@ ghost use Rattle.change_engine.specs.Stopping.{AreAllLive, Stops};
 use crate::stopping;
 use change_board::{Board, Collected};
 use change_lists::Layout;
-use change_script::{HistoryLine, Report};
 use config_graph::{List, NoMemory};
+use report_types::{HistoryLine, Report};
 
 /// Stops the nodes, and takes all logs in.
 pub(crate) fn take_logs<B: Board>(

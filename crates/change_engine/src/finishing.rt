@@ -7,8 +7,8 @@ ghost use Rattle.change_engine.specs.Growing.{telling};
 ghost use Rattle.change_engine.specs.Finishing.{Finished, Scans};
 
 use change_board::{Board, Scan};
-use change_script::HistoryLine;
 use config_graph::NoMemory;
+use report_types::HistoryLine;
 
 /// One for a scan that is a round, none for one that moved nothing and saw all at rest.
 fn count_of(scan: Scan) -> u32

@@ -6,18 +6,18 @@ ghost use Rattle.config_graph.specs.Graph.{IsGraph, ports};
 ghost use Rattle.config_graph.specs.Sound.{Sound};
 ghost use Rattle.config_graph.specs.declared.TheConstants.{MAX_NODES, MAX_PORTS};
 ghost use Rattle.change_law.specs.Members.{lines_of_events};
-ghost use Rattle.change_script.specs.declared.report.HistoryLine.TheVariants as to;
+ghost use Rattle.report_types.specs.declared.report.HistoryLine.TheVariants as to;
 ghost use Rattle.change_engine.specs.Growing.{telling};
-ghost use Rattle.change_engine.specs.Beginning.{Begins};
+ghost use Rattle.change_engine.specs.Beginning.{StartsSystem};
 
 use crate::carrying::carry_out;
 use crate::laws::starts_may_be_done;
 use crate::telling::push_lines;
 use change_board::Board;
 use change_lists::{Layout, list_start};
-use change_script::HistoryLine;
 use config_graph::{Graph, List, NoMemory, Text};
 use quiesce_core::Event;
+use report_types::HistoryLine;
 use std::alloc::Global;
 
 /// What a start leaves beside the board.
@@ -60,7 +60,7 @@ pub(crate) fn begin<B: Board>(
     requires few_ports { length (ports graph.now.nodes) ≤ MAX_PORTS }
     requires nothing_made { B.stands_for board.old [] }
     ensures begins { IfOk result
-        (λ x. Begins B.Board board.old (telling board.new x.history.items) name args.items graph.now) }
+        (λ x. StartsSystem B.Board board.old (telling board.new x.history.items) name args.items graph.now) }
     ensures is_graph { OnOk result (IsGraph graph.now) }
     ensures places { IfOk result (λ x. x.layout.places.items ≡ map Some (range_with_len 0 (length graph.now.nodes))) }
     ensures ports { IfOk result (λ x. x.layout.ports.items ≡ ports graph.now.nodes) }

@@ -4,31 +4,31 @@ ghost use Rattle.std.specs.Prelude.{◌≡◌, ◌+◌, ℕ, true, false, List, 
 ghost use Rattle.change_plan.specs.Plans.{IsPlanOf};
 ghost use Rattle.change_plan.specs.declared.plan_data.Move.{Move};
 ghost use Rattle.change_plan.specs.declared.plan_data.Plan.{Plan};
-ghost use Rattle.commit_laws.specs.Lists.{In};
-ghost use Rattle.commit_laws.specs.Steps.{change_all};
+ghost use Rattle.quiesce_commit_laws.specs.Lists.{In};
+ghost use Rattle.quiesce_commit_laws.specs.Steps.{change_all};
 ghost use Rattle.config_graph.specs.Graph.{Graph, IsGraph, ports};
 ghost use Rattle.config_graph.specs.Sound.{Sound};
 ghost use Rattle.config_graph.specs.declared.TheConstants.{MAX_NODES, MAX_PORTS};
-ghost use Rattle.quiescence_laws.specs.Starts.{start_of};
-ghost use Rattle.plan_laws.specs.Commit.{commit_events, ports_to_close};
+ghost use Rattle.quiesce_laws.specs.Starts.{start_of};
+ghost use Rattle.change_plan_laws.specs.Commit.{commit_events, ports_to_close};
 ghost use Rattle.quiesce_core.specs.Live.{IsGraphOf};
 ghost use Rattle.quiesce_core.specs.State.{Configuration, gate};
-ghost use Rattle.gate_word.specs.Words.{has_root, unpack};
-ghost use Rattle.gate_records.specs.Entries.{config_of};
-ghost use Rattle.gate_records.specs.declared.entry.Entry.{Entry};
-ghost use Rattle.gate_records.specs.declared.entry.Entry.TheVariants.{Looked};
-ghost use Rattle.gate_records.specs.Looks.{is_drained_word};
+ghost use Rattle.quiesce_word.specs.Words.{has_root, unpack};
+ghost use Rattle.txn_records.specs.Entries.{config_of};
+ghost use Rattle.txn_records.specs.declared.entry.Entry.{Entry};
+ghost use Rattle.txn_records.specs.declared.entry.Entry.TheVariants.{Looked};
+ghost use Rattle.txn_records.specs.Looks.{is_drained_word};
 ghost use Rattle.change_board.specs.Scans.{Found};
-ghost use Rattle.gate_records.specs.Notes.{is_noted};
-ghost use Rattle.gate_records.specs.Records.{IsRecord};
+ghost use Rattle.txn_records.specs.Notes.{is_noted};
+ghost use Rattle.txn_records.specs.Records.{IsRecord};
 ghost use Rattle.change_board.specs.Steps.{HasRoomForAll, MayDoAll, Room};
 ghost use Rattle.change_engine.specs.Engines.{IsPlanned};
 ghost use Rattle.change_board.specs.Transcripts.{entries};
 ghost use Rattle.change_engine.specs.Planning.{MayCarryOut};
 ghost use Rattle.change_engine.specs.Passivating.{AreLivePorts, IsPassivation, Passivation, WaitingRound, left_after, passivation_items};
 
-use commit_laws::starts_can_not_fail;
-use plan_laws::{commits_can_not_fail, commits_leave_the_new_graph};
+use change_plan_laws::{commits_can_not_fail, commits_leave_the_new_graph};
+use quiesce_commit_laws::starts_can_not_fail;
 
 /// Where a passivation leaves no root, the record notes each port that it closed. So what is linked, unlinked or
 /// removed next may rest on these ports.

@@ -2,22 +2,22 @@
 
 ghost use Rattle.std.specs.Prelude.{◌≡◌, ◌<◌, ◌≤◌, ◌+◌, ◌*◌, List, ◌∷◌, [], ◌++◌, length, map, IfOk, OnErr, OnOk, vec_capacity, vec_len};
 ghost use Rattle.quiesce_core.specs.declared.event.Event.TheVariants as event;
-ghost use Rattle.change_script.specs.declared.report.HistoryLine.{HistoryLine};
-ghost use Rattle.change_script.specs.declared.report.HistoryLine.TheVariants as to;
-ghost use Rattle.gate_records.specs.Entries.{config_of};
-ghost use Rattle.gate_records.specs.declared.entry.Entry.{Entry};
-ghost use Rattle.gate_records.specs.declared.entry.Entry.TheVariants.{Did};
-ghost use Rattle.gate_records.specs.Records.{Adds};
+ghost use Rattle.report_types.specs.declared.report.HistoryLine.{HistoryLine};
+ghost use Rattle.report_types.specs.declared.report.HistoryLine.TheVariants as to;
+ghost use Rattle.txn_records.specs.Entries.{config_of};
+ghost use Rattle.txn_records.specs.declared.entry.Entry.{Entry};
+ghost use Rattle.txn_records.specs.declared.entry.Entry.TheVariants.{Did};
+ghost use Rattle.txn_records.specs.Records.{Adds};
 ghost use Rattle.change_engine.specs.Breaking.{BrokeInRound, BrokeInScan};
 ghost use Rattle.change_engine.specs.Growing.{telling};
 ghost use Rattle.change_engine.specs.Passivating.{AreLivePorts, AreMadePorts, HasPlaceFor, Passed, Passivated, Rounded, lines_by, root_ports, roots_by};
 
 use change_board::Board;
-use change_script::HistoryLine;
 use config_graph::NoMemory;
-use gate_records::Look;
-use gate_word::Word;
+use quiesce_word::Word;
+use report_types::HistoryLine;
 use std::alloc::Global;
+use txn_records::Look;
 
 /// A port with the serial of the transaction that its owner began and that a look saw there.
 #[derive(Clone, Copy, Debug, PartialEq, Eq)]

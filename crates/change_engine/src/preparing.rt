@@ -3,7 +3,7 @@
 ghost use Rattle.std.specs.Prelude.{◌≡◌, ◌+◌, ◌*◌, ◌-◌, ◌^◌, ◌<◌, ◌++◌, ◌∷◌, [], List, map, IfOk, vec_len};
 ghost use Rattle.change_law.specs.Members.{lines_of_events};
 ghost use Rattle.change_plan.specs.declared.plan_data.Move.{Move};
-ghost use Rattle.change_engine.specs.Engines.{IsFor, IsPlanned, IsTold};
+ghost use Rattle.change_engine.specs.Engines.{IsFor, IsPlanned, IsLaidOut};
 ghost use Rattle.change_engine.specs.Passivating.{HasPlaceFor};
 ghost use Rattle.config_graph.specs.Graph.{IsGraph};
 ghost use Rattle.quiesce_core.specs.State.{Configuration};
@@ -14,9 +14,9 @@ use crate::passivating::Waiting;
 use crate::telling::push_lines;
 use change_lists::{Layout, PlanIndex, layouts_tell_commits};
 use change_plan::Plan;
-use change_script::HistoryLine;
 use config_graph::{Graph, NoMemory};
 use quiesce_core::Event;
+use report_types::HistoryLine;
 use std::alloc::Global;
 
 /// The events that open these ports.
@@ -52,7 +52,7 @@ pub(crate) fn list_change(
     new: &Graph,
     plan: &Plan,
 ) -> Result<Change, NoMemory>
-    requires planned { (c : Configuration) × (moves : List Move) × IsGraph old.now × IsTold layout.now old.now c
+    requires planned { (c : Configuration) × (moves : List Move) × IsGraph old.now × IsLaidOut layout.now old.now c
         × IsPlanned old.now new.now moves plan.now c }
     ensures for_plan { IfOk result (λ change. IsFor layout.now old.now new.now plan.now change) }
     ensures waiting { IfOk result (λ change. HasPlaceFor change.waiting (vec_len change.closed)) }
@@ -68,7 +68,7 @@ fn list_by(
     new: &Graph,
     plan: &PlanIndex<'_>,
 ) -> Result<Change, NoMemory>
-    requires planned { (c : Configuration) × (moves : List Move) × IsGraph old.now × IsTold layout.now old.now c
+    requires planned { (c : Configuration) × (moves : List Move) × IsGraph old.now × IsLaidOut layout.now old.now c
         × IsPlanned old.now new.now moves plan.now c }
     ensures for_plan { IfOk result (λ change. IsFor layout.now old.now new.now plan.now change) }
     ensures waiting { IfOk result (λ change. HasPlaceFor change.waiting (vec_len change.closed)) }

@@ -1,17 +1,17 @@
 //! Running a system until so many transactions have ended.
 
 ghost use Rattle.std.specs.Prelude.{◌≡◌, ◌≤◌, length, List, IfOk, OnErr, OnOk};
-ghost use Rattle.gate_records.specs.Entries.{config_of};
-ghost use Rattle.gate_records.specs.declared.entry.Entry.{Entry};
+ghost use Rattle.txn_records.specs.Entries.{config_of};
+ghost use Rattle.txn_records.specs.declared.entry.Entry.{Entry};
 ghost use Rattle.change_engine.specs.Breaking.{BrokeInRun};
 ghost use Rattle.change_engine.specs.Running as running;
 ghost use Rattle.change_engine.specs.Running.{Counts, ScansUntil};
 
 use change_board::{Board, Scan};
 use config_graph::NoMemory;
-use gate_records::Look;
-use gate_word::Word;
+use quiesce_word::Word;
 use std::alloc::AllocError;
+use txn_records::Look;
 
 /// How many transactions a look shows as ended.
 fn ended_by(look: Look) -> u32

@@ -1,15 +1,15 @@
 //! Stopping a system.
 
 ghost use Rattle.std.specs.Prelude.{◌≡◌, ◌⊎◌, ◌+◌, ◌*◌, ◌-◌, ◌^◌, ◌<◌, [], length, List, IfOk, OnErr};
-ghost use Rattle.gate_records.specs.declared.entry.Entry.{Entry};
+ghost use Rattle.txn_records.specs.declared.entry.Entry.{Entry};
 ghost use Rattle.change_engine.specs.Breaking.{BrokeInStop};
 ghost use Rattle.change_engine.specs.Growing.{Grew, telling};
 ghost use Rattle.change_engine.specs.Stopping.{AreAllLive, Stops};
 
 use crate::passivating::{Waiting, passivate, put};
 use change_board::{Board, Collected};
-use change_script::HistoryLine;
 use config_graph::NoMemory;
+use report_types::HistoryLine;
 use std::alloc::{AllocError, Global};
 
 /// How many lines a stop tells: its own, and for each port two.

@@ -7,9 +7,9 @@ use Rattle.std.proofs.lemmas.List.Elements.{All-cons, All-nil}
 use Rattle.base.specs.Each.{EachAfter}
 use Rattle.quiesce_core.specs.Doers.{is_of_change}
 use Rattle.quiesce_core.specs.State.{exchange}
-use Rattle.quiescence_laws.specs.Drained.{is_drained}
-use Rattle.change_script.specs.declared.report.HistoryLine.TheVariants as to
-use Rattle.change_script.specs.declared.report.HistoryLine.{HistoryLine}
+use Rattle.quiesce_laws.specs.Drained.{is_drained}
+use Rattle.report_types.specs.declared.report.HistoryLine.TheVariants as to
+use Rattle.report_types.specs.declared.report.HistoryLine.{HistoryLine}
 use Rattle.change_law.specs.Found.{is_drained_at, is_of_its_kind, passes_each}
 use Rattle.change_law.specs.Lawful.{IsDrainedAt, IsOfItsKind, StoodOpenWhereSaid}
 use Rattle.change_law.specs.Members.{Member, by_node, of_history, is_root, state_at}

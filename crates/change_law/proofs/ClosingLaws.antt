@@ -10,16 +10,16 @@ use Rattle.config_graph.specs.Graph.{Graph, ports, target_of}
 use Rattle.config_graph.specs.declared.node.Port.{Port}
 use Rattle.config_graph.specs.declared.node.Target.{Target}
 use Rattle.change_plan.specs.declared.plan_data.Plan.{Plan}
-use Rattle.commit_laws.specs.Steps.{change_all}
-use Rattle.commit_laws.specs.Work as work
-use Rattle.plan_laws.specs.Commit.{commit_events, commit_steps, new_links, reopened_ports}
-use Rattle.plan_laws.specs.Commit as commit
+use Rattle.quiesce_commit_laws.specs.Steps.{change_all}
+use Rattle.quiesce_commit_laws.specs.Work as work
+use Rattle.change_plan_laws.specs.Commit.{commit_events, commit_steps, new_links, reopened_ports}
+use Rattle.change_plan_laws.specs.Commit as commit
 use Rattle.quiesce_core.specs.State.{Configuration}
 use Rattle.quiesce_core.specs.declared.event.Event.{Event}
 use Rattle.quiesce_core.specs.declared.event.Event.TheVariants as event
-use Rattle.quiescence_laws.specs.Starts as starts
-use Rattle.change_script.specs.declared.report.HistoryLine.{HistoryLine}
-use Rattle.change_script.specs.declared.report.HistoryLine.TheVariants as to
+use Rattle.quiesce_laws.specs.Starts as starts
+use Rattle.report_types.specs.declared.report.HistoryLine.{HistoryLine}
+use Rattle.report_types.specs.declared.report.HistoryLine.TheVariants as to
 use Rattle.change_law.specs.Changes.{IsCommitted, IsGivenUp, commit_lines, drained_lines, pending_lines, seen_in_all}
 use Rattle.change_law.specs.Follows.{start_lines}
 use Rattle.change_law.specs.Members.{is_close, lines_of_events}

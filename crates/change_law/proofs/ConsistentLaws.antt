@@ -5,9 +5,9 @@ use Rattle.std.specs.List.{list_all}
 use Rattle.std.proofs.lemmas.Bool.{and_from, and_parts, both_ways, le-leb}
 use Rattle.base.specs.Each.{Each, EachAfter}
 use Rattle.base.proofs.EachLaws.{each_weaker}
-use Rattle.change_script.specs.declared.report.HistoryLine.{HistoryLine}
-use Rattle.change_script.specs.declared.report.HistoryLine.TheVariants as to
-use Rattle.change_script.specs.declared.report.Report.{Report}
+use Rattle.report_types.specs.declared.report.HistoryLine.{HistoryLine}
+use Rattle.report_types.specs.declared.report.HistoryLine.TheVariants as to
+use Rattle.report_types.specs.declared.report.Report.{Report}
 use Rattle.change_law.specs.Consistent.{Consistent, keeps_to_limit}
 use Rattle.change_law.specs.Lawful.{CameToRest, IsEndedAt, IsFewAt, IsFinishAt, IsRunAt, Lawful, LawfulInRounds, LawfulOnThreads, Merge, NumbersInRounds, NumbersOnThreads}
 use Rattle.change_law.specs.Members.{Member, by_node, of_history, is_root, lines, without_roots}

@@ -1,7 +1,7 @@
 -- The first number at which a test holds.
 use Rattle.std.proofs.Common.{◌≡◌, ℕ, ◌<◌, ◌≤◌, Bool, ⊎_elim, arith}
 use Rattle.std.proofs.lemmas.Bool.{both_ways, cases_eq, cases_lt}
-use Rattle.turns.specs.Round.{FirstAt}
+use Rattle.node_turn_laws.specs.Round.{FirstAt}
 
 -- there is one first number
 pub one_first : (test : ℕ → Bool) (m n : ℕ) → FirstAt test m → FirstAt test n → m ≡ n

@@ -18,21 +18,21 @@ use Rattle.quiesce_core.specs.State.{gate, is_live}
 use Rattle.quiesce_core.proofs.RunLaws.{run_if}
 use Rattle.quiesce_core.proofs.TableLaws.{live_made}
 use Rattle.quiesce_core.specs.declared.event.Event.{Event}
-use Rattle.quiescence_laws.specs.Roots.{has_root}
-use Rattle.turns.specs.Round.{is_end}
-use Rattle.change_script.specs.declared.report.HistoryLine.{HistoryLine}
-use Rattle.change_script.specs.declared.report.HistoryLine.TheVariants as to
-use Rattle.change_script.specs.declared.report.Last.{Last}
-use Rattle.change_script.specs.declared.report.Last.TheVariants as last
-use Rattle.change_script.specs.declared.report.NodeLog.{NodeLog}
-use Rattle.change_script.specs.declared.report.Report.{Report}
+use Rattle.quiesce_laws.specs.Roots.{has_root}
+use Rattle.node_turn_laws.specs.Round.{ends_transaction}
+use Rattle.report_types.specs.declared.report.HistoryLine.{HistoryLine}
+use Rattle.report_types.specs.declared.report.HistoryLine.TheVariants as to
+use Rattle.report_types.specs.declared.report.Last.{Last}
+use Rattle.report_types.specs.declared.report.Last.TheVariants as last
+use Rattle.report_types.specs.declared.report.NodeLog.{NodeLog}
+use Rattle.report_types.specs.declared.report.Report.{Report}
 use Rattle.change_law.specs.Endings.{moved_to}
 use Rattle.change_law.specs.Follows.{Follows}
 use Rattle.change_law.specs.Found.{IsFound, came_to_rest, held_at, held_since, is_drained_at, is_ended_at, is_few_at, is_finish_at, is_graph_at, is_line, is_of_its_kind, is_run_at, last_of_log, passes_each, since_line, up_to_line}
 use Rattle.change_law.specs.Lawful.{CameToRest, EndedSince, EndsAs, HeldSince, StoodOpen, StoodOpenWhereSaid, IsDrainedAt, IsEndedAt, IsFewAt, IsFinishAt, IsGraphAt, IsGraphDescribed, IsLawfulBy, IsOfItsKind, IsRunAt, Lawful, LawfulInRounds, LawfulOnThreads, Merge, described, is_done, is_idle_after}
 use Rattle.change_law.specs.Members.{Member, by_node, of_history, events, is_close, is_root, lines, state_at, without_roots}
 use Rattle.change_law.specs.Opening.{fold_of_node}
-use Rattle.commit_laws.specs.Steps.{live_ports}
+use Rattle.quiesce_commit_laws.specs.Steps.{live_ports}
 use Rattle.change_law.specs.Scene.{Seen}
 use Rattle.change_law.specs.Serial.{Serial}
 use Rattle.change_law.specs.Standing.{is_graph_of}
@@ -125,12 +125,12 @@ rests_if before h =
 
 -- numbers
 
-ended_since : (before : List Member) (n : ℕ) → nat_le n (count_by is_end (since_line before)) ≡ true → EndedSince before n
-ended_since before n h = record { front = up_to_line before; later = since_line before; parts = since_parts before; enough = leb-true n (count_by is_end (since_line before)) h }
+ended_since : (before : List Member) (n : ℕ) → nat_le n (count_by ends_transaction (since_line before)) ≡ true → EndedSince before n
+ended_since before n h = record { front = up_to_line before; later = since_line before; parts = since_parts before; enough = leb-true n (count_by ends_transaction (since_line before)) h }
 
 pub run_at : (before : List Member) (x : Member) → is_run_at before x ≡ true → IsRunAt before x
 run_at before (of_history (to.Run k n)) h =
-    let w = and_parts (nat_le n (count_by is_end (since_line before))) (nat_le k n || came_to_rest before) h in (
+    let w = and_parts (nat_le n (count_by ends_transaction (since_line before))) (nat_le k n || came_to_rest before) h in (
       ended_since before n w.0,
       ⊎_elim (λ (all : nat_le k n ≡ true). inl (leb-true k n all)) (λ (rest : came_to_rest before ≡ true). inr (rests_if before rest)) (or_cases (nat_le k n) (came_to_rest before) w.1),
     )

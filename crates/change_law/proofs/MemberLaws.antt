@@ -12,8 +12,8 @@ use Rattle.quiesce_core.specs.Doers.{is_of_change}
 use Rattle.quiesce_core.specs.Effect.{change_next}
 use Rattle.quiesce_core.specs.State.{empty}
 use Rattle.quiesce_core.proofs.RunLaws.{changes_make_the_configuration}
-use Rattle.change_script.specs.declared.report.HistoryLine.{HistoryLine}
-use Rattle.change_script.specs.declared.report.HistoryLine.TheVariants as to
+use Rattle.report_types.specs.declared.report.HistoryLine.{HistoryLine}
+use Rattle.report_types.specs.declared.report.HistoryLine.TheVariants as to
 use Rattle.change_law.specs.Lawful.{IsOfItsKind}
 use Rattle.change_law.specs.Members.{Member, by_node, of_history, event_in, event_of, events, is_root, line_in, lines, state_at, without_roots}
 use Rattle.change_law.specs.Scene.{config_after}

@@ -33,7 +33,7 @@ use Rattle.change_plan.specs.declared.plan_data.Plan.{Plan}
 use Rattle.change_plan.specs.declared.plan_data.Shift.{Shift}
 use Rattle.change_plan.proofs.SelectsLaws.{Contains-places, Selects-one}
 use Rattle.change_law.specs.Planning.{all_shifts, are_one, can_be_planned, gone_links, gone_nodes, have_one_kind, is_fit, is_fit_as, is_frozen, is_gone, is_gone_at, is_kept_link, is_lacking, is_led, is_node, is_relinked, is_relinked_as, is_same_link, is_same_target, is_shift, is_touched, is_twin, leads_elsewhere, leads_no_further, leads_to, leads_within, may_move, may_move_all, may_move_at, planned, rises, shifts, shifts_to}
-use Rattle.commit_laws.proofs.MemberLaws.{any_if, any_of}
+use Rattle.quiesce_commit_laws.proofs.MemberLaws.{any_if, any_of}
 use Rattle.change_law.proofs.TestLaws.{all_have, range_rises, rise_if, selects_by}
 
 -- nodes and links of both graphs

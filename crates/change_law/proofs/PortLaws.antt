@@ -9,17 +9,17 @@ use Rattle.std.proofs.lemmas.Bool.{and_from, and_parts, both_ways, lt-ltb, or_ca
 use Rattle.std.proofs.lemmas.List.Elements.{All-from_recursion, All-head, All-tail, filter_agree, filter_map-append}
 use Rattle.std.proofs.lemmas.List.Kept.{IsStrictlyIncreasing-filter}
 use Rattle.std.proofs.lemmas.List.Sums.{fold-append}
-use Rattle.commit_laws.specs.Steps.{change_all}
-use Rattle.commit_laws.proofs.TurningLaws.{SameLinks, live_port, same_turned}
+use Rattle.quiesce_commit_laws.specs.Steps.{change_all}
+use Rattle.quiesce_commit_laws.proofs.TurningLaws.{SameLinks, live_port, same_turned}
 use Rattle.config_graph.specs.Graph.{Graph}
 use Rattle.change_plan.specs.declared.plan_data.Plan.{Plan}
-use Rattle.plan_laws.specs.Commit.{is_at, is_one_of, node_path, ports_to_close, stands_in}
+use Rattle.change_plan_laws.specs.Commit.{is_at, is_one_of, node_path, ports_to_close, stands_in}
 use Rattle.quiesce_core.specs.Effect.{change_next, with_closed}
 use Rattle.quiesce_core.specs.Rules.{is_live_port}
 use Rattle.quiesce_core.specs.State.{Configuration, empty, is_live, owner, slot}
 use Rattle.quiesce_core.specs.declared.event.Event.TheVariants as event
 use Rattle.quiesce_core.specs.declared.state.Slot.{Slot}
-use Rattle.change_script.specs.declared.report.HistoryLine.{HistoryLine}
+use Rattle.report_types.specs.declared.report.HistoryLine.{HistoryLine}
 use Rattle.change_law.specs.Members.{event_of}
 use Rattle.change_law.specs.Scene.{config_after}
 use Rattle.change_law.proofs.TestLaws.{range_rises}

@@ -9,9 +9,9 @@ use Rattle.quiesce_core.specs.declared.event.Event.TheVariants as event
 use Rattle.quiesce_core.specs.Runs.{IsRun, is_end_of, is_open_after}
 use Rattle.quiesce_core.specs.State.{owner}
 use Rattle.quiesce_core.proofs.InductionLaws.{place}
-use Rattle.quiescence_laws.proofs.OrderLaws.{any_counted, ended_count, in_order, whole_once}
-use Rattle.quiescence_laws.proofs.QuiescenceLaws.{quiescent_at}
-use Rattle.change_script.specs.declared.report.HistoryLine.TheVariants as to
+use Rattle.quiesce_laws.proofs.OrderLaws.{any_counted, ended_count, in_order, whole_once}
+use Rattle.quiesce_laws.proofs.QuiescenceLaws.{quiescent_at}
+use Rattle.report_types.specs.declared.report.HistoryLine.TheVariants as to
 use Rattle.change_law.specs.Lawful.{IsEndedOnce, IsQuiescentAt}
 use Rattle.change_law.specs.Members.{Member, of_history, events, state_at}
 use Rattle.change_law.proofs.MemberLaws.{each_if, events_parts}

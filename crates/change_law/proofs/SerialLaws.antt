@@ -9,17 +9,17 @@ use Rattle.config_graph.specs.Graph.{Graph}
 use Rattle.config_graph.proofs.GraphByLaws.{one_graph}
 use Rattle.change_plan.specs.Plans.{IsPlanOf}
 use Rattle.change_plan.specs.declared.plan_data.Move.{Move}
-use Rattle.plan_laws.specs.Commit.{ports_to_close}
+use Rattle.change_plan_laws.specs.Commit.{ports_to_close}
 use Rattle.quiesce_core.specs.Live.{AreLinked, IsLiveNode}
 use Rattle.quiesce_core.specs.declared.event.Event.TheVariants.{Close}
-use Rattle.turns.specs.Round.{FirstAt, after_rounds, ended}
-use Rattle.turns.specs.World.{World}
-use Rattle.change_script.specs.declared.report.HistoryLine.{HistoryLine}
-use Rattle.change_script.specs.declared.report.HistoryLine.TheVariants as to
-use Rattle.change_script.specs.declared.report.Report.{Report}
+use Rattle.node_turn_laws.specs.Round.{FirstAt, after_rounds, ended}
+use Rattle.node_turn_laws.specs.World.{World}
+use Rattle.report_types.specs.declared.report.HistoryLine.{HistoryLine}
+use Rattle.report_types.specs.declared.report.HistoryLine.TheVariants as to
+use Rattle.report_types.specs.declared.report.Report.{Report}
 use Rattle.change_law.specs.Changes.{drained_lines, opening_lines}
 use Rattle.change_law.specs.Members.{is_pending}
-use Rattle.commit_laws.specs.Steps.{live_ports}
+use Rattle.quiesce_commit_laws.specs.Steps.{live_ports}
 use Rattle.change_law.specs.Serial.{ChangesTo, FinishesAt, IsPlayed, Played, Plays, RunsTo, Serial, ShowsGraph, StopsAt, after_changes, end_events, end_lines, finish_ends, is_none_left, lines_played, looks_after, report_of, run_ends, wait_ends, world_after}
 use Rattle.change_law.specs.Statements.{Statement, start, change, run, finish, show}
 use Rattle.change_law.proofs.PlanningLaws.{one_plan}

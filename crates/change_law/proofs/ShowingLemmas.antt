@@ -7,19 +7,19 @@ use Rattle.base.specs.Each.{Each, EachAfter}
 use Rattle.base.proofs.EachLaws.{each_at}
 use Rattle.config_graph.specs.Graph.{Graph}
 use Rattle.change_plan.specs.declared.plan_data.Plan.{Plan}
-use Rattle.commit_laws.specs.Steps.{is_shaping, live_ports}
-use Rattle.commit_laws.proofs.EndingLaws.{graph_stays}
-use Rattle.plan_laws.specs.Commit.{commit_events, ports_to_close}
-use Rattle.quiescence_laws.specs.Starts.{start_of}
+use Rattle.quiesce_commit_laws.specs.Steps.{is_shaping, live_ports}
+use Rattle.quiesce_commit_laws.proofs.EndingLaws.{graph_stays}
+use Rattle.change_plan_laws.specs.Commit.{commit_events, ports_to_close}
+use Rattle.quiesce_laws.specs.Starts.{start_of}
 use Rattle.quiesce_core.specs.Live.{IsGraphOf}
 use Rattle.quiesce_core.specs.Runs.{IsRun, state_after}
 use Rattle.quiesce_core.specs.State.{Configuration}
 use Rattle.quiesce_core.specs.declared.event.Event.{Event}
 use Rattle.quiesce_core.specs.declared.event.Event.TheVariants as event
 use Rattle.quiesce_core.proofs.RunLaws.{fronts_are_runs}
-use Rattle.change_script.specs.declared.report.HistoryLine.{HistoryLine}
-use Rattle.change_script.specs.declared.report.HistoryLine.TheVariants as to
-use Rattle.change_script.specs.declared.report.Report.{Report}
+use Rattle.report_types.specs.declared.report.HistoryLine.{HistoryLine}
+use Rattle.report_types.specs.declared.report.HistoryLine.TheVariants as to
+use Rattle.report_types.specs.declared.report.Report.{Report}
 use Rattle.change_law.specs.Changes.{IsCommitted, IsGivenUp, commit_lines, drained_lines, opening_lines, pending_lines, seen_in_all}
 use Rattle.change_law.specs.Follows.{Follows, IsRight, Part, lines_of}
 use Rattle.change_law.specs.Lawful.{IsGraphAt, IsLawfulBy, IsOfItsKind, described}

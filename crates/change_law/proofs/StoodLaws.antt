@@ -8,7 +8,7 @@ use Rattle.std.proofs.lemmas.List.Elements.{All-head}
 use Rattle.std.proofs.lemmas.Option.{same_Some}
 use Rattle.base.proofs.PlaceLaws.{heads_are, tails_are}
 use Rattle.config_graph.specs.Kinds.{row}
-use Rattle.gate_word.specs.Phases.{is_idle}
+use Rattle.quiesce_word.specs.Phases.{is_idle}
 use Rattle.quiesce_core.specs.Alters.{gate_next}
 use Rattle.quiesce_core.specs.Doers.{is_of_change}
 use Rattle.quiesce_core.specs.Effect.{effect}
@@ -27,12 +27,12 @@ use Rattle.quiesce_core.proofs.RunLaws.{fronts_are_runs}
 use Rattle.quiesce_core.proofs.SoundnessLaws.{put_here}
 use Rattle.quiesce_core.proofs.StabilityLaws.{busy_is_live}
 use Rattle.quiesce_core.proofs.TableLaws.{gate_place}
-use Rattle.quiescence_laws.specs.Events.{reopens}
-use Rattle.quiescence_laws.specs.Roots.{has_root}
-use Rattle.quiescence_laws.proofs.ExchangeLaws.{PortStep, begins, calls, ends, port_step, stays}
-use Rattle.quiescence_laws.proofs.RootLaws.{closed_stays, root_since}
-use Rattle.change_script.specs.declared.report.HistoryLine.{HistoryLine}
-use Rattle.change_script.specs.declared.report.HistoryLine.TheVariants as to
+use Rattle.quiesce_laws.specs.Events.{reopens}
+use Rattle.quiesce_laws.specs.Roots.{has_root}
+use Rattle.quiesce_laws.proofs.ExchangeLaws.{PortStep, begins, calls, ends, port_step, stays}
+use Rattle.quiesce_laws.proofs.RootLaws.{closed_stays, root_since}
+use Rattle.report_types.specs.declared.report.HistoryLine.{HistoryLine}
+use Rattle.report_types.specs.declared.report.HistoryLine.TheVariants as to
 use Rattle.change_law.specs.Lawful.{IsOfItsKind, StoodOpen}
 use Rattle.change_law.specs.Members.{Member, by_node, of_history, event_in, event_of, events, lines, state_at}
 use Rattle.change_law.specs.Roots.{StoodSinceClose}

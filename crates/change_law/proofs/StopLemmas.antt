@@ -19,15 +19,15 @@ use Rattle.quiesce_core.specs.Rules.{is_live_port}
 use Rattle.quiesce_core.specs.State.{Configuration, State, empty, is_live, owner}
 use Rattle.quiesce_core.proofs.InductionLaws.{along}
 use Rattle.quiesce_core.proofs.TableLaws.{gate_place}
-use Rattle.quiescence_laws.specs.Drained.{is_drained}
-use Rattle.quiescence_laws.specs.Events.{reopens}
-use Rattle.quiescence_laws.proofs.DrainingLaws.{drained_stays, no_node_reopens}
-use Rattle.commit_laws.specs.Steps.{change_all, is_shaping, live_ports}
-use Rattle.commit_laws.proofs.EndingLaws.{none_open}
-use Rattle.commit_laws.proofs.TurningLaws.{SameLinks, live_still, same_turned}
-use Rattle.change_script.specs.declared.report.HistoryLine.{HistoryLine}
-use Rattle.change_script.specs.declared.report.HistoryLine.TheVariants as to
-use Rattle.change_script.specs.declared.report.Report.{Report}
+use Rattle.quiesce_laws.specs.Drained.{is_drained}
+use Rattle.quiesce_laws.specs.Events.{reopens}
+use Rattle.quiesce_laws.proofs.DrainingLaws.{drained_stays, no_node_reopens}
+use Rattle.quiesce_commit_laws.specs.Steps.{change_all, is_shaping, live_ports}
+use Rattle.quiesce_commit_laws.proofs.EndingLaws.{none_open}
+use Rattle.quiesce_commit_laws.proofs.TurningLaws.{SameLinks, live_still, same_turned}
+use Rattle.report_types.specs.declared.report.HistoryLine.{HistoryLine}
+use Rattle.report_types.specs.declared.report.HistoryLine.TheVariants as to
+use Rattle.report_types.specs.declared.report.Report.{Report}
 use Rattle.change_law.specs.Follows.{Follows, IsStop, lines_of}
 use Rattle.change_law.specs.Lawful.{IsDrainedAt, IsOfItsKind, Merge}
 use Rattle.change_law.specs.Members.{Member, of_history, event_of, events, is_root, lines, state_at, without_roots}

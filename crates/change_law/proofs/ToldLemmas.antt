@@ -10,14 +10,14 @@ use Rattle.base.proofs.MapLaws.{list_any-map}
 use Rattle.config_graph.specs.Graph.{Graph}
 use Rattle.change_plan.specs.declared.plan_data.Move.{Move}
 use Rattle.change_plan.specs.declared.plan_data.Plan.{Plan}
-use Rattle.plan_laws.specs.Commit.{ports_to_close}
+use Rattle.change_plan_laws.specs.Commit.{ports_to_close}
 use Rattle.quiesce_core.specs.State.{Configuration}
-use Rattle.change_script.specs.declared.report.HistoryLine.{HistoryLine}
+use Rattle.report_types.specs.declared.report.HistoryLine.{HistoryLine}
 use Rattle.change_law.specs.Changes.{AreLooks, IsChange, IsCommitted, IsGivenUp, PortsRise, opening_lines, seen_in_all}
 use Rattle.change_law.specs.Follows.{Follows, IsRight, Part, lines_of, skip_lines, stop_lines}
 use Rattle.change_law.specs.Members.{is_pending}
 use Rattle.change_law.specs.Planning.{can_be_planned, planned, rises}
-use Rattle.commit_laws.specs.Steps.{live_ports}
+use Rattle.quiesce_commit_laws.specs.Steps.{live_ports}
 use Rattle.change_law.specs.Scene.{AreSeen, Seen, config_after}
 use Rattle.change_law.specs.Standing.{is_graph_of}
 use Rattle.change_law.specs.Statements.{Statement, start, change, run, finish, show}
@@ -25,7 +25,7 @@ use Rattle.change_law.specs.Told.{Told, no_more, counted, shown_graph, looked, a
 use Rattle.change_law.proofs.Checking.{all_by}
 use Rattle.change_law.proofs.PlanningLaws.{moves_lead_so, planned_so}
 use Rattle.change_law.proofs.StandingLaws.{graph_by}
-use Rattle.commit_laws.proofs.MemberLaws.{any_of}
+use Rattle.quiesce_commit_laws.proofs.MemberLaws.{any_of}
 use Rattle.change_law.proofs.TestLaws.{all_have, none_counted, rise_if}
 
 abbrev all_ports : List ℕ → List Seen → List ℕ

@@ -7,11 +7,11 @@ use Rattle.change_plan.specs.Moves.{MayMoveAll}
 use Rattle.change_plan.specs.Plans.{IsPlanOf}
 use Rattle.change_plan.specs.declared.plan_data.Move.{Move}
 use Rattle.change_plan.specs.declared.plan_data.Plan.{Plan}
-use Rattle.plan_laws.specs.Commit.{commit_events, ports_to_close}
+use Rattle.change_plan_laws.specs.Commit.{commit_events, ports_to_close}
 use Rattle.quiesce_core.specs.Live.{IsGraphOf}
 use Rattle.quiesce_core.specs.State.{Configuration}
-use Rattle.change_script.specs.declared.report.HistoryLine.{HistoryLine}
-use Rattle.change_script.specs.declared.report.HistoryLine.TheVariants as to
+use Rattle.report_types.specs.declared.report.HistoryLine.{HistoryLine}
+use Rattle.report_types.specs.declared.report.HistoryLine.TheVariants as to
 use Rattle.change_law.specs.Members.{lines_of_events}
 use Rattle.change_law.specs.Scene.{AreSeen, Seen, config_after, drained_line, root_line}
 

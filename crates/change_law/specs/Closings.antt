@@ -5,11 +5,11 @@ use Rattle.config_graph.specs.Graph.{Graph}
 use Rattle.change_plan.specs.Plans.{IsPlanOf}
 use Rattle.change_plan.specs.declared.plan_data.Move.{Move}
 use Rattle.change_plan.specs.declared.plan_data.Plan.{Plan}
-use Rattle.plan_laws.specs.Commit.{is_one_of, ports_to_close}
+use Rattle.change_plan_laws.specs.Commit.{is_one_of, ports_to_close}
 use Rattle.quiesce_core.specs.Live.{IsGraphOf}
 use Rattle.quiesce_core.specs.State.{owner}
-use Rattle.change_script.specs.declared.report.HistoryLine.{HistoryLine}
-use Rattle.change_script.specs.declared.report.HistoryLine.TheVariants as to
+use Rattle.report_types.specs.declared.report.HistoryLine.{HistoryLine}
+use Rattle.report_types.specs.declared.report.HistoryLine.TheVariants as to
 use Rattle.change_law.specs.Changes.{opening_lines}
 use Rattle.change_law.specs.Follows.{Part, lines_of}
 use Rattle.change_law.specs.Scene.{config_after}

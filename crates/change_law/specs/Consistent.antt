@@ -2,9 +2,9 @@
 -- `run` lines, and of those of `finish` lines only that they keep to their limit.
 use Rattle.std.specs.Prelude.{Bool, true, nat_le, List, IsTrue}
 use Rattle.std.specs.List.{list_all}
-use Rattle.change_script.specs.declared.report.HistoryLine.{HistoryLine}
-use Rattle.change_script.specs.declared.report.HistoryLine.TheVariants as to
-use Rattle.change_script.specs.declared.report.Report.{Report}
+use Rattle.report_types.specs.declared.report.HistoryLine.{HistoryLine}
+use Rattle.report_types.specs.declared.report.HistoryLine.TheVariants as to
+use Rattle.report_types.specs.declared.report.Report.{Report}
 use Rattle.change_law.specs.Lawful.{Lawful}
 use Rattle.change_law.specs.Statements.{Statement}
 

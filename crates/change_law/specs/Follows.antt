@@ -4,12 +4,12 @@ use Rattle.std.specs.Prelude.{◌≡◌, ℕ, ℤ, true, false, List, [], ◌∷
 use Rattle.std.specs.List.{list_any}
 use Rattle.base.specs.Each.{Each}
 use Rattle.config_graph.specs.Graph.{Graph}
-use Rattle.quiescence_laws.specs.Starts.{start_of}
-use Rattle.change_script.specs.declared.report.HistoryLine.{HistoryLine}
-use Rattle.change_script.specs.declared.report.HistoryLine.TheVariants as to
+use Rattle.quiesce_laws.specs.Starts.{start_of}
+use Rattle.report_types.specs.declared.report.HistoryLine.{HistoryLine}
+use Rattle.report_types.specs.declared.report.HistoryLine.TheVariants as to
 use Rattle.change_law.specs.Changes.{IsChange}
 use Rattle.change_law.specs.Members.{is_pending, lines_of_events}
-use Rattle.commit_laws.specs.Steps.{live_ports}
+use Rattle.quiesce_commit_laws.specs.Steps.{live_ports}
 use Rattle.change_law.specs.Scene.{AreSeen, Seen, config_after, drained_line}
 use Rattle.change_law.specs.Statements.{Statement, start, change, run, finish, show}
 

@@ -10,19 +10,19 @@ use Rattle.quiesce_core.specs.Doers.{is_of_change}
 use Rattle.quiesce_core.specs.Runs.{can_run, done_by}
 use Rattle.quiesce_core.specs.State.{empty, exchange, is_live}
 use Rattle.quiesce_core.specs.declared.event.Event.{Event}
-use Rattle.quiescence_laws.specs.Drained.{is_drained}
-use Rattle.turns.specs.Round.{is_end}
-use Rattle.change_script.specs.declared.report.HistoryLine.{HistoryLine}
-use Rattle.change_script.specs.declared.report.HistoryLine.TheVariants as to
-use Rattle.change_script.specs.declared.report.Last.{Last}
-use Rattle.change_script.specs.declared.report.Last.TheVariants as last
-use Rattle.change_script.specs.declared.report.NodeLog.{NodeLog}
-use Rattle.change_script.specs.declared.report.Report.{Report}
+use Rattle.quiesce_laws.specs.Drained.{is_drained}
+use Rattle.node_turn_laws.specs.Round.{ends_transaction}
+use Rattle.report_types.specs.declared.report.HistoryLine.{HistoryLine}
+use Rattle.report_types.specs.declared.report.HistoryLine.TheVariants as to
+use Rattle.report_types.specs.declared.report.Last.{Last}
+use Rattle.report_types.specs.declared.report.Last.TheVariants as last
+use Rattle.report_types.specs.declared.report.NodeLog.{NodeLog}
+use Rattle.report_types.specs.declared.report.Report.{Report}
 use Rattle.change_law.specs.Endings.{moved_to, status_of}
 use Rattle.change_law.specs.Lawful.{StoodOpenWhereSaid, described, is_done, is_idle_after, unfinished_of}
 use Rattle.change_law.specs.Members.{Member, by_node, of_history, events, lines, made_slot, state_at, without_roots}
 use Rattle.change_law.specs.Opening.{fold_of_node}
-use Rattle.commit_laws.specs.Steps.{live_ports}
+use Rattle.quiesce_commit_laws.specs.Steps.{live_ports}
 use Rattle.change_law.specs.Scene.{Seen}
 use Rattle.change_law.specs.Standing.{is_graph_of}
 use Rattle.change_law.specs.Statements.{Statement}
@@ -86,7 +86,7 @@ came_to_rest before =
 
 -- whether the numbers are those of a system on threads
 abbrev pub is_run_at : List Member → Member → Bool
-is_run_at before (of_history (to.Run k n)) = nat_le n (count_by is_end (since_line before)) && (nat_le k n || came_to_rest before)
+is_run_at before (of_history (to.Run k n)) = nat_le n (count_by ends_transaction (since_line before)) && (nat_le k n || came_to_rest before)
 is_run_at before _ = true
 
 abbrev pub is_finish_at : List Member → Member → Bool
@@ -95,7 +95,7 @@ is_finish_at before _ = true
 
 -- whether they may be those of a system in rounds
 abbrev pub is_ended_at : List Member → Member → Bool
-is_ended_at before (of_history (to.Run k n)) = nat_le n (count_by is_end (since_line before))
+is_ended_at before (of_history (to.Run k n)) = nat_le n (count_by ends_transaction (since_line before))
 is_ended_at before _ = true
 
 abbrev pub is_few_at : List Member → Member → Bool

@@ -10,25 +10,25 @@ use Rattle.config_graph.specs.Graph.{Graph}
 use Rattle.quiesce_core.specs.declared.event.Event.{Event}
 use Rattle.quiesce_core.specs.Doers.{is_of_change}
 use Rattle.quiesce_core.specs.Live.{IsGraphOf}
-use Rattle.gate_word.specs.Phases.{is_idle}
+use Rattle.quiesce_word.specs.Phases.{is_idle}
 use Rattle.quiesce_core.specs.Runs.{IsRun, done_by, is_begin_of, is_end_of, state_after}
 use Rattle.quiesce_core.specs.Settled.{Quiescent}
 use Rattle.quiesce_core.specs.State.{exchange, gate, is_live, owner}
-use Rattle.quiescence_laws.specs.Drained.{is_drained}
-use Rattle.quiescence_laws.specs.Events.{is_ask_of, is_give_of, is_hear_of, is_more_of, is_take_of}
-use Rattle.quiescence_laws.specs.Roots.{has_root}
-use Rattle.turns.specs.Round.{is_end}
-use Rattle.change_script.specs.declared.report.HistoryLine.{HistoryLine}
-use Rattle.change_script.specs.declared.report.HistoryLine.TheVariants as to
-use Rattle.change_script.specs.declared.report.Last.{Last}
-use Rattle.change_script.specs.declared.report.Last.TheVariants as last
-use Rattle.change_script.specs.declared.report.NodeLog.{NodeLog}
-use Rattle.change_script.specs.declared.report.Report.{Report}
+use Rattle.quiesce_laws.specs.Drained.{is_drained}
+use Rattle.quiesce_laws.specs.Events.{is_ask_of, is_give_of, is_hear_of, is_more_of, is_take_of}
+use Rattle.quiesce_laws.specs.Roots.{has_root}
+use Rattle.node_turn_laws.specs.Round.{ends_transaction}
+use Rattle.report_types.specs.declared.report.HistoryLine.{HistoryLine}
+use Rattle.report_types.specs.declared.report.HistoryLine.TheVariants as to
+use Rattle.report_types.specs.declared.report.Last.{Last}
+use Rattle.report_types.specs.declared.report.Last.TheVariants as last
+use Rattle.report_types.specs.declared.report.NodeLog.{NodeLog}
+use Rattle.report_types.specs.declared.report.Report.{Report}
 use Rattle.change_law.specs.Endings.{moved_to, status_of}
 use Rattle.change_law.specs.Follows.{Follows}
 use Rattle.change_law.specs.Members.{Member, by_node, of_history, events, is_close, lines, made_slot, state_at, without_roots}
 use Rattle.change_law.specs.Opening.{fold_of_node}
-use Rattle.commit_laws.specs.Steps.{live_ports}
+use Rattle.quiesce_commit_laws.specs.Steps.{live_ports}
 use Rattle.change_law.specs.Serial.{Serial}
 use Rattle.change_law.specs.Statements.{Statement, graph_of, is_finish}
 
@@ -187,7 +187,7 @@ pub record EndedSince (before : List Member) (n : ℕ) : Type 0 where
   pub front : List Member
   pub later : List Event
   pub parts : before ≡ front ++ map by_node later
-  pub enough : n ≤ count_by is_end later
+  pub enough : n ≤ count_by ends_transaction later
 
 -- A `run` ended with as many transactions as it says: with all that were asked for, or all came to rest.
 abbrev pub IsRunAt : List Member → Member → Type 0

@@ -15,3 +15,4 @@ pub mod Planning
 pub mod Standing
 pub mod Told
 pub mod Found
+pub mod Asked

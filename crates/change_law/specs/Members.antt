@@ -5,8 +5,8 @@ use Rattle.quiesce_core.specs.declared.event.Event.{Event}
 use Rattle.quiesce_core.specs.declared.event.Event.TheVariants as event
 use Rattle.quiesce_core.specs.State.{State}
 use Rattle.quiesce_core.specs.Runs.{state_after}
-use Rattle.change_script.specs.declared.report.HistoryLine.{HistoryLine}
-use Rattle.change_script.specs.declared.report.HistoryLine.TheVariants.{Make, Link, Unlink, Remove, Close, Reopen, Commit, Pending, Root}
+use Rattle.report_types.specs.declared.report.HistoryLine.{HistoryLine}
+use Rattle.report_types.specs.declared.report.HistoryLine.TheVariants.{Make, Link, Unlink, Remove, Close, Reopen, Commit, Pending, Root}
 
 -- the event that a line is
 abbrev pub event_of : HistoryLine → Option Event

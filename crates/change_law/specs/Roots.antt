@@ -1,10 +1,10 @@
 -- What `StoodOpen` of Lawful comes to in a run: the root stood open from the port's last close on.
 use Rattle.std.specs.Prelude.{◌≡◌, ℕ, false, List, ◌∷◌, ◌++◌, IsTrue}
 use Rattle.std.specs.List.{list_any}
-use Rattle.quiescence_laws.specs.Events.{reopens}
-use Rattle.quiescence_laws.specs.Roots.{has_root}
-use Rattle.change_script.specs.declared.report.HistoryLine.{HistoryLine}
-use Rattle.change_script.specs.declared.report.HistoryLine.TheVariants as to
+use Rattle.quiesce_laws.specs.Events.{reopens}
+use Rattle.quiesce_laws.specs.Roots.{has_root}
+use Rattle.report_types.specs.declared.report.HistoryLine.{HistoryLine}
+use Rattle.report_types.specs.declared.report.HistoryLine.TheVariants as to
 use Rattle.change_law.specs.Members.{Member, of_history, events, is_close, lines, state_at, without_roots}
 
 -- Root k of port p stood open from a close of the port on, through members that don't reopen it, to a place behind all

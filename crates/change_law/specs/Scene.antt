@@ -1,10 +1,10 @@
 -- What the lines of a history so far come to, and what looks at closed ports found.
 use Rattle.std.specs.Prelude.{◌≡◌, ℕ, ◌==◌, List, filter_map}
 use Rattle.std.specs.List.{count_by}
-use Rattle.commit_laws.specs.Steps.{change_all}
+use Rattle.quiesce_commit_laws.specs.Steps.{change_all}
 use Rattle.quiesce_core.specs.State.{Configuration, empty}
-use Rattle.change_script.specs.declared.report.HistoryLine.{HistoryLine}
-use Rattle.change_script.specs.declared.report.HistoryLine.TheVariants as to
+use Rattle.report_types.specs.declared.report.HistoryLine.{HistoryLine}
+use Rattle.report_types.specs.declared.report.HistoryLine.TheVariants as to
 use Rattle.change_law.specs.Members.{event_of}
 
 -- the configuration: the lines that are events alone change it

@@ -8,10 +8,10 @@ use Rattle.config_graph.specs.declared.node.Made.{Made}
 use Rattle.change_plan.specs.Refusals.{CanPlan}
 use Rattle.change_plan.specs.Room.{HasRoomFor}
 use Rattle.change_plan.specs.declared.plan_data.Move.{Move}
-use Rattle.change_script.specs.declared.script.Body.{Body}
-use Rattle.change_script.specs.declared.script.Body.TheVariants as bodies
-use Rattle.change_script.specs.declared.script.Script.{Script}
-use Rattle.change_script.specs.declared.script.ScriptLine.{ScriptLine}
+use Rattle.report_types.specs.declared.script.Body.{Body}
+use Rattle.report_types.specs.declared.script.Body.TheVariants as bodies
+use Rattle.report_types.specs.declared.script.Script.{Script}
+use Rattle.report_types.specs.declared.script.ScriptLine.{ScriptLine}
 use Rattle.change_law.specs.Statements.{Statement, start, change, run, finish, show}
 
 -- what stands above a line: the file that is looked in, the graph that was named last, and how many nodes and ports

@@ -10,27 +10,27 @@ use Rattle.change_plan.specs.Moves.{MayMoveAll}
 use Rattle.change_plan.specs.Plans.{IsPlanOf}
 use Rattle.change_plan.specs.declared.plan_data.Move.{Move}
 use Rattle.change_plan.specs.declared.plan_data.Plan.{Plan}
-use Rattle.plan_laws.specs.Commit.{commit_events, ports_to_close}
+use Rattle.change_plan_laws.specs.Commit.{commit_events, ports_to_close}
 use Rattle.quiesce_core.specs.Live.{IsGraphOf}
 use Rattle.quiesce_core.specs.Runs.{done_by}
 use Rattle.quiesce_core.specs.State.{exchange, is_live}
 use Rattle.quiesce_core.specs.declared.event.Event.{Event}
 use Rattle.quiesce_core.specs.declared.event.Event.TheVariants.{Close, Reopen}
-use Rattle.quiescence_laws.specs.Drained.{is_drained}
-use Rattle.quiescence_laws.specs.Starts.{start_of}
-use Rattle.turns.specs.Round.{FirstAt, after_rounds, ended, is_at_rest, is_done, stands_still}
-use Rattle.turns.specs.World.{World, nowhere, state_of, with_event}
-use Rattle.change_script.specs.declared.report.HistoryLine.{HistoryLine}
-use Rattle.change_script.specs.declared.report.HistoryLine.TheVariants as to
-use Rattle.change_script.specs.declared.report.Last.{Last}
-use Rattle.change_script.specs.declared.report.Last.TheVariants as last
-use Rattle.change_script.specs.declared.report.NodeLog.{NodeLog}
-use Rattle.change_script.specs.declared.report.Report.{Report}
+use Rattle.quiesce_laws.specs.Drained.{is_drained}
+use Rattle.quiesce_laws.specs.Starts.{start_of}
+use Rattle.node_turn_laws.specs.Round.{FirstAt, after_rounds, ended, is_at_rest, is_done, stands_still}
+use Rattle.node_turn_laws.specs.World.{World, nowhere, state_of, with_event}
+use Rattle.report_types.specs.declared.report.HistoryLine.{HistoryLine}
+use Rattle.report_types.specs.declared.report.HistoryLine.TheVariants as to
+use Rattle.report_types.specs.declared.report.Last.{Last}
+use Rattle.report_types.specs.declared.report.Last.TheVariants as last
+use Rattle.report_types.specs.declared.report.NodeLog.{NodeLog}
+use Rattle.report_types.specs.declared.report.Report.{Report}
 use Rattle.change_law.specs.Changes.{commit_lines, drained_lines, opening_lines, pending_lines}
 use Rattle.change_law.specs.Endings.{moved_to, status_of}
 use Rattle.change_law.specs.Follows.{skip_lines, start_lines}
 use Rattle.change_law.specs.Members.{is_pending}
-use Rattle.commit_laws.specs.Steps.{live_ports}
+use Rattle.quiesce_commit_laws.specs.Steps.{live_ports}
 use Rattle.change_law.specs.Scene.{Seen}
 use Rattle.change_law.specs.Statements.{Statement, start, change, run, finish, show, is_finish}
 

@@ -6,15 +6,15 @@ use Rattle.std.specs.List.{count_by, list_all, list_any}
 use Rattle.config_graph.specs.Graph.{Graph}
 use Rattle.change_plan.specs.declared.plan_data.Move.{Move}
 use Rattle.change_plan.specs.declared.plan_data.Plan.{Plan}
-use Rattle.plan_laws.specs.Commit.{ports_to_close}
+use Rattle.change_plan_laws.specs.Commit.{ports_to_close}
 use Rattle.quiesce_core.specs.State.{Configuration}
-use Rattle.change_script.specs.declared.report.HistoryLine.{HistoryLine}
-use Rattle.change_script.specs.declared.report.HistoryLine.TheVariants as to
+use Rattle.report_types.specs.declared.report.HistoryLine.{HistoryLine}
+use Rattle.report_types.specs.declared.report.HistoryLine.TheVariants as to
 use Rattle.change_law.specs.Changes.{commit_lines, drained_lines, opening_lines, pending_lines, seen_in_all}
 use Rattle.change_law.specs.Follows.{Part, lines_of, skip_lines, start_lines, stop_lines}
 use Rattle.change_law.specs.Members.{is_pending}
 use Rattle.change_law.specs.Planning.{can_be_planned, planned, rises}
-use Rattle.commit_laws.specs.Steps.{live_ports}
+use Rattle.quiesce_commit_laws.specs.Steps.{live_ports}
 use Rattle.change_law.specs.Scene.{Seen, config_after}
 use Rattle.change_law.specs.Standing.{is_graph_of}
 use Rattle.change_law.specs.Statements.{Statement, start, change, run, finish, show}

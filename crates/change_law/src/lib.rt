@@ -1,7 +1,8 @@
-//! What a report of a run with changes must be: definitions, and laws on them.
+//! What a script asks of a run, and what a report of it must be: definitions, and laws on them.
 #![tactic(auto)]
 
 mod laws;
+mod steps;
 
 pub use laws::{
     a_configuration_has_one_graph, a_first_number_is_one, a_moved_state_is_the_last_one,
@@ -11,3 +12,4 @@ pub use laws::{
     plans_and_graphs_are_found_by_tests, rounds_have_each_line, there_is_one_report_of_rounds,
     transactions_end_once,
 };
+pub use steps::{Replacement, Start, Step};

@@ -14,7 +14,7 @@ use Rattle.config_graph.specs.declared.node.Node.{Node}
 use Rattle.config_graph.specs.declared.node.Port.{Port}
 use Rattle.quiesce_core.specs.declared.event.Event.{Event}
 use Rattle.quiesce_core.specs.declared.event.Event.TheVariants as event
-use Rattle.plan_laws.specs.Commit.{node_at}
+use Rattle.change_plan_laws.specs.Commit.{node_at}
 use Rattle.change_lists.specs.Lists.{makes_by, ports_from, ports_in, source_by}
 use Rattle.change_lists.proofs.ListingLaws.{one_of}
 

@@ -9,7 +9,7 @@ use Rattle.config_graph.specs.Graph.{Graph, index_of}
 use Rattle.change_plan.specs.declared.plan_data.Plan.{Plan}
 use Rattle.quiesce_core.specs.State.{Configuration}
 use Rattle.quiesce_core.specs.declared.state.Slot.{Slot}
-use Rattle.plan_laws.specs.Commit.{node_path}
+use Rattle.change_plan_laws.specs.Commit.{node_path}
 use Rattle.change_lists.specs.Layouts.{IsLayoutOf, is_among, place_in}
 use Rattle.change_lists.specs.Lists.{place_after, places_after}
 use Rattle.change_lists.specs.declared.layout.Layout.{Layout}

@@ -10,7 +10,7 @@ use Rattle.base.proofs.PlaceLaws.{slice_get-there}
 use Rattle.config_graph.specs.Graph.{Graph, PathsRise, index_of}
 use Rattle.config_graph.specs.declared.node.Node.{Node}
 use Rattle.change_plan.proofs.NodeLaws.{index_found}
-use Rattle.plan_laws.specs.Commit.{is_at, is_one_of, node_path, stands_in}
+use Rattle.change_plan_laws.specs.Commit.{is_at, is_one_of, node_path, stands_in}
 use Rattle.quiesce_core.specs.State.{Configuration}
 use Rattle.quiesce_core.specs.declared.state.Slot.{Slot}
 use Rattle.change_lists.specs.Layouts.{is_among, is_place, place_at, place_in}

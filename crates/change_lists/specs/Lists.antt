@@ -11,7 +11,7 @@ use Rattle.config_graph.specs.declared.node.Link.{Link}
 use Rattle.config_graph.specs.declared.node.Port.{Port}
 use Rattle.quiesce_core.specs.declared.event.Event.{Event}
 use Rattle.quiesce_core.specs.declared.event.Event.TheVariants as event
-use Rattle.plan_laws.specs.Commit.{node_at, node_path}
+use Rattle.change_plan_laws.specs.Commit.{node_at, node_path}
 use Rattle.change_lists.specs.Layouts.{is_among, is_place, place_at}
 
 -- the place of the owner of a port, where that is live

@@ -6,7 +6,7 @@ ghost use Rattle.std.specs.Option.{option_map_or};
 ghost use Rattle.change_lists.specs.Layouts.{is_among, place_at};
 ghost use Rattle.change_lists.specs.Lists as lists;
 ghost use Rattle.config_graph.specs.Kinds.{row};
-ghost use Rattle.plan_laws.specs.Commit.{node_path};
+ghost use Rattle.change_plan_laws.specs.Commit.{node_path};
 ghost use Rattle.quiesce_core.specs.declared.event.Event.TheVariants as event;
 
 use crate::layout::Layout;

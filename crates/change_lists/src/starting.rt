@@ -3,7 +3,7 @@
 ghost use Rattle.std.specs.Prelude.{◌≡◌, ◌<◌, ◌++◌, map, filter_map, option_to_list, IfOk, OnOk};
 ghost use Rattle.std.specs.List.{enumerate_from};
 ghost use Rattle.config_graph.specs.Graph.{ports, requires_at};
-ghost use Rattle.quiescence_laws.specs.Starts.{link_of, make_of, reopen_of, start_of};
+ghost use Rattle.quiesce_laws.specs.Starts.{link_of, make_of, reopen_of, start_of};
 
 use config_graph::{Graph, NoMemory, Port};
 use quiesce_core::Event;

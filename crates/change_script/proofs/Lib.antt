@@ -1,10 +1,8 @@
 pub mod TokenLemmas
-pub mod LineEndLemmas
 pub mod LineLemmas
 pub mod NameLemmas
 pub mod EventFileLaws
 pub mod WritingLemmas
-pub mod ReportTextLemmas
 pub mod ScriptLineLemmas
 pub mod ScriptFileLaws
 pub mod ScriptOrderLaws

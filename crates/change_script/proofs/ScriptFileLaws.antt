@@ -2,9 +2,9 @@
 use Rattle.std.proofs.Common.{◌≡◌, ◌≢◌, ◌⊎◌, inl, inr, ℕ, suc, ◌-◌, Bool, true, false, List, [], ◌∷◌, ◌++◌, length, Option, Some, None, Result, Ok, Err, refl, sym, ap, if◌then◌else◌, ◌∙◌, arith}
 use Rattle.std.specs.List.{slice_get}
 use Rattle.std.specs.Option.{option_or}
-use Rattle.change_script.specs.declared.script.Body.{Body}
-use Rattle.change_script.specs.declared.script.ScriptLine.{ScriptLine}
-use Rattle.change_script.specs.declared.script.Script.{Script}
+use Rattle.report_types.specs.declared.script.Body.{Body}
+use Rattle.report_types.specs.declared.script.ScriptLine.{ScriptLine}
+use Rattle.report_types.specs.declared.script.Script.{Script}
 use Rattle.change_script.specs.declared.error.LineFault.{LineFault}
 use Rattle.change_script.specs.declared.error.LineFault.TheVariants.{Bad, Big}
 use Rattle.change_script.specs.declared.error.ScriptError.{ScriptError}
@@ -13,11 +13,11 @@ use Rattle.change_script.specs.EventFiles.{first_fault}
 use Rattle.change_script.specs.Lines.{Line, statements}
 use Rattle.change_script.proofs.EventFileLaws.{first_is_one}
 use Rattle.change_script.specs.ScriptLines.{meaning}
-use Rattle.change_script.specs.ScriptFiles.{has, is_start, is_end, ends_with_end, fault_in, fault_of, fault_in_lines, said, said_by, line_faults, lack, is_full, is_out_of_order, IsScript, IsScriptFault}
+use Rattle.change_script.specs.ScriptFiles.{has, is_start, is_stop, ends_with_end, fault_in, fault_of, fault_in_lines, said, said_by, line_faults, lack, is_full, is_out_of_order, IsScript, IsScriptFault}
 
-pub ends_at : (lines : List ScriptLine) (last : ScriptLine) → slice_get lines (length lines - 1) ≡ Some last → ends_with_end lines ≡ is_end last.body
+pub ends_at : (lines : List ScriptLine) (last : ScriptLine) → slice_get lines (length lines - 1) ≡ Some last → ends_with_end lines ≡ is_stop last.body
 ends_at [] last e = cc
-ends_at (only ∷ []) last e = let is : only ≡ last = cc in ap (λ (l : ScriptLine). is_end l.body) is
+ends_at (only ∷ []) last e = let is : only ≡ last = cc in ap (λ (l : ScriptLine). is_stop l.body) is
 ends_at (first ∷ next ∷ more) last e =
     let step : length (first ∷ next ∷ more) - 1 ≡ suc (length (next ∷ more) - 1) = omega arith in
     ends_at (next ∷ more) last (ap (slice_get (first ∷ next ∷ more)) (sym step) ∙ e)

@@ -5,7 +5,7 @@ use Rattle.std.specs.List.{list_all, prefix_len, starts_with}
 use Rattle.std.proofs.lemmas.Bool.{cond-true, cond-false, and_parts, cases_Bool, not-true}
 use Rattle.std.proofs.lemmas.Bool.Decides.{Decides-eqb}
 use Rattle.std.proofs.lemmas.Slice.Eq.{starts_is}
-use Rattle.change_script.specs.declared.script.Body.{Body}
+use Rattle.report_types.specs.declared.script.Body.{Body}
 use Rattle.change_script.specs.declared.error.LineFault.TheVariants.{Bad, Big}
 use Rattle.change_script.specs.Tokens.{word, is_blank, is_sign, is_arrow, begins_blank, begins_word, tokens}
 use Rattle.change_script.specs.ScriptWords.{Words, file, start, run, change, finish, show, stop, is_blankless, without_blanks, name_behind, file_in, words_or_file, words_in_tokens, words_in}

@@ -12,9 +12,9 @@ use Rattle.change_script.specs.ScriptLines.{meaning}
 use Rattle.change_script.specs.declared.error.LineFault.{LineFault}
 use Rattle.change_script.specs.declared.error.ScriptError.{ScriptError}
 use Rattle.change_script.specs.declared.error.ScriptError.TheVariants as errors
-use Rattle.change_script.specs.declared.script.Body.{Body}
-use Rattle.change_script.specs.declared.script.Script.{Script}
-use Rattle.change_script.specs.declared.script.ScriptLine.{ScriptLine}
+use Rattle.report_types.specs.declared.script.Body.{Body}
+use Rattle.report_types.specs.declared.script.Script.{Script}
+use Rattle.report_types.specs.declared.script.ScriptLine.{ScriptLine}
 
 -- a line below these says what some bytes mean, and isn't out of order
 pub record StandsInOrder (above : List ScriptLine) (line : ScriptLine) : Type 0 where

@@ -8,17 +8,18 @@ use Rattle.std.proofs.lemmas.Bool.{cond-false, and_from}
 use Rattle.std.proofs.lemmas.Bool.Decides.{nat_tests}
 use Rattle.std.proofs.lemmas.Fmt.{decimal_is_IsNumeral}
 use Rattle.change_plan.specs.declared.plan_data.Move.{Move}
-use Rattle.change_script.specs.declared.script.Body.{Body}
-use Rattle.change_script.specs.declared.script.Body.TheVariants as bodies
+use Rattle.report_types.specs.declared.script.Body.{Body}
+use Rattle.report_types.specs.declared.script.Body.TheVariants as bodies
 use Rattle.change_script.specs.Tokens.{word, opened, comma, arrow, tokens, is_word, begins_word}
 use Rattle.change_script.specs.Numbers.{is_number, is_negative, is_integer, integer, integer_fits, number, number_fits}
 use Rattle.change_script.specs.Paths.{is_name, is_path, path_fits}
-use Rattle.change_script.specs.Reports.{args_text, with_system}
+use Rattle.report_writing.specs.Reports.{args_text, with_system}
 use Rattle.change_script.specs.ScriptWords.{Ends, file, start, run, change, finish, show, stop}
 use Rattle.change_script.specs.ScriptForms.{argument_tokens, move_tokens, moving_tokens, are_paths}
 use Rattle.change_script.specs.ScriptLines.{paths_fit, move_of, meaning, LineMeans}
 use Rattle.change_script.specs.StatementTexts.{move_text, more_moves_text, moving_text, statement_text, IsInteger, IsWrittenName, IsWrittenMove, CanBeStated}
-use Rattle.change_script.specs.Writing.{IsNumber, with_one, spaced}
+use Rattle.report_writing.specs.Writing.{with_one, spaced}
+use Rattle.change_script.specs.Written.{IsNumber}
 use Rattle.change_script.proofs.TokenLemmas.{at_blank, sign_front, arrow_front}
 use Rattle.change_script.proofs.WritingLemmas.{decimal_of, digit_is, front_word, is_whole_word, one_tokens, path_is_word}
 use Rattle.change_script.proofs.ScriptFormLaws.{means}

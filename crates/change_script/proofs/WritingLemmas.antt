@@ -23,7 +23,8 @@ use Rattle.change_script.specs.EventLines.{MakeWords, meaning, three_numbers, ma
 use Rattle.change_script.specs.declared.verbs.OwnerStep.TheVariants as owner
 use Rattle.change_script.specs.declared.verbs.TargetStep.TheVariants as target
 use Rattle.change_script.specs.declared.verbs.Single.TheVariants as singles
-use Rattle.change_script.specs.Writing.{spaced, with_three, with_one, written, from_words, IsNumber, AreNumbers, CanBeWritten}
+use Rattle.report_writing.specs.Writing.{spaced, with_three, with_one, written, from_words}
+use Rattle.change_script.specs.Written.{IsNumber, AreNumbers, CanBeWritten}
 use Rattle.change_script.proofs.TokenLemmas.{at_blank, sign_front, word_front, onto_is_word}
 
 -- one byte or more, all bytes of a word

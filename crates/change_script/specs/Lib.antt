@@ -12,7 +12,5 @@ pub mod ScriptFiles
 pub mod ScriptReading
 pub mod EventFiles
 pub mod Reading
-pub mod Writing
-pub mod Reports
+pub mod Written
 pub mod StatementTexts
-pub mod MadeNodes

@@ -2,10 +2,10 @@
 use Rattle.std.specs.Prelude.{◌≡◌, ℕ, Bool, true, false, not, ◌&&◌, ◌||◌, nat_le, if◌then◌else◌, List, [], ◌∷◌, ◌++◌, length, Option, Some, None, Result, Ok, Err}
 use Rattle.std.specs.List.{flat_map, list_any}
 use Rattle.std.specs.Option.{option_or}
-use Rattle.change_script.specs.declared.script.Body.{Body}
-use Rattle.change_script.specs.declared.script.Body.TheVariants as bodies
-use Rattle.change_script.specs.declared.script.ScriptLine.{ScriptLine}
-use Rattle.change_script.specs.declared.script.Script.{Script}
+use Rattle.report_types.specs.declared.script.Body.{Body}
+use Rattle.report_types.specs.declared.script.Body.TheVariants as bodies
+use Rattle.report_types.specs.declared.script.ScriptLine.{ScriptLine}
+use Rattle.report_types.specs.declared.script.Script.{Script}
 use Rattle.change_script.specs.declared.error.LineFault.{LineFault}
 use Rattle.change_script.specs.declared.error.ScriptError.{ScriptError}
 use Rattle.change_script.specs.declared.error.ScriptError.TheVariants as errors
@@ -30,9 +30,9 @@ abbrev pub is_finish : Body → Bool
 is_finish (bodies.Finish within) = true
 is_finish body = false
 
-abbrev pub is_end : Body → Bool
-is_end bodies.Stop = true
-is_end body = false
+abbrev pub is_stop : Body → Bool
+is_stop bodies.Stop = true
+is_stop body = false
 
 -- `start` and `change` look in a file.
 abbrev pub needs_file : Body → Bool
@@ -55,7 +55,7 @@ has test lines = list_any (λ (line : ScriptLine). test line.body) lines
 abbrev pub is_out_of_order : List ScriptLine → Body → Bool
 is_out_of_order above body =
     (needs_file body && not (has is_file above)) || (is_start body && has is_start above) || (needs_start body && not (has is_start above))
-    || has is_end above || (has is_finish above && not (is_end body))
+    || has is_stop above || (has is_finish above && not (is_stop body))
 
 -- a script has at most 256 statements
 abbrev pub is_full : List ScriptLine → Bool
@@ -90,7 +90,7 @@ line_faults above (line ∷ rest) = fault_of above line ∷ line_faults (above +
 
 abbrev pub ends_with_end : List ScriptLine → Bool
 ends_with_end [] = false
-ends_with_end (last ∷ []) = is_end last.body
+ends_with_end (last ∷ []) = is_stop last.body
 ends_with_end (first ∷ next ∷ more) = ends_with_end (next ∷ more)
 
 -- what a script misses whose lines are right

@@ -2,8 +2,8 @@
 use Rattle.std.specs.Prelude.{◌≡◌, ℕ, Bool, true, false, ◌&&◌, if◌then◌else◌, List, map, Option, Some, None, Result, Ok, Err}
 use Rattle.std.specs.List.{list_all}
 use Rattle.change_plan.specs.declared.plan_data.Move.{Move}
-use Rattle.change_script.specs.declared.script.Body.{Body}
-use Rattle.change_script.specs.declared.script.Body.TheVariants as bodies
+use Rattle.report_types.specs.declared.script.Body.{Body}
+use Rattle.report_types.specs.declared.script.Body.TheVariants as bodies
 use Rattle.change_script.specs.declared.error.LineFault.{LineFault}
 use Rattle.change_script.specs.declared.error.LineFault.TheVariants.{Bad, Big}
 use Rattle.change_script.specs.Numbers.{integer, integer_fits, number, number_fits}

@@ -3,13 +3,14 @@ use Rattle.std.specs.Prelude.{◌≡◌, ◌<◌, ◌^◌, ⊤, ℕ, ℤ, pos, n
 use Rattle.std.specs.List.{AllByRecursion}
 use Rattle.std.specs.Str.{is_utf8}
 use Rattle.change_plan.specs.declared.plan_data.Move.{Move}
-use Rattle.change_script.specs.declared.script.Body.{Body}
-use Rattle.change_script.specs.declared.script.Body.TheVariants as bodies
+use Rattle.report_types.specs.declared.script.Body.{Body}
+use Rattle.report_types.specs.declared.script.Body.TheVariants as bodies
 use Rattle.change_script.specs.Tokens.{is_word}
 use Rattle.change_script.specs.Paths.{is_name, is_path, path_fits}
-use Rattle.change_script.specs.Reports.{with_system}
+use Rattle.report_writing.specs.Reports.{with_system}
 use Rattle.change_script.specs.ScriptWords.{is_blankless}
-use Rattle.change_script.specs.Writing.{IsNumber, with_one}
+use Rattle.report_writing.specs.Writing.{with_one}
+use Rattle.change_script.specs.Written.{IsNumber}
 
 abbrev pub move_text : Move → List ℕ
 move_text moved = moved.from ++ (codes " -> " ++ moved.to)

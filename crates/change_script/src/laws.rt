@@ -9,7 +9,8 @@ ghost use Rattle.change_script.specs.declared.error.ScriptError.{ScriptError};
 ghost use Rattle.change_script.specs.EventFiles.{IsEventFile, IsFirstFault};
 ghost use Rattle.change_script.specs.Paths.{is_name};
 ghost use Rattle.change_script.specs.EventLines.{meaning};
-ghost use Rattle.change_script.specs.Writing.{CanBeWritten, written};
+ghost use Rattle.report_writing.specs.Writing.{written};
+ghost use Rattle.change_script.specs.Written.{CanBeWritten};
 ghost use Rattle.change_script.specs.Tokens.{arrow, begins_word, is_blank, is_sign, is_word, sign, tokens, word};
 
 /// A text is one event file, or has one first fault, and never both.

@@ -1,4 +1,4 @@
-//! Scripts of changes and files of events: their lines, and what each line says; and the texts of reports.
+//! Scripts of changes and files of events: their lines, and what each line says; and the names of what reports are.
 #![tactic(auto)]
 
 mod arguments;
@@ -6,16 +6,10 @@ mod cuts;
 mod error;
 mod event_files;
 mod event_lines;
-mod event_writing;
 mod laws;
-mod line_end;
 mod lines;
 mod numbers;
 mod paths;
-mod report;
-mod report_room;
-mod report_writing;
-mod script;
 mod script_files;
 mod script_laws;
 mod script_lines;
@@ -33,9 +27,8 @@ pub use laws::{
     words_are_longest,
 };
 pub use numbers::{has_only_digits, value_within};
-pub use report::{HistoryLine, Last, NodeLog, Report};
+pub use report_types::{Body, HistoryLine, Last, NodeLog, Report, Script, ScriptLine};
 pub use report_writing::report_text;
-pub use script::{Body, Script, ScriptLine};
 pub use script_files::{MAX_STATEMENTS, parse_script};
 pub use script_laws::{
     a_written_statement_means_itself, lines_mean_what_their_forms_say, one_script_or_one_fault,

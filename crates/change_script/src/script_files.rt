@@ -3,16 +3,16 @@
 ghost use Rattle.std.specs.Prelude.{◌≡◌, ◌≢◌, ◌+◌, ◌^◌, ◌<◌, ◌≤◌, ◌∷◌, ◌++◌, [], List, ℕ, length, IfOk, IfErr, IsOkAnd, IsErrOf, ◌⊎◌, Ok, Err, None, Some};
 ghost use Rattle.change_script.specs.EventFiles.{first_fault};
 ghost use Rattle.change_script.specs.Lines.{statements};
-ghost use Rattle.change_script.specs.ScriptFiles.{IsScript, IsScriptFault, ends_with_end, fault_in, has, is_end, is_file, is_finish, is_out_of_order, is_start, lack, line_faults, needs_file, needs_start, said};
+ghost use Rattle.change_script.specs.ScriptFiles.{IsScript, IsScriptFault, ends_with_end, fault_in, has, is_stop, is_file, is_finish, is_out_of_order, is_start, lack, line_faults, needs_file, needs_start, said};
 ghost use Rattle.change_script.specs.ScriptLines as of_lines;
 ghost use Rattle.change_script.specs.ScriptReading.{IsAbove};
 
 use crate::error::ScriptError;
 use crate::lines::next_statement;
-use crate::script::{Body, Script, ScriptLine};
 use crate::script_lines::meaning;
 use config_graph::List;
 use darwin_lexer::MAX_TEXT;
+use report_types::{Body, Script, ScriptLine};
 use std::alloc::Global;
 
 /// How many statements a script has at most.
@@ -132,7 +132,7 @@ impl Above {
             file: self.file || is_file(body),
             start: self.start || is_start(body),
             finish: self.finish || is_finish(body),
-            end: self.end || is_end(body),
+            end: self.end || is_stop(body),
         }
     }
 
@@ -144,7 +144,7 @@ impl Above {
             || (is_start(body) && self.start)
             || (needs_start(body) && !self.start)
             || self.end
-            || (self.finish && !is_end(body))
+            || (self.finish && !is_stop(body))
     }
 }
 
@@ -171,7 +171,7 @@ fn ends_with_end(lines: &[ScriptLine]) -> bool
     ensures { result ≡ ends_with_end lines.now }
 {
     match lines.last() {
-        Some(line) => is_end(&line.body),
+        Some(line) => is_stop(&line.body),
         None => false,
     }
 }
@@ -194,8 +194,8 @@ fn is_finish(body: &Body) -> bool
     matches!(body, Body::Finish(_))
 }
 
-fn is_end(body: &Body) -> bool
-    ensures { result ≡ is_end body.now }
+fn is_stop(body: &Body) -> bool
+    ensures { result ≡ is_stop body.now }
 {
     matches!(body, Body::Stop)
 }

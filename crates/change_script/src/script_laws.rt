@@ -3,8 +3,8 @@
 ghost use Rattle.std.specs.Prelude.{◌≡◌, ◌⊎◌, ◌↔◌, ℕ, List, Ok, Err};
 ghost use Rattle.change_script.specs.declared.error.LineFault.TheVariants.{Bad, Big};
 ghost use Rattle.change_script.specs.declared.error.ScriptError.{ScriptError};
-ghost use Rattle.change_script.specs.declared.script.Body.{Body};
-ghost use Rattle.change_script.specs.declared.script.Script.{Script};
+ghost use Rattle.report_types.specs.declared.script.Body.{Body};
+ghost use Rattle.report_types.specs.declared.script.Script.{Script};
 ghost use Rattle.change_script.specs.ScriptFiles.{IsScript, IsScriptFault};
 ghost use Rattle.change_script.specs.ScriptForms.{HasForm};
 ghost use Rattle.change_script.specs.ScriptLines.{IsTooBig, LineMeans, meaning};

@@ -13,10 +13,10 @@ use crate::arguments::{are_integers, integer_values, integers_fit};
 use crate::error::{LineError, LineFault};
 use crate::numbers::{is_number, number_fits, number_value};
 use crate::paths::{is_name, is_path, path_fits};
-use crate::script::Body;
 use crate::script_words::{MoveWords, StatementWords, words_in};
 use change_plan::Move;
 use config_graph::{List, NoMemory, Text};
+use report_types::Body;
 use std::alloc::Global;
 
 /// The statement of a line, or what is wrong with the line.

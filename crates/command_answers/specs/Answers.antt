@@ -5,9 +5,9 @@ use Rattle.config_graph.specs.GraphText.{graph_text}
 use Rattle.quiesce_core.specs.State.{State}
 use Rattle.change_plan.specs.declared.plan_data.Plan.{Plan}
 use Rattle.change_plan.specs.PlanText.{plan_text}
-use Rattle.event_replay.specs.ReplayText.{replay_text}
-use Rattle.change_script.specs.Reports.{report_text}
-use Rattle.change_script.specs.declared.report.Report.{Report}
+use Rattle.quiesce_replay.specs.ReplayText.{replay_text}
+use Rattle.report_writing.specs.Reports.{report_text}
+use Rattle.report_types.specs.declared.report.Report.{Report}
 use Rattle.command_answers.specs.declared.status.Status.{Status}
 use Rattle.command_answers.specs.declared.status.Status.TheVariants as status
 use Rattle.command_answers.specs.Summaries.{summary_text}

@@ -12,9 +12,9 @@ use Rattle.change_script.specs.declared.error.ScriptError.{ScriptError}
 use Rattle.change_script.specs.declared.error.ScriptError.TheVariants as scripting
 use Rattle.change_plan.specs.declared.error.PlanError.{PlanError}
 use Rattle.change_plan.specs.declared.error.PlanError.TheVariants as planning
-use Rattle.report_parser.specs.declared.error.ReportFault.{ReportFault}
-use Rattle.report_parser.specs.declared.error.ReportFault.TheVariants as reporting
-pub use Rattle.change_script.specs.Writing.{spaced}
+use Rattle.report_texts.specs.declared.error.ReportFault.{ReportFault}
+use Rattle.report_texts.specs.declared.error.ReportFault.TheVariants as reporting
+pub use Rattle.report_writing.specs.Writing.{spaced}
 
 abbrev pub place_word : At → List ℕ
 place_word at = decimal at.line ++ codes ":" ++ decimal at.column

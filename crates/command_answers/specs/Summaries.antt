@@ -4,14 +4,14 @@ use Rattle.std.specs.Prelude.{ℕ, Bool, true, false, List, [], ◌++◌, codes,
 use Rattle.std.specs.Option.{option_map_or}
 use Rattle.config_graph.specs.declared.kind.Kind.{Kind}
 use Rattle.config_graph.specs.declared.kind.Kind.TheVariants.{Sink}
-use Rattle.change_script.specs.Reports.{ended}
-use Rattle.change_script.specs.Writing.{with_one}
-use Rattle.change_script.specs.declared.report.HistoryLine.{HistoryLine}
-use Rattle.change_script.specs.declared.report.HistoryLine.TheVariants as history
-use Rattle.change_script.specs.declared.report.Last.{Last}
-use Rattle.change_script.specs.declared.report.Last.TheVariants as lasts
-use Rattle.change_script.specs.declared.report.NodeLog.{NodeLog}
-use Rattle.change_script.specs.declared.report.Report.{Report}
+use Rattle.report_writing.specs.Reports.{ended}
+use Rattle.report_writing.specs.Writing.{with_one}
+use Rattle.report_types.specs.declared.report.HistoryLine.{HistoryLine}
+use Rattle.report_types.specs.declared.report.HistoryLine.TheVariants as history
+use Rattle.report_types.specs.declared.report.Last.{Last}
+use Rattle.report_types.specs.declared.report.Last.TheVariants as lasts
+use Rattle.report_types.specs.declared.report.NodeLog.{NodeLog}
+use Rattle.report_types.specs.declared.report.Report.{Report}
 
 abbrev pub is_make : HistoryLine → Bool
 is_make (history.Make slot node from) = true

@@ -8,9 +8,9 @@ use crate::error::DescriptionFault;
 use crate::rendering::{push_fault, push_report_fault, push_script_fault, push_word};
 use change_script::ScriptError;
 use config_graph::NoMemory;
-use event_replay::Denial;
 use itoa::Buffer;
-use report_parser::ReportFault;
+use quiesce_replay::Denial;
+use report_texts::ReportFault;
 use std::alloc::Global;
 
 /// The line of a description with a fault.

@@ -12,7 +12,7 @@ use darwin_lexer::{At, LexError};
 use darwin_types::TypeError;
 use elaborator::ElabError;
 use itoa::Buffer;
-use report_parser::ReportFault;
+use report_texts::ReportFault;
 
 /// Writes what names a fault of a description, each word after a space.
 pub fn push_fault(line: &mut Vec<u8>, fault: &DescriptionFault) -> Result<(), NoMemory>

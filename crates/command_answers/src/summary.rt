@@ -1,13 +1,13 @@
 //! The summary of a run.
 
 ghost use Rattle.std.specs.Prelude.{◌≡◌, ◌++◌, IfOk, OnOk, count_by, flat_map};
-ghost use Rattle.change_script.specs.Reports.{ended};
-ghost use Rattle.change_script.specs.Writing.{with_one};
+ghost use Rattle.report_writing.specs.Reports.{ended};
+ghost use Rattle.report_writing.specs.Writing.{with_one};
 ghost use Rattle.command_answers.specs.Summaries as of_runs;
 
-use change_script::{HistoryLine, Last, NodeLog, Report};
 use config_graph::{Kind, NoMemory};
 use itoa::Buffer;
+use report_types::{HistoryLine, Last, NodeLog, Report};
 use std::alloc::Global;
 
 /// The summary of the report of a run of so many lanes: five lines, each a word and a number.

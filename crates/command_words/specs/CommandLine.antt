@@ -3,7 +3,7 @@ use Rattle.std.specs.Prelude.{◌≡◌, ◌≢◌, ◌≤◌, ℕ, ℤ, List, [
 use Rattle.std.specs.Int.{w32}
 use Rattle.std.specs.List.{AllByRecursion}
 use Rattle.std.specs.Str.Parse.{IsNumeral, digits_value, signed_digits_value, without_leading_sign}
-use Rattle.big_files.specs.declared.texts.TheConstants.{MAX_LANES}
+use Rattle.command_words.specs.declared.big_texts.TheConstants.{MAX_LANES}
 use Rattle.darwin_lexer.specs.Naming.{IsName}
 use Rattle.command_words.specs.declared.words.TopCall.{TopCall}
 use Rattle.command_words.specs.declared.words.Command.{Command}

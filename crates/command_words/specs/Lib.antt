@@ -1,1 +1,2 @@
+pub mod BigFiles
 pub mod CommandLine

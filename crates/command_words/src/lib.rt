@@ -1,8 +1,14 @@
-//! The words of a command line, and the one command that they ask for.
+//! The words of a command line, the one command that they ask for, and the files of `big`.
 #![tactic(auto)]
 
+mod big_laws;
+mod big_shelf;
+mod big_texts;
 mod laws;
 mod words;
 
+pub use big_laws::limit_of_lanes;
+pub use big_shelf::MadeFiles;
+pub use big_texts::{MAX_LANES, SCRIPT_NAME};
 pub use laws::words_ask_for_one_command;
 pub use words::{Command, TopCall, Word, read_words};

@@ -8,7 +8,7 @@ ghost use Rattle.command_words.specs.CommandLine.{IsInteger, IsLaneCount, intege
 ghost use Rattle.command_words.specs.declared.words.Command.{Command};
 ghost use Rattle.command_words.specs.declared.words.TopCall.{TopCall};
 
-use big_files::MAX_LANES;
+use crate::MAX_LANES;
 use config_graph::{List, NoMemory};
 use darwin_lexer::is_name;
 use std::alloc::Global;

@@ -13,5 +13,5 @@ pub record IsWithin (value reply count : ℕ) (answers : List ℕ) (waits : Bool
   pub few_while_waiting : waits ≡ true → count < MAX_ANSWERS
 
 -- the service that there is waits for no further message
-abbrev pub GoesOn : Option Service → Type 0
-GoesOn o = option_map_or (λ (w : Service). w.waits) o false ≡ false
+abbrev pub WaitsForNoMore : Option Service → Type 0
+WaitsForNoMore o = option_map_or (λ (w : Service). w.waits) o false ≡ false

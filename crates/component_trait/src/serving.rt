@@ -4,7 +4,7 @@ ghost use Rattle.std.specs.Prelude.{◌≡◌, ◌<◌, [], false, length, slice
 ghost use Rattle.std.specs.Option.{option_map_or};
 ghost use Rattle.component_trait.specs.States.{Service};
 ghost use Rattle.component_trait.specs.Moves.{with_answer, with_wait};
-ghost use Rattle.component_trait.specs.Serving.{GoesOn};
+ghost use Rattle.component_trait.specs.Serving.{WaitsForNoMore};
 ghost use Rattle.config_graph.specs.declared.TheConstants.{VALUE_LIMIT};
 
 use crate::VALUE_LIMIT;
@@ -119,7 +119,7 @@ pub fn hand(service: &mut Option<Serving>, answer: u32)
     requires few { (w : Service) → service.old ≡ Some w → w.waits ≡ false → length w.answers < MAX_ANSWERS }
     requires small { answer < VALUE_LIMIT }
     ensures service { service.new ≡ option_map (with_answer answer) service.old }
-    ensures goes_on { GoesOn service.new }
+    ensures goes_on { WaitsForNoMore service.new }
 {
     if let Some(service) = service {
         service.hand(answer);

@@ -2,7 +2,7 @@
 #![tactic(auto)]
 
 use cfg_io::{FileShelf, OutSink};
-use darwin_commands::run_program;
+use command_program::run_program;
 use std::env;
 use std::process::ExitCode;
 

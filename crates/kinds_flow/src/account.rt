@@ -4,7 +4,7 @@ ghost use Rattle.std.specs.Prelude.{◌≡◌, ℕ, ◌<◌, IfSome, IsSome, len
 ghost use Rattle.config_graph.specs.declared.kind.Kind.TheVariants as kind;
 ghost use Rattle.component_trait.specs.Bounds.{FitsNext};
 ghost use Rattle.component_trait.specs.Moves as moves;
-ghost use Rattle.component_trait.specs.Serving.{GoesOn};
+ghost use Rattle.component_trait.specs.Serving.{WaitsForNoMore};
 ghost use Rattle.component_trait.specs.States.{at_rest, with_total};
 ghost use Rattle.component_trait.specs.Tables.{serve};
 ghost use Rattle.config_graph.specs.declared.TheConstants.{VALUE_LIMIT};
@@ -19,7 +19,7 @@ pub struct Account {
     balance: u64,
     service: Option<Serving>,
     ghost b_small: { b < VALUE_LIMIT },
-    ghost goes_on: { GoesOn service },
+    ghost goes_on: { WaitsForNoMore service },
 }
 
 impl Account {

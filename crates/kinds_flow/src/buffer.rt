@@ -4,7 +4,7 @@ ghost use Rattle.std.specs.Prelude.{◌≡◌, ℕ, ◌<◌, IfSome, IsSome, OnE
 ghost use Rattle.config_graph.specs.declared.kind.Kind.TheVariants as kind;
 ghost use Rattle.component_trait.specs.Bounds.{FitsNext, FitsRequest};
 ghost use Rattle.component_trait.specs.Moves as moves;
-ghost use Rattle.component_trait.specs.Serving.{GoesOn};
+ghost use Rattle.component_trait.specs.Serving.{WaitsForNoMore};
 ghost use Rattle.component_trait.specs.States.{at_rest, nothing};
 ghost use Rattle.config_graph.specs.declared.TheConstants.{VALUE_LIMIT};
 ghost use Rattle.component_trait.specs.declared.next.Next.TheVariants as next;
@@ -23,7 +23,7 @@ pub struct Buffer {
     service: Option<Serving>,
     ghost cap_small: { cap < VALUE_LIMIT },
     ghost items_small: { (i a : ℕ) → slice_get items.items i ≡ Some a → a < VALUE_LIMIT },
-    ghost goes_on: { GoesOn service },
+    ghost goes_on: { WaitsForNoMore service },
 }
 
 impl Buffer {

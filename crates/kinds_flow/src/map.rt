@@ -5,7 +5,7 @@ ghost use Rattle.config_graph.specs.declared.kind.Kind.TheVariants as kind;
 ghost use Rattle.component_trait.specs.Bounds.{FitsNext};
 ghost use Rattle.component_trait.specs.Fold.{asked_by};
 ghost use Rattle.component_trait.specs.Moves as moves;
-ghost use Rattle.component_trait.specs.Serving.{GoesOn};
+ghost use Rattle.component_trait.specs.Serving.{WaitsForNoMore};
 ghost use Rattle.component_trait.specs.States.{at_rest, nothing};
 ghost use Rattle.component_trait.specs.Tables.{next_of};
 ghost use Rattle.config_graph.specs.declared.TheConstants.{VALUE_LIMIT};
@@ -19,7 +19,7 @@ pub struct Map {
     k: u32,
     service: Option<Serving>,
     ghost k_small: { k < VALUE_LIMIT },
-    ghost goes_on: { GoesOn service },
+    ghost goes_on: { WaitsForNoMore service },
 }
 
 impl Map {

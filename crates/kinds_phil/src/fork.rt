@@ -4,7 +4,7 @@ ghost use Rattle.std.specs.Prelude.{◌≡◌, ℕ, ◌<◌, IsSome, length, sli
 ghost use Rattle.config_graph.specs.declared.kind.Kind.TheVariants as kind;
 ghost use Rattle.component_trait.specs.Bounds.{FitsNext};
 ghost use Rattle.component_trait.specs.Moves as moves;
-ghost use Rattle.component_trait.specs.Serving.{GoesOn};
+ghost use Rattle.component_trait.specs.Serving.{WaitsForNoMore};
 ghost use Rattle.component_trait.specs.States.{at_rest, nothing};
 ghost use Rattle.component_trait.specs.Tables.{serve};
 ghost use Rattle.config_graph.specs.declared.TheConstants.{VALUE_LIMIT};
@@ -17,7 +17,7 @@ use component_trait::{Next, Serving, reply};
 pub struct Fork {
     held: bool,
     service: Option<Serving>,
-    ghost goes_on: { GoesOn service },
+    ghost goes_on: { WaitsForNoMore service },
 }
 
 impl Fork {

@@ -7,10 +7,10 @@ use Rattle.component_trait.specs.Making.{argument_or_0}
 use Rattle.component_trait.specs.States.{NodeState}
 use Rattle.component_trait.proofs.FoldLaws.{fold_keeps_argument, fold_keeps_kind}
 use Rattle.config_graph.specs.declared.kind.Kind.{Kind}
-use Rattle.gate_rule.specs.Views.{node_at}
-use Rattle.gate_rule.specs.declared.view.NodeView.{NodeView}
+use Rattle.txn_law.specs.Views.{node_at}
+use Rattle.txn_law.specs.declared.view.NodeView.{NodeView}
 use Rattle.node_host.specs.Hosted.{SeatSeen, node_of}
-use Rattle.port_gate.specs.Seats.{NodeAt}
+use Rattle.node_gate.specs.Seats.{NodeAt}
 use Rattle.quiesce_core.specs.declared.event.Event.{Event}
 use Rattle.live_hall.specs.Lines.{LinePlace, LineWord, line_words, seen_word}
 

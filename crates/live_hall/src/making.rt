@@ -4,7 +4,7 @@ ghost use Rattle.std.specs.Prelude.{◌≡◌, ◌<◌, ◌++◌, ◌∷◌, [],
 ghost use Rattle.std.specs.Option.{option_map_or};
 ghost use Rattle.component_trait.specs.States.{argument};
 ghost use Rattle.config_graph.specs.declared.node.Node.{Node as NodeFields};
-ghost use Rattle.port_gate.specs.Seats.{IsWithinLimits};
+ghost use Rattle.node_gate.specs.Seats.{IsWithinLimits};
 ghost use Rattle.state_handover.specs.Making.{FitsKind};
 ghost use Rattle.txn_gate.specs.Calls.{made_node};
 ghost use Rattle.txn_gate.specs.Seats.{node_in};

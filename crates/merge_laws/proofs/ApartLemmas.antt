@@ -11,11 +11,11 @@ use Rattle.quiesce_core.specs.State.{Configuration, State}
 use Rattle.quiesce_core.proofs.LegalLaws.{legal}
 use Rattle.quiesce_core.proofs.RunLaws.{runs_are_consistent, runs_are_well_formed}
 use Rattle.quiesce_core.proofs.TableLaws.{gate_place}
-use Rattle.quiescence_laws.specs.Configurations.{Extends}
-use Rattle.quiescence_laws.specs.Events.{is_root_of}
-use Rattle.quiescence_laws.proofs.ExtensionLaws.{extends_next}
-use Rattle.change_script.specs.declared.report.HistoryLine.{HistoryLine}
-use Rattle.change_script.specs.declared.report.HistoryLine.TheVariants as to
+use Rattle.quiesce_laws.specs.Configurations.{Extends}
+use Rattle.quiesce_laws.specs.Events.{is_root_of}
+use Rattle.quiesce_laws.proofs.ExtensionLaws.{extends_next}
+use Rattle.report_types.specs.declared.report.HistoryLine.{HistoryLine}
+use Rattle.report_types.specs.declared.report.HistoryLine.TheVariants as to
 use Rattle.change_law.specs.Members.{Member, events}
 use Rattle.merge_laws.specs.Guarded.{Left, all_left, can_go, go, is_beyond, is_called_at, is_met, may_go, may_tell, told, told_state, waits}
 use Rattle.merge_laws.specs.Merges.{HasRootsApart}

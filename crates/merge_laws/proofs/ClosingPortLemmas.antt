@@ -6,18 +6,18 @@ use Rattle.std.specs.List.Sorted.{IsStrictlyIncreasing}
 use Rattle.std.proofs.lemmas.List.Elements.{filter_agree, filter_map-append}
 use Rattle.std.proofs.lemmas.List.Kept.{IsStrictlyIncreasing-filter}
 use Rattle.std.proofs.lemmas.List.Sums.{fold-append}
-use Rattle.commit_laws.specs.Steps.{change_all}
-use Rattle.commit_laws.proofs.TurningLaws.{SameLinks, same_turned}
+use Rattle.quiesce_commit_laws.specs.Steps.{change_all}
+use Rattle.quiesce_commit_laws.proofs.TurningLaws.{SameLinks, same_turned}
 use Rattle.config_graph.specs.Graph.{Graph}
 use Rattle.change_plan.specs.declared.plan_data.Plan.{Plan}
-use Rattle.plan_laws.specs.Commit.{is_one_of, ports_to_close}
+use Rattle.change_plan_laws.specs.Commit.{is_one_of, ports_to_close}
 use Rattle.quiesce_core.specs.declared.event.Event.TheVariants as event
 use Rattle.quiesce_core.specs.declared.state.Slot.{Slot}
 use Rattle.quiesce_core.specs.Effect.{change_next, with_closed}
 use Rattle.quiesce_core.specs.State.{Configuration, empty, owner}
 use Rattle.change_law.specs.Scene.{config_after}
 use Rattle.change_law.specs.Members.{event_of}
-use Rattle.change_script.specs.declared.report.HistoryLine.{HistoryLine}
+use Rattle.report_types.specs.declared.report.HistoryLine.{HistoryLine}
 use Rattle.change_law.proofs.TestLaws.{range_rises}
 
 pub closing_rise : (old : Graph) (plan : Plan) (c : Configuration) → IsStrictlyIncreasing (ports_to_close old plan c)

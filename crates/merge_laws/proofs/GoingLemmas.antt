@@ -10,7 +10,7 @@ use Rattle.base.proofs.OptionLaws.{None-from_is_none, map_or_true}
 use Rattle.config_graph.specs.Kinds.{depends_on, is_depended_on}
 use Rattle.config_graph.proofs.KindLaws.{depended_if}
 use Rattle.config_graph.specs.declared.node.Node.{Node}
-use Rattle.gate_word.specs.Phases.{is_idle}
+use Rattle.quiesce_word.specs.Phases.{is_idle}
 use Rattle.quiesce_core.specs.declared.event.Event.{Event}
 use Rattle.quiesce_core.specs.declared.event.Event.TheVariants.{Begin, Call, End, Close, Reopen, Make, Link, Unlink, Remove}
 use Rattle.quiesce_core.specs.declared.state.Exchange.{Exchange}
@@ -27,12 +27,12 @@ use Rattle.quiesce_core.specs.WellFormed.{IsWellFormed}
 use Rattle.quiesce_core.proofs.LegalLaws.{legal}
 use Rattle.quiesce_core.proofs.RunLaws.{steps_keep_consistency, node_events_keep_the_configuration}
 use Rattle.quiesce_core.proofs.TableLaws.{gate_place, live_made}
-use Rattle.quiescence_laws.specs.Drained.{is_drained}
-use Rattle.quiescence_laws.specs.Roots.{has_root}
-use Rattle.quiescence_laws.proofs.ExchangeLaws.{PortStep, stays, begins, calls, ends, port_step}
-use Rattle.quiescence_laws.proofs.ExtensionLaws.{extends_next, read_before}
-use Rattle.change_script.specs.declared.report.HistoryLine.{HistoryLine}
-use Rattle.change_script.specs.declared.report.HistoryLine.TheVariants as to
+use Rattle.quiesce_laws.specs.Drained.{is_drained}
+use Rattle.quiesce_laws.specs.Roots.{has_root}
+use Rattle.quiesce_laws.proofs.ExchangeLaws.{PortStep, stays, begins, calls, ends, port_step}
+use Rattle.quiesce_laws.proofs.ExtensionLaws.{extends_next, read_before}
+use Rattle.report_types.specs.declared.report.HistoryLine.{HistoryLine}
+use Rattle.report_types.specs.declared.report.HistoryLine.TheVariants as to
 use Rattle.change_law.specs.Members.{is_close}
 use Rattle.quiesce_swap_laws.specs.Independence.{clashes}
 use Rattle.merge_laws.specs.Guarded.{Left, can_go, amount, closes_before, do_first, go, is_beyond, is_called_at, is_met, is_root_line, left, log_of, may_do, may_do_first, may_go, may_tell, may_tell_first, tell_first, tells, told, told_state, waits}

@@ -12,37 +12,34 @@ use Rattle.base.specs.Each.{Each}
 use Rattle.base.proofs.EachLaws.{each_at}
 use Rattle.quiesce_core.specs.declared.event.Event.{Event}
 use Rattle.quiesce_core.specs.declared.event.Event.TheVariants as event
-use Rattle.quiesce_core.specs.State.{Configuration, State, exchange, gate}
+use Rattle.quiesce_core.specs.State.{Configuration, State, exchange, gate, owner, slot}
 use Rattle.quiesce_core.specs.Doers.{is_of_change}
 use Rattle.quiesce_core.specs.Runs.{IsRun, is_begin_of, state_after}
-use Rattle.quiesce_core.proofs.InductionLaws.{IsNext, place}
-use Rattle.quiesce_core.proofs.RunLaws.{fronts_are_runs}
+use Rattle.quiesce_core.proofs.InductionLaws.{IsNext, place, along}
+use Rattle.quiesce_core.proofs.RunLaws.{fronts_are_runs, runs_are_well_formed}
 use Rattle.quiesce_core.proofs.TableLaws.{gate_place}
-use Rattle.quiescence_laws.specs.Drained.{is_drained}
-use Rattle.quiescence_laws.specs.Events.{is_root_of, reopens}
-use Rattle.quiescence_laws.specs.Roots.{has_root}
-use Rattle.quiescence_laws.proofs.DrainingLaws.{no_node_reopens}
-use Rattle.quiescence_laws.proofs.RootLaws.{closed_stays, root_when_closed}
+use Rattle.quiesce_laws.specs.Drained.{is_drained}
+use Rattle.quiesce_laws.specs.Events.{is_root_of, reopens}
+use Rattle.quiesce_laws.specs.Roots.{has_root}
+use Rattle.quiesce_laws.proofs.DrainingLaws.{no_node_reopens}
+use Rattle.quiesce_laws.proofs.RootLaws.{closed_stays, root_when_closed}
 use Rattle.config_graph.specs.Kinds.{is_depended_on}
 use Rattle.config_graph.specs.declared.node.Node.{Node}
 use Rattle.base.proofs.PlaceLaws.{heads_are, slice_get-below}
 use Rattle.quiesce_core.specs.declared.state.Exchange.{Exchange}
 use Rattle.quiesce_core.specs.declared.state.Slot.{Slot}
-use Rattle.quiesce_core.specs.State.{owner, slot}
 use Rattle.quiesce_core.specs.WellFormed.{IsSound}
-use Rattle.quiesce_core.proofs.InductionLaws.{along}
-use Rattle.quiesce_core.proofs.RunLaws.{runs_are_well_formed}
-use Rattle.quiescence_laws.specs.Configurations.{Extends}
-use Rattle.quiescence_laws.proofs.ExchangeLaws.{PortStep, stays, begins, calls, ends, port_step}
+use Rattle.quiesce_laws.specs.Configurations.{Extends}
+use Rattle.quiesce_laws.proofs.ExchangeLaws.{PortStep, stays, begins, calls, ends, port_step}
 use Rattle.quiesce_core.specs.declared.state.Gate.{Gate}
 use Rattle.quiesce_core.specs.Effect.{effect}
 use Rattle.quiesce_core.proofs.AlterLaws.{reconfigured}
-use Rattle.quiescence_laws.proofs.ExtensionLaws.{closed_next, extends_further, extends_next, read_before}
-use Rattle.quiescence_laws.proofs.RootsSeenLaws.{open_root_is_seen}
+use Rattle.quiesce_laws.proofs.ExtensionLaws.{closed_next, extends_further, extends_next, read_before}
+use Rattle.quiesce_laws.proofs.RootsSeenLaws.{open_root_is_seen}
 use Rattle.merge_laws.specs.Guided.{Guided}
 use Rattle.merge_laws.proofs.GoingLemmas.{call_is_there}
-use Rattle.change_script.specs.declared.report.HistoryLine.{HistoryLine}
-use Rattle.change_script.specs.declared.report.HistoryLine.TheVariants as to
+use Rattle.report_types.specs.declared.report.HistoryLine.{HistoryLine}
+use Rattle.report_types.specs.declared.report.HistoryLine.TheVariants as to
 use Rattle.change_law.specs.Lawful.{IsDrainedAt, IsOfItsKind, StoodOpen}
 use Rattle.change_law.specs.Members.{Member, by_node, of_history, event_of, events, is_close, is_root, lines, state_at, without_roots}
 use Rattle.change_law.proofs.MemberLaws.{AtLine, all_parts, at_line, events_parts, lines_parts, none_happens, parted_at}

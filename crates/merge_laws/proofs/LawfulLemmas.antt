@@ -2,8 +2,8 @@
 use Rattle.std.proofs.Common.{List, subst}
 use Rattle.base.specs.Each.{Each}
 use Rattle.base.proofs.EachLaws.{each_at}
-use Rattle.change_script.specs.declared.report.HistoryLine.TheVariants as to
-use Rattle.change_script.specs.declared.report.Report.{Report}
+use Rattle.report_types.specs.declared.report.HistoryLine.TheVariants as to
+use Rattle.report_types.specs.declared.report.Report.{Report}
 use Rattle.change_law.specs.Lawful.{IsLawfulBy, StoodOpenWhereSaid}
 use Rattle.change_law.specs.Members.{Member}
 use Rattle.change_law.specs.Statements.{Statement}

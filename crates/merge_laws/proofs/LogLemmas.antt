@@ -26,11 +26,11 @@ use Rattle.quiesce_core.proofs.InductionLaws.{always}
 use Rattle.quiesce_core.proofs.RunLaws.{done_by_more}
 use Rattle.quiesce_core.proofs.TableLaws.{live_made}
 use Rattle.quiesce_swap_laws.proofs.DoerLaws.{by_owner, by_target, found, nodes_do_no_change, port_of}
-use Rattle.change_script.specs.declared.report.HistoryLine.{HistoryLine}
-use Rattle.change_script.specs.declared.report.HistoryLine.TheVariants as to
-use Rattle.change_script.specs.declared.report.Last.{Last}
-use Rattle.change_script.specs.declared.report.NodeLog.{NodeLog}
-use Rattle.change_script.specs.declared.report.Report.{Report}
+use Rattle.report_types.specs.declared.report.HistoryLine.{HistoryLine}
+use Rattle.report_types.specs.declared.report.HistoryLine.TheVariants as to
+use Rattle.report_types.specs.declared.report.Last.{Last}
+use Rattle.report_types.specs.declared.report.NodeLog.{NodeLog}
+use Rattle.report_types.specs.declared.report.Report.{Report}
 use Rattle.change_law.specs.Endings.{moved_to}
 use Rattle.change_law.specs.Lawful.{EndsAs, IsFolded, IsLawfulBy}
 use Rattle.change_law.specs.Members.{Member, event_of, events, made_slot}

@@ -3,7 +3,7 @@ use Rattle.std.proofs.Common.{◌≡◌, ◌∙◌, ℕ, zero, suc, ◌+◌, Boo
 use Rattle.std.specs.Prelude.{◌==◌, is_none, fold}
 use Rattle.std.specs.List.{cons_option, list_all}
 use Rattle.std.specs.Option.{option_map_or}
-use Rattle.std.proofs.lemmas.Bool.{and_from, and_parts, both_ways, cases_Bool, cases_eq, eqb-true, ne_eqb}
+use Rattle.std.proofs.lemmas.Bool.{and_from, and_parts, both_ways, cases_Bool, cases_eq, eqb-true, ne_eqb, not-true}
 use Rattle.quiesce_core.specs.declared.event.Event.{Event}
 use Rattle.quiesce_core.specs.declared.event.Event.TheVariants as event
 use Rattle.quiesce_core.specs.State.{State, empty, exchange}
@@ -12,19 +12,17 @@ use Rattle.quiesce_core.specs.Effect.{effect}
 use Rattle.quiesce_core.specs.Rules.{denial}
 use Rattle.quiesce_core.specs.Runs.{IsRun, can_run, doer, done_by, done_from, is_doer, state_after}
 use Rattle.quiesce_core.proofs.RunLaws.{run_if}
-use Rattle.change_script.specs.declared.report.HistoryLine.{HistoryLine}
-use Rattle.change_script.specs.declared.report.HistoryLine.TheVariants as to
-use Rattle.commit_laws.proofs.MeanwhileLaws.{after_more}
+use Rattle.report_types.specs.declared.report.HistoryLine.{HistoryLine}
+use Rattle.report_types.specs.declared.report.HistoryLine.TheVariants as to
+use Rattle.quiesce_commit_laws.proofs.MeanwhileLaws.{after_more}
 use Rattle.change_law.specs.Found.{is_drained_at, is_of_its_kind, passes_each}
 use Rattle.change_law.specs.Members.{Member, by_node, of_history, events, is_root, lines, state_at, without_roots}
 use Rattle.change_law.proofs.MemberLaws.{events_parts}
-use Rattle.merge_laws.specs.Guarded.{Left, all_left, can_go, go, is_met, left, log_of, may_go, may_tell, told, told_state}
-use Rattle.std.proofs.lemmas.Bool.{not-true}
+use Rattle.merge_laws.specs.Guarded.{Left, all_left, can_go, go, is_met, left, log_of, may_go, may_tell, told, told_state, amount}
 use Rattle.std.proofs.lemmas.List.Elements.{All-cons, All-nil}
 use Rattle.base.specs.Each.{EachAfter}
-use Rattle.quiescence_laws.specs.Drained.{is_drained}
+use Rattle.quiesce_laws.specs.Drained.{is_drained}
 use Rattle.change_law.specs.Lawful.{IsDrainedAt, IsOfItsKind}
-use Rattle.merge_laws.specs.Guarded.{amount}
 use Rattle.merge_laws.specs.Merges.{IsMergeWith}
 use Rattle.merge_laws.specs.Telling.{IsTold}
 use Rattle.merge_laws.proofs.OpenRootLemmas.{stands_open}

@@ -6,7 +6,7 @@ use Rattle.std.proofs.lemmas.Bool.{and_from, and_parts, both_ways, cases_Bool, e
 use Rattle.std.proofs.lemmas.List.Elements.{filter-append}
 use Rattle.std.proofs.lemmas.List.Folds.{list_any-append}
 use Rattle.base.proofs.PlaceLaws.{heads_are, tails_are}
-use Rattle.gate_word.specs.Phases.{is_idle}
+use Rattle.quiesce_word.specs.Phases.{is_idle}
 use Rattle.quiesce_core.specs.declared.event.Event.{Event}
 use Rattle.quiesce_core.specs.declared.event.Event.TheVariants as event
 use Rattle.quiesce_core.specs.declared.state.Exchange.{Exchange}
@@ -16,12 +16,12 @@ use Rattle.quiesce_core.specs.Effect.{effect}
 use Rattle.quiesce_core.specs.Rules.{denial}
 use Rattle.quiesce_core.specs.Runs.{state_after}
 use Rattle.quiesce_core.proofs.LegalLaws.{legal}
-use Rattle.quiescence_laws.specs.Events.{reopens}
-use Rattle.quiescence_laws.specs.Roots.{has_root}
-use Rattle.quiescence_laws.proofs.ExchangeLaws.{PortStep, stays, begins, calls, ends, port_step}
-use Rattle.commit_laws.proofs.MeanwhileLaws.{after_more}
-use Rattle.change_script.specs.declared.report.HistoryLine.{HistoryLine}
-use Rattle.change_script.specs.declared.report.HistoryLine.TheVariants as to
+use Rattle.quiesce_laws.specs.Events.{reopens}
+use Rattle.quiesce_laws.specs.Roots.{has_root}
+use Rattle.quiesce_laws.proofs.ExchangeLaws.{PortStep, stays, begins, calls, ends, port_step}
+use Rattle.quiesce_commit_laws.proofs.MeanwhileLaws.{after_more}
+use Rattle.report_types.specs.declared.report.HistoryLine.{HistoryLine}
+use Rattle.report_types.specs.declared.report.HistoryLine.TheVariants as to
 use Rattle.change_law.specs.Lawful.{StoodOpen}
 use Rattle.change_law.specs.Members.{Member, by_node, of_history, events, is_close, is_root, lines, state_at, without_roots}
 use Rattle.change_law.proofs.MemberLaws.{events_parts, lines_parts}
@@ -34,7 +34,7 @@ use Rattle.quiesce_core.proofs.RunLaws.{node_events_keep_the_configuration, runs
 use Rattle.quiesce_core.proofs.AlterLaws.{reconfigured}
 use Rattle.quiesce_core.specs.Legal.{Legal}
 use Rattle.quiesce_core.specs.declared.state.Gate.{Gate}
-use Rattle.quiescence_laws.proofs.ExtensionLaws.{closed_next}
+use Rattle.quiesce_laws.proofs.ExtensionLaws.{closed_next}
 use Rattle.quiesce_swap_laws.proofs.ChangeSwapLaws.{exchange_same}
 use Rattle.merge_laws.specs.Ways.{first_event, first_of, members_of, of_line}
 

@@ -25,9 +25,9 @@ use Rattle.quiesce_core.specs.Runs.{IsRun, done_by, done_from, is_doer, state_af
 use Rattle.quiesce_core.proofs.InductionLaws.{place}
 use Rattle.quiesce_core.proofs.RunLaws.{runs_are_well_formed}
 use Rattle.quiesce_core.proofs.TableLaws.{gate_place}
-use Rattle.quiescence_laws.specs.Events.{is_root_of}
-use Rattle.quiescence_laws.proofs.ExtensionLaws.{extends_further}
-use Rattle.quiescence_laws.proofs.OneRootLaws.{found}
+use Rattle.quiesce_laws.specs.Events.{is_root_of}
+use Rattle.quiesce_laws.proofs.ExtensionLaws.{extends_further}
+use Rattle.quiesce_laws.proofs.OneRootLaws.{found}
 use Rattle.change_law.specs.Opening.{argument_of, fold_at, fold_of_node, fold_within}
 use Rattle.merge_laws.specs.Guarded.{is_called_at}
 

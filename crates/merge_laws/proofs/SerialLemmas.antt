@@ -10,11 +10,11 @@ use Rattle.quiesce_core.specs.State.{State, exchange, gate}
 use Rattle.quiesce_core.specs.Effect.{effect}
 use Rattle.quiesce_core.specs.Runs.{IsRun, is_begin_of, is_end_of, state_after}
 use Rattle.quiesce_core.proofs.InductionLaws.{along, none_barred, place, unbarred}
-use Rattle.quiescence_laws.specs.Events.{is_root_of, reopens}
-use Rattle.quiescence_laws.specs.Roots.{has_root}
-use Rattle.quiescence_laws.proofs.ExchangeLaws.{PortStep, begin_turns, stays, begins, calls, ends, port_step, serials_grow}
-use Rattle.quiescence_laws.proofs.RootLaws.{closed_stays}
-use Rattle.quiescence_laws.proofs.RootsSeenLaws.{open_root_is_seen}
+use Rattle.quiesce_laws.specs.Events.{is_root_of, reopens}
+use Rattle.quiesce_laws.specs.Roots.{has_root}
+use Rattle.quiesce_laws.proofs.ExchangeLaws.{PortStep, begin_turns, stays, begins, calls, ends, port_step, serials_grow}
+use Rattle.quiesce_laws.proofs.RootLaws.{closed_stays}
+use Rattle.quiesce_laws.proofs.RootsSeenLaws.{open_root_is_seen}
 
 -- serials never fall in a run
 serials_rise : (a b : List Event) (p : ℕ) → IsRun (a ++ b) → (exchange (state_after a) p).serial ≤ (exchange (state_after (a ++ b)) p).serial

@@ -1,27 +1,26 @@
 -- A history that follows a script tells of each port that it closes, before it is reopened, and tells a root only of one.
 use Rattle.std.proofs.Common.{◌≡◌, ◌∙◌, ℕ, ◌+◌, ◌<◌, ◌≤◌, Bool, true, false, ◌||◌, cond, List, [], ◌∷◌, ◌++◌, append_assoc, length, map, refl, sym, ap, subst, ⊎_elim, inl, inr, arith}
 use Rattle.std.specs.Prelude.{◌==◌, ◌⊎◌, ℤ, filter_map}
-use Rattle.std.specs.List.{count_by, list_any}
+use Rattle.std.specs.List.{count_by, list_any, range_with_len}
 use Rattle.std.specs.List.Sorted.{IsStrictlyIncreasing}
 use Rattle.std.proofs.lemmas.Bool.{both_ways, cases_Bool, eq-eqb, eqb-true, or_left, or_parts, or_right}
 use Rattle.std.proofs.lemmas.List.{append_cancel_left}
 use Rattle.std.proofs.lemmas.List.Folds.{list_any-append}
 use Rattle.std.proofs.lemmas.List.Kept.{IsStrictlyIncreasing-filter}
 use Rattle.std.proofs.lemmas.List.Sums.{sum_by-cons}
-use Rattle.std.specs.List.{range_with_len}
 use Rattle.base.specs.Each.{EachAfter}
 use Rattle.base.proofs.MapLaws.{count_by-append, list_any-map}
 use Rattle.base.proofs.PlaceLaws.{tails_are}
 use Rattle.config_graph.specs.Graph.{Graph}
 use Rattle.change_plan.specs.declared.plan_data.Move.{Move}
 use Rattle.change_plan.specs.declared.plan_data.Plan.{Plan}
-use Rattle.commit_laws.specs.Steps.{change_all, live_ports}
-use Rattle.plan_laws.specs.Commit.{ports_to_close}
+use Rattle.quiesce_commit_laws.specs.Steps.{change_all, live_ports}
+use Rattle.change_plan_laws.specs.Commit.{ports_to_close}
 use Rattle.quiesce_core.specs.Rules.{is_live_port}
 use Rattle.quiesce_core.specs.State.{Configuration}
 use Rattle.quiesce_core.specs.declared.event.Event.TheVariants as event
-use Rattle.change_script.specs.declared.report.HistoryLine.{HistoryLine}
-use Rattle.change_script.specs.declared.report.HistoryLine.TheVariants as to
+use Rattle.report_types.specs.declared.report.HistoryLine.{HistoryLine}
+use Rattle.report_types.specs.declared.report.HistoryLine.TheVariants as to
 use Rattle.change_law.specs.Changes.{IsChange, IsCommitted, IsGivenUp, commit_lines, opening_lines, seen_in_all}
 use Rattle.change_law.specs.Follows.{Follows, IsRight, IsStop, Part, lines_of, skip_lines, start_lines}
 use Rattle.change_law.specs.Members.{event_of, is_close, is_pending, is_root}

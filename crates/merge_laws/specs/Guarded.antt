@@ -11,12 +11,12 @@ use Rattle.quiesce_core.specs.Effect.{effect}
 use Rattle.quiesce_core.specs.Rules.{denial}
 use Rattle.quiesce_core.specs.Runs.{is_doer}
 use Rattle.quiesce_core.specs.State.{Configuration, State, empty, exchange, gate, is_depended, owner}
-use Rattle.quiescence_laws.specs.Drained.{is_drained}
-use Rattle.quiescence_laws.specs.Roots.{has_root}
-use Rattle.change_script.specs.declared.report.HistoryLine.{HistoryLine}
-use Rattle.change_script.specs.declared.report.HistoryLine.TheVariants as to
-use Rattle.change_script.specs.declared.report.NodeLog.{NodeLog}
-use Rattle.change_script.specs.declared.report.Report.{Report}
+use Rattle.quiesce_laws.specs.Drained.{is_drained}
+use Rattle.quiesce_laws.specs.Roots.{has_root}
+use Rattle.report_types.specs.declared.report.HistoryLine.{HistoryLine}
+use Rattle.report_types.specs.declared.report.HistoryLine.TheVariants as to
+use Rattle.report_types.specs.declared.report.NodeLog.{NodeLog}
+use Rattle.report_types.specs.declared.report.Report.{Report}
 use Rattle.change_law.specs.Members.{event_of, is_close}
 
 -- ---- what is told ahead

@@ -3,9 +3,9 @@ use Rattle.std.specs.Prelude.{◌≡◌, ℕ, true, false, not, ◌&&◌, ◌==�
 use Rattle.quiesce_core.specs.declared.event.Event.{Event}
 use Rattle.quiesce_core.specs.Doers.{is_of_change}
 use Rattle.quiesce_core.specs.State.{exchange, gate}
-use Rattle.quiescence_laws.specs.Drained.{is_drained}
-use Rattle.change_script.specs.declared.report.HistoryLine.{HistoryLine}
-use Rattle.change_script.specs.declared.report.HistoryLine.TheVariants as to
+use Rattle.quiesce_laws.specs.Drained.{is_drained}
+use Rattle.report_types.specs.declared.report.HistoryLine.{HistoryLine}
+use Rattle.report_types.specs.declared.report.HistoryLine.TheVariants as to
 use Rattle.change_law.specs.Members.{Member, by_node, of_history, lines, state_at, without_roots}
 use Rattle.merge_laws.specs.Guarded.{is_called_at, is_met, told, waits}
 

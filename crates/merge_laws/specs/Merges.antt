@@ -5,9 +5,9 @@ use Rattle.std.specs.List.{list_any}
 use Rattle.base.specs.Each.{Each}
 use Rattle.quiesce_core.specs.declared.event.Event.{Event}
 use Rattle.quiesce_core.specs.Runs.{IsRun, done_by}
-use Rattle.quiescence_laws.specs.Events.{is_root_of}
-use Rattle.change_script.specs.declared.report.HistoryLine.{HistoryLine}
-use Rattle.change_script.specs.declared.report.HistoryLine.TheVariants as to
+use Rattle.quiesce_laws.specs.Events.{is_root_of}
+use Rattle.report_types.specs.declared.report.HistoryLine.{HistoryLine}
+use Rattle.report_types.specs.declared.report.HistoryLine.TheVariants as to
 use Rattle.change_law.specs.Lawful.{IsDrainedAt, IsOfItsKind, StoodOpen}
 use Rattle.change_law.specs.Members.{Member, events, lines, state_at, without_roots}
 use Rattle.merge_laws.specs.Guarded.{is_called_at}

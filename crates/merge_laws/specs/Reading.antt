@@ -2,8 +2,8 @@
 -- change, and what its commit does) computed before.
 use Rattle.std.specs.Prelude.{◌≡◌, ◌≤◌, ◌<◌, ◌⊎◌, ℕ, ℤ, List, [], ◌∷◌, ◌++◌, map, length}
 use Rattle.quiesce_core.specs.declared.event.Event.{Event}
-use Rattle.change_script.specs.declared.report.HistoryLine.{HistoryLine}
-use Rattle.change_script.specs.declared.report.HistoryLine.TheVariants as to
+use Rattle.report_types.specs.declared.report.HistoryLine.{HistoryLine}
+use Rattle.report_types.specs.declared.report.HistoryLine.TheVariants as to
 use Rattle.change_law.specs.Changes.{pending_lines}
 use Rattle.change_law.specs.Follows.{AreRight, Part, lines_of}
 use Rattle.change_law.specs.Members.{lines_of_events}

@@ -1,8 +1,8 @@
 -- What a history tells of its closes, by its lines alone: of each closed port, before it is reopened.
 use Rattle.std.specs.Prelude.{◌≡◌, ℕ, Bool, true, false, ◌==◌, List, ◌∷◌, ◌++◌}
 use Rattle.std.specs.List.{list_any}
-use Rattle.change_script.specs.declared.report.HistoryLine.{HistoryLine}
-use Rattle.change_script.specs.declared.report.HistoryLine.TheVariants as to
+use Rattle.report_types.specs.declared.report.HistoryLine.{HistoryLine}
+use Rattle.report_types.specs.declared.report.HistoryLine.TheVariants as to
 use Rattle.merge_laws.specs.Guarded.{tells}
 
 abbrev pub reopens_there : ℕ → HistoryLine → Bool

@@ -2,7 +2,7 @@
 use Rattle.std.specs.Prelude.{ℕ, zero, suc, List, [], ◌∷◌, cond, Option, Some, None}
 use Rattle.std.specs.List.{cons_option}
 use Rattle.quiesce_core.specs.declared.event.Event.{Event}
-use Rattle.change_script.specs.declared.report.HistoryLine.{HistoryLine}
+use Rattle.report_types.specs.declared.report.HistoryLine.{HistoryLine}
 use Rattle.change_law.specs.Members.{Member, by_node, of_history, is_root}
 use Rattle.merge_laws.specs.Guarded.{Left, go, log_of}
 

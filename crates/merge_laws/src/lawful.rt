@@ -5,8 +5,8 @@ ghost use Rattle.change_law.specs.Follows.{Follows};
 ghost use Rattle.change_law.specs.Lawful.{IsLawfulBy};
 ghost use Rattle.change_law.specs.Members.{Member};
 ghost use Rattle.change_law.specs.Statements.{Statement};
-ghost use Rattle.change_script.specs.declared.report.NodeLog.{NodeLog};
-ghost use Rattle.change_script.specs.declared.report.Report.{Report};
+ghost use Rattle.report_types.specs.declared.report.NodeLog.{NodeLog};
+ghost use Rattle.report_types.specs.declared.report.Report.{Report};
 ghost use Rattle.merge_laws.specs.Guarded.{can_go, go, left, left_of, may_go};
 ghost use Rattle.merge_laws.specs.Merges.{HasLogs, HasRootsApart, IsMergeWith};
 

@@ -6,16 +6,16 @@ use Rattle.std.proofs.lemmas.Option.{same_Some}
 use Rattle.component_trait.specs.Fold.{fold_from}
 use Rattle.component_trait.specs.States.{NodeState}
 use Rattle.component_trait.specs.declared.component.Component.{Ghosts as ComponentWords}
-use Rattle.port_gate.specs.Moves.{Does, Leads}
-use Rattle.port_gate.specs.declared.gate.GateSeat.{Ghosts as SeatWords}
-use Rattle.port_gate.specs.declared.gate.PortGate.{Ghosts as GateWords}
+use Rattle.node_gate.specs.Moves.{Does, Leads}
+use Rattle.node_gate.specs.declared.gate.GateSeat.{Ghosts as SeatWords}
+use Rattle.node_gate.specs.declared.gate.PortGate.{Ghosts as GateWords}
 use Rattle.quiesce_core.specs.State.{State}
 use Rattle.quiesce_core.specs.declared.event.Event.{Event}
 use Rattle.quiesce_core.specs.declared.known.Known.{Known}
 use Rattle.node_host.specs.Acts.{Acts, TellsState, node_at, seat_seen, state_of}
 use Rattle.node_host.specs.Hosted.{node_of}
 use Rattle.node_host.specs.Moved.{Moved}
-use Rattle.node_host.specs.Told.{IsTold}
+use Rattle.node_host.specs.Told.{FitsToldState}
 use Rattle.node_host.specs.declared.node.HostNode.{HostNode}
 
 led_nowhere : (n : ℕ) (o o' : Option State) → Leads n o [] o' → o' ≡ o
@@ -51,7 +51,7 @@ module _ {C S : Type 0} {component : ComponentWords C} {seats : SeatWords S} {G 
   node_kept = as_before (λ slot first t w seat o. node_at h' ≡ node_of slot first t) refl
 
   pub tells_kept : (s : State) → TellsState words gate h s → TellsState words gate' h' s
-  tells_kept s = as_before (λ slot first t w seat o. IsTold o (node_of slot first t) seat s → TellsState words gate' h' s) (λ told. told)
+  tells_kept s = as_before (λ slot first t w seat o. FitsToldState o (node_of slot first t) seat s → TellsState words gate' h' s) (λ told. told)
 
   pub acts_then : {gate'' : G} {h'' : HostNode C S component seats} {e : Option Event} → Acts words gate' gate'' h' h'' e → Acts words gate gate'' h h'' e
   acts_then {gate'' = gate''} {h'' = h''} {e = e} b = record {

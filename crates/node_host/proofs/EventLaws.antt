@@ -9,11 +9,11 @@ use Rattle.quiesce_core.specs.Knowledge.{known_next, own_port_after}
 use Rattle.quiesce_core.specs.State.{State}
 use Rattle.quiesce_core.specs.declared.event.Event.{Event}
 use Rattle.quiesce_core.specs.declared.known.Known.{Known}
-use Rattle.port_gate.specs.Moves.{Does, Leads}
-use Rattle.port_gate.specs.Seats.{NodeAt}
-use Rattle.port_gate.specs.declared.gate.GateSeat.{Ghosts as SeatWords}
-use Rattle.port_gate.specs.declared.gate.PortGate.{Ghosts as GateWords}
-use Rattle.turn_laws.specs.Agreement.{IsInTurn}
+use Rattle.node_gate.specs.Moves.{Does, Leads}
+use Rattle.node_gate.specs.Seats.{NodeAt}
+use Rattle.node_gate.specs.declared.gate.GateSeat.{Ghosts as SeatWords}
+use Rattle.node_gate.specs.declared.gate.PortGate.{Ghosts as GateWords}
+use Rattle.node_turn_laws.specs.Agreement.{IsInTurn}
 use Rattle.node_host.specs.Acts.{node_at, seat_seen, state_of}
 use Rattle.node_host.specs.Hosted.{IsHosted, SeatSeen, node_of}
 use Rattle.node_host.specs.Lines.{LineNode}

@@ -7,11 +7,11 @@ use Rattle.std.proofs.lemmas.Option.{none-some, slice_get-get_or}
 use Rattle.config_graph.specs.Kinds.{row}
 use Rattle.config_graph.specs.declared.node.Target.{Target}
 use Rattle.config_graph.proofs.KindLaws.{two_requires}
-use Rattle.gate_word.specs.Phases.{is_asked, is_idle, is_in_more}
-use Rattle.gate_word.specs.Words.{unpack}
-use Rattle.gate_word.specs.declared.phase.Phase.{Phase}
-use Rattle.gate_word.specs.declared.phase.Phase.TheVariants as phase
-use Rattle.gate_word.specs.declared.word.Word.{Word}
+use Rattle.quiesce_word.specs.Phases.{is_asked, is_idle, is_in_more}
+use Rattle.quiesce_word.specs.Words.{unpack}
+use Rattle.quiesce_word.specs.declared.phase.Phase.{Phase}
+use Rattle.quiesce_word.specs.declared.phase.Phase.TheVariants as phase
+use Rattle.quiesce_word.specs.declared.word.Word.{Word}
 use Rattle.component_trait.specs.Moves as moves
 use Rattle.component_trait.specs.States.{NodeState}
 use Rattle.component_trait.specs.declared.next.Ask.{Ask as Request}
@@ -30,18 +30,18 @@ use Rattle.quiesce_core.specs.declared.known.Known.{Known}
 use Rattle.quiesce_core.specs.declared.state.Slot.{Slot}
 use Rattle.quiesce_core.proofs.LegalLaws.{legal}
 use Rattle.quiesce_core.proofs.WordLaws.{port_words_decode}
-use Rattle.port_gate.specs.Answers.{BeginSays, HasWord, HearSays, IsSpentAt, TakeSays}
-use Rattle.port_gate.specs.Core.{node_in}
-use Rattle.port_gate.specs.Moves.{Leads}
-use Rattle.port_gate.specs.Seats.{NodeAt}
-use Rattle.port_gate.specs.declared.answers.BeginAnswer.{BeginAnswer}
-use Rattle.port_gate.specs.declared.answers.BeginAnswer.TheVariants as begin
-use Rattle.port_gate.specs.declared.answers.HearAnswer.TheVariants as hear
-use Rattle.port_gate.specs.declared.answers.TakeAnswer.TheVariants as take
+use Rattle.node_gate.specs.Answers.{BeginSays, HasWord, HearSays, IsSpentAt, TakeSays}
+use Rattle.node_gate.specs.Core.{node_in}
+use Rattle.node_gate.specs.Moves.{Leads}
+use Rattle.node_gate.specs.Seats.{NodeAt}
+use Rattle.node_gate.specs.declared.answers.BeginAnswer.{BeginAnswer}
+use Rattle.node_gate.specs.declared.answers.BeginAnswer.TheVariants as begin
+use Rattle.node_gate.specs.declared.answers.HearAnswer.TheVariants as hear
+use Rattle.node_gate.specs.declared.answers.TakeAnswer.TheVariants as take
 use Rattle.port_queue.specs.Inboxes.{front}
-use Rattle.turns.specs.Turn.{begins, begins_at, calls, does_next, hears, is_for, takes}
-use Rattle.turns.specs.World.{first_port}
-use Rattle.node_host.specs.Told.{IsTold}
+use Rattle.node_turn_laws.specs.Turn.{begins, begins_at, calls, does_next, hears, is_for, takes}
+use Rattle.node_turn_laws.specs.World.{first_port}
+use Rattle.node_host.specs.Told.{FitsToldState}
 use Rattle.node_host.proofs.Refused.{IsRefused}
 
 -- a step that the gate told is allowed, and the node's
@@ -57,7 +57,7 @@ last_is s p k v h =
     let both = and_parts (k == (exchange s p).serial) (v == (exchange s p).value) h in
     (eqb-true k (exchange s p).serial both.0, eqb-true v (exchange s p).value both.1)
 
-module _ {o : Option State} {n : NodeAt} {known : Known} {s : State} (told : IsTold o n known s) where
+module _ {o : Option State} {n : NodeAt} {known : Known} {s : State} (told : FitsToldState o n known s) where
   first_in : (k : ℕ) (x : Option Slot) → (node_in k x).first ≡ option_map_or (λ (m : Slot). m.first_port) x 0
   first_in k None = refl
   first_in k (Some m) = refl

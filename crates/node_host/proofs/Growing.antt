@@ -16,9 +16,9 @@ use Rattle.quiesce_core.specs.declared.event.Event.{Event}
 use Rattle.quiesce_core.specs.declared.known.Known.{Known}
 use Rattle.quiesce_core.specs.declared.known.PortKnown.{PortKnown}
 use Rattle.quiesce_core.proofs.KnownLaws.{as_own_port, known_after_more, port_of_log, ports_of_log}
-use Rattle.port_gate.specs.Seats.{IsWithinLimits, NodeAt}
-use Rattle.turn_laws.specs.Agreement.{Agrees, IsInTurn, expects, ServicesAgree}
-use Rattle.turn_laws.proofs.AgreementLaws.{agrees_next}
+use Rattle.node_gate.specs.Seats.{IsWithinLimits, NodeAt}
+use Rattle.node_turn_laws.specs.Agreement.{Agrees, IsInTurn, expects, ServicesAgree}
+use Rattle.node_turn_laws.proofs.AgreementLaws.{agrees_next}
 use Rattle.node_host.specs.Hosted.{IsHosted, SeatSeen, node_of}
 use Rattle.node_host.specs.Lines.{LineNode, line_node_state, line_state, opens_with}
 

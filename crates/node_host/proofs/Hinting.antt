@@ -2,8 +2,8 @@
 use Rattle.std.proofs.Common.{◌≡◌, ◌≢◌, ℕ, ◌+◌, Bool, true, false, Option, Some, None, refl, sym, ap, subst}
 use Rattle.std.specs.Prelude.{◌&&◌, List, slice_set, if◌then◌else◌}
 use Rattle.std.proofs.lemmas.Bool.{both_ways}
-use Rattle.port_gate.specs.Answers.{IsTargetAt}
-use Rattle.port_gate.specs.Loads.{Load, LoadsAt, TellsLoads, leads_to}
+use Rattle.node_gate.specs.Answers.{IsTargetAt}
+use Rattle.node_gate.specs.Loads.{Load, LoadsAt, TellsLoads, leads_to}
 use Rattle.port_queue.specs.Inboxes.{Counts, after_post, has_room}
 use Rattle.quiesce_core.specs.declared.event.Event.{Event}
 use Rattle.quiesce_core.specs.declared.event.Event.TheVariants.{Begin, Call}

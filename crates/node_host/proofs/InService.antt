@@ -26,9 +26,9 @@ use Rattle.quiesce_core.specs.declared.known.Known.{Known}
 use Rattle.quiesce_core.specs.declared.known.PortKnown.{PortKnown}
 use Rattle.quiesce_core.specs.declared.known.Served.{Served}
 use Rattle.quiesce_core.proofs.KnownLaws.{service_of_log}
-use Rattle.port_gate.specs.Seats.{HasEndedCalls}
-use Rattle.turn_laws.proofs.AgreementLaws.{who_wants_asks_nothing}
-use Rattle.turn_laws.specs.Agreement.{HasNoCall, ServiceAgrees, ServicesAgree, expects}
+use Rattle.node_gate.specs.Seats.{HasEndedCalls}
+use Rattle.node_turn_laws.proofs.AgreementLaws.{who_wants_asks_nothing}
+use Rattle.node_turn_laws.specs.Agreement.{HasNoCall, ServiceAgrees, ServicesAgree, expects}
 use Rattle.node_host.specs.Hosted.{IsHosted, SeatSeen}
 use Rattle.node_host.specs.Lines.{LineNode}
 use Rattle.node_host.specs.Awaiting.{awaits}

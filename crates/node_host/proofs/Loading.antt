@@ -3,9 +3,9 @@ use Rattle.std.proofs.Common.{◌≡◌, ◌∙◌, ℕ, ◌+◌, ◌≤◌, Boo
 use Rattle.std.specs.Prelude.{◌&&◌}
 use Rattle.std.proofs.lemmas.Bool.{and_parts, both_ways}
 use Rattle.std.proofs.lemmas.Option.{none-some}
-use Rattle.port_gate.specs.Loads.{IsLed, IsLoaded, IsOfNow, Led, Load, Loads, LoadsAt, TellsLoads}
+use Rattle.node_gate.specs.Loads.{IsLed, IsLoaded, IsOfNow, Led, Load, Loads, LoadsAt, TellsLoads}
 use Rattle.quiesce_core.specs.declared.known.Known.{Known}
-use Rattle.node_host.specs.Tried.{Keeps, LoadsPort, Steps, is_busy}
+use Rattle.node_host.specs.Tried.{Keeps, LoadsPort, StepsGrow, is_busy}
 
 -- what two calls one after the other do
 pub then_so : (P Q R : Loads → Loads → Type 0) → ((a b c : Loads) → P a b → Q b c → R a c) → (a b c : Option Loads) → TellsLoads P a b → TellsLoads Q b c → TellsLoads R a c
@@ -28,7 +28,7 @@ now_since shows a b c l few h = record { after = omega (arith, few, h.after); un
 now_kept : (shows : Load → Bool) (a b c : ℕ) (l : Load) → b ≤ c → IsOfNow shows a b l → IsOfNow shows a c l
 now_kept shows a b c l few h = record { after = h.after; until = omega (arith, few, h.until); shown = h.shown }
 
-pub loaded_since : (p : ℕ) (shows : Load → Bool) (a b c : Loads) → Steps a b → IsLoaded p shows b c → IsLoaded p shows a c
+pub loaded_since : (p : ℕ) (shows : Load → Bool) (a b c : Loads) → StepsGrow a b → IsLoaded p shows b c → IsLoaded p shows a c
 loaded_since p shows a b c few h = record { load = h.load; there = h.there; now = now_since shows a.steps b.steps c.steps h.load few h.now }
 
 pub loaded_kept : (p : ℕ) (shows : Load → Bool) (a b c : Loads) → b.steps ≤ c.steps → c.at p ≡ b.at p → IsLoaded p shows a b → IsLoaded p shows a c
@@ -52,11 +52,11 @@ loads_first p shows more_ a b loads = loads_as p (λ l. shows l && more_ l) show
 
 -- ---- what calls leave
 
-pub port_steps : (p : ℕ) (a b : Option Loads) → TellsLoads (LoadsPort p) a b → TellsLoads Steps a b
-port_steps p a b h = as_so (LoadsPort p) Steps (λ x y did. did.steps) a b h
+pub port_steps : (p : ℕ) (a b : Option Loads) → TellsLoads (LoadsPort p) a b → TellsLoads StepsGrow a b
+port_steps p a b h = as_so (LoadsPort p) StepsGrow (λ x y did. did.steps) a b h
 
-pub keeps_steps : (k first : ℕ) (w : Known) (a b : Option Loads) → TellsLoads (Keeps k first w) a b → TellsLoads Steps a b
-keeps_steps k first w a b h = as_so (Keeps k first w) Steps (λ x y did. did.steps) a b h
+pub keeps_steps : (k first : ℕ) (w : Known) (a b : Option Loads) → TellsLoads (Keeps k first w) a b → TellsLoads StepsGrow a b
+keeps_steps k first w a b h = as_so (Keeps k first w) StepsGrow (λ x y did. did.steps) a b h
 
 -- what loads at an idle port keeps the loads of the busy ones
 pub keeps_loaded : (k first r : ℕ) (shows : Load → Bool) (w : Known) (a b : Option Loads) → is_busy w r ≡ false → TellsLoads (LoadsAt (first + r) shows) a b → TellsLoads (Keeps k first w) a b

@@ -9,7 +9,7 @@ use Rattle.config_graph.specs.Kinds.{row}
 use Rattle.config_graph.proofs.KindLaws.{two_requires}
 use Rattle.component_trait.specs.Moves as moves
 use Rattle.component_trait.specs.States.{NodeState}
-use Rattle.gate_word.specs.Phases.{is_idle}
+use Rattle.quiesce_word.specs.Phases.{is_idle}
 use Rattle.quiesce_core.specs.Knowledge.{IsServed, KnowsService, port_at_start}
 use Rattle.quiesce_core.specs.State.{State, exchange, ports_of, service, slot}
 use Rattle.quiesce_core.specs.declared.event.Event.{Event}
@@ -17,15 +17,15 @@ use Rattle.quiesce_core.specs.declared.known.Known.{Known}
 use Rattle.quiesce_core.specs.declared.known.Served.{Served}
 use Rattle.quiesce_core.specs.declared.state.Service.{Service}
 use Rattle.quiesce_core.specs.declared.state.Slot.{Slot}
-use Rattle.port_gate.specs.Core.{node_in}
-use Rattle.port_gate.specs.Seats.{NodeAt}
+use Rattle.node_gate.specs.Core.{node_in}
+use Rattle.node_gate.specs.Seats.{NodeAt}
 use Rattle.port_queue.specs.Inboxes.{front}
-use Rattle.turns.specs.Turn.{awaits_call, does_next, ends, goes_on, has_reply, hears, is_call, or_else, reply_to, serves, takes}
-use Rattle.turns.specs.World.{first_port}
+use Rattle.node_turn_laws.specs.Turn.{awaits_call, does_next, ends, goes_on, has_reply, hears, is_call, or_else, reply_to, serves, takes}
+use Rattle.node_turn_laws.specs.World.{first_port}
 use Rattle.node_host.specs.Awaiting.{awaits}
 use Rattle.node_host.specs.Hosted.{IsHosted, SeatSeen, node_of}
 use Rattle.node_host.specs.Lines.{LineNode}
-use Rattle.node_host.specs.Told.{IsTold, reply_at}
+use Rattle.node_host.specs.Told.{FitsToldState, reply_at}
 use Rattle.node_host.proofs.Exactly.{first_is, own_known}
 use Rattle.node_host.proofs.Growing.{two_known}
 use Rattle.node_host.proofs.InService.{called, two_shape, unowned}
@@ -53,7 +53,7 @@ else_none : (x : Option Event) → or_else x None ≡ x
 else_none None = refl
 else_none (Some e) = refl
 
-module _ {o : Option State} {n : NodeAt} {known : Known} {s : State} (told : IsTold o n known s) where
+module _ {o : Option State} {n : NodeAt} {known : Known} {s : State} (told : FitsToldState o n known s) where
   ports_are : ports_of s.config n.slot ≡ range_with_len n.first (length (row n.kind).requires_)
   ports_are = by (slot s.config n.slot) told.fits.live told.node
     where
@@ -106,9 +106,9 @@ module _ {o : Option State} {n : NodeAt} {known : Known} {s : State} (told : IsT
       ap (λ b. not b && (slice_index_or known.ports r port_at_start).consequent) k.idle ∙ ap (λ b. not (is_idle (exchange s (n.first + r)).phase) && b) k.consequent
 
 module _ {slot first : ℕ} {t : NodeState} {log : List Event} {line : List LineNode} {known : Known} {waiting : List (Option ℕ)} {seat : SeatSeen} (h : IsHosted slot first t log line known waiting seat)
-    {o : Option State} {s : State} (tells : IsTold o (node_of slot first t) seat.known s) where
-  told_here : IsTold o (node_of slot first t) known s
-  told_here = subst (λ w. IsTold o (node_of slot first t) w s) (sym h.kept) tells
+    {o : Option State} {s : State} (tells : FitsToldState o (node_of slot first t) seat.known s) where
+  told_here : FitsToldState o (node_of slot first t) known s
+  told_here = subst (λ w. FitsToldState o (node_of slot first t) w s) (sym h.kept) tells
 
   abbrev at : ℕ → Bool
   at r = called (slice_index_or known.ports r port_at_start)

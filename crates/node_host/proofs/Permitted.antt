@@ -23,8 +23,8 @@ use Rattle.quiesce_core.specs.declared.event.Event.TheVariants.{Begin, Call, Giv
 use Rattle.quiesce_core.specs.declared.known.Known.{Known}
 use Rattle.quiesce_core.specs.declared.known.PortKnown.{PortKnown}
 use Rattle.quiesce_core.specs.declared.known.Served.{Served}
-use Rattle.port_gate.specs.Noting.{CanCount}
-use Rattle.port_gate.specs.Seats.{IsOwn, MayBegin, MayCall, MayGive, MayHear, MaySendMore, has_heard, port_known, serial_served, serves}
+use Rattle.node_gate.specs.Noting.{CanCount}
+use Rattle.node_gate.specs.Seats.{IsOwn, MayBegin, MayCallAt, MayGive, MayHear, MaySendMore, has_heard, port_known, serial_served, serves}
 use Rattle.node_host.specs.Hosted.{IsHosted, SeatSeen, node_of}
 use Rattle.node_host.specs.Lines.{LineNode}
 use Rattle.node_host.specs.Awaiting.{awaits}
@@ -132,7 +132,7 @@ module _ {slot first : ℕ} {t : NodeState} {log : List Event} {line : List Line
       }
 
       pub may_call : (x : Request) (y : PortKnown) → moves.next t ≡ Some (next.Ask x) → FitsRequest t.kind x → depends_on t.kind 0 x.require ≡ true → y ≡ slice_index_or known.ports x.require port_at_start
-          → y.idle ≡ true → MayCall (node_of slot first t) seat.known (first + x.require) x.value
+          → y.idle ≡ true → MayCallAt (node_of slot first t) seat.known (first + x.require) x.value
       may_call x y is fits depends at idle =
           let index : first + x.require - first ≡ x.require = omega arith in
           record {

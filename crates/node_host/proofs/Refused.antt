@@ -3,12 +3,12 @@ use Rattle.std.proofs.Common.{◌≡◌, ◌∙◌, ℕ, Bool, true, false, Opti
 use Rattle.std.specs.Prelude.{not, ◌==◌, ◌&&◌, ◌||◌, is_none, is_some}
 use Rattle.std.specs.Option.{option_map_or}
 use Rattle.std.proofs.lemmas.Bool.{and_parts, both_ways, eqb-true, or_right}
-use Rattle.gate_word.specs.Words.{is_missing, is_spent, unpack}
+use Rattle.quiesce_word.specs.Words.{is_missing, is_spent, unpack}
 use Rattle.quiesce_core.specs.State.{State}
-use Rattle.port_gate.specs.Answers.{BeginSays}
-use Rattle.port_gate.specs.Loads.{IsLoaded, Load, Loads, LoadsAt, TellsLoads, begin_shows, has_found, is_word}
-use Rattle.port_gate.specs.declared.answers.BeginAnswer.{BeginAnswer}
-use Rattle.port_gate.specs.declared.answers.BeginAnswer.TheVariants.{Again, Begun, Closed, Spent, Unlinked}
+use Rattle.node_gate.specs.Answers.{BeginSays}
+use Rattle.node_gate.specs.Loads.{IsLoaded, Load, Loads, LoadsAt, TellsLoads, begin_shows, has_found, is_word}
+use Rattle.node_gate.specs.declared.answers.BeginAnswer.{BeginAnswer}
+use Rattle.node_gate.specs.declared.answers.BeginAnswer.TheVariants.{Again, Begun, Closed, Spent, Unlinked}
 use Rattle.node_host.specs.Tried.{bars_begin}
 use Rattle.node_host.proofs.Loading.{loads_as}
 

@@ -2,15 +2,15 @@
 use Rattle.std.proofs.Common.{◌≡◌, ◌∙◌, ℕ, zero, suc, ◌+◌, ◌-◌, ◌<◌, Bool, true, false, cond, List, [], ◌∷◌, length, Option, Some, None, refl, sym, ap, subst, arith, get_or-set_same}
 use Rattle.std.specs.Prelude.{slice_set, slice_index_or, ◌==◌, ◌&&◌, ◌||◌}
 use Rattle.std.proofs.lemmas.Bool.{both_ways, eq-eqb}
-use Rattle.gate_word.specs.Phases.{is_answered, is_asked, is_in_more}
-use Rattle.gate_word.specs.Words.{unpack}
-use Rattle.gate_word.specs.declared.phase.Phase.{Phase}
-use Rattle.gate_word.specs.declared.phase.Phase.TheVariants as phase
-use Rattle.gate_word.specs.declared.word.Word.{Word}
+use Rattle.quiesce_word.specs.Phases.{is_answered, is_asked, is_in_more}
+use Rattle.quiesce_word.specs.Words.{unpack}
+use Rattle.quiesce_word.specs.declared.phase.Phase.{Phase}
+use Rattle.quiesce_word.specs.declared.phase.Phase.TheVariants as phase
+use Rattle.quiesce_word.specs.declared.word.Word.{Word}
 use Rattle.component_trait.specs.Fold.{after_event, awaits_at, calls_at, wants_at, where_so}
 use Rattle.component_trait.specs.Moves as moves
 use Rattle.component_trait.specs.States.{NodeState}
-use Rattle.turn_laws.specs.Agreement.{expects}
+use Rattle.node_turn_laws.specs.Agreement.{expects}
 use Rattle.quiesce_core.specs.Knowledge.{known_next, port_at_start, port_known_next, ports_known_next}
 use Rattle.quiesce_core.specs.State.{State, exchange}
 use Rattle.quiesce_core.specs.declared.event.Event.{Event}
@@ -18,12 +18,12 @@ use Rattle.quiesce_core.specs.declared.event.Event.TheVariants.{Ask, End}
 use Rattle.quiesce_core.specs.declared.known.Known.{Known}
 use Rattle.quiesce_core.specs.declared.known.PortKnown.{PortKnown}
 use Rattle.quiesce_core.proofs.WordLaws.{port_words_decode}
-use Rattle.port_gate.specs.Answers.{SeeSays}
-use Rattle.port_gate.specs.Moves.{Does, events_of_ask, events_of_end, seen_by, with_seen}
-use Rattle.port_gate.specs.Seats.{NodeAt, port_known, value_seen}
-use Rattle.port_gate.specs.declared.answers.SeeAnswer.{SeeAnswer}
-use Rattle.port_gate.specs.declared.answers.SeeAnswer.TheVariants.{Answer, More, NotYet}
-use Rattle.node_host.specs.Told.{IsTold, reply_at}
+use Rattle.node_gate.specs.Answers.{SeeSays}
+use Rattle.node_gate.specs.Moves.{Does, events_of_ask, events_of_end, seen_by, with_seen}
+use Rattle.node_gate.specs.Seats.{NodeAt, port_known, value_seen}
+use Rattle.node_gate.specs.declared.answers.SeeAnswer.{SeeAnswer}
+use Rattle.node_gate.specs.declared.answers.SeeAnswer.TheVariants.{Answer, More, NotYet}
+use Rattle.node_host.specs.Told.{FitsToldState, reply_at}
 
 set_next : (p r : ℕ) (xs : List PortKnown) (y : PortKnown) (e : Event) → r < length xs → port_known_next (p + r) y e ≡ port_known_next (p + r) (slice_index_or xs r port_at_start) e
     → ports_known_next p (slice_set xs r y) e ≡ ports_known_next p xs e
@@ -109,7 +109,7 @@ asked_without_reply phase.Asked h = refl
 asked_without_reply phase.Answered h = absurd (both_ways false refl h)
 asked_without_reply phase.More h = absurd (both_ways false refl h)
 
-pub not_yet : {o : Option State} {n : NodeAt} {known : Known} {s : State} → IsTold o n known s → (t : NodeState) (p word : ℕ) → SeeSays o p (NotYet word) → None ≡ reply_at s t p
+pub not_yet : {o : Option State} {n : NodeAt} {known : Known} {s : State} → FitsToldState o n known s → (t : NodeState) (p word : ℕ) → SeeSays o p (NotYet word) → None ≡ reply_at s t p
 not_yet {s = s} told t p word says =
     let there = subst (λ x. SeeSays x p (NotYet word)) told.told says in
     let asked : is_asked (exchange s p).phase ≡ true =

@@ -12,17 +12,17 @@ use Rattle.quiesce_core.specs.declared.event.Event.TheVariants.{Ask, Begin, Call
 use Rattle.quiesce_core.specs.declared.known.Known.{Known}
 use Rattle.quiesce_core.specs.declared.known.Served.{Served}
 use Rattle.quiesce_core.specs.declared.state.Service.{Service}
-use Rattle.turns.specs.Turn.{serves}
-use Rattle.port_gate.specs.Loads.{IsLed, IsLoaded, Loads, TellsLoads, leads_to, shows_asked}
-use Rattle.port_gate.specs.Seats.{NodeAt}
-use Rattle.port_gate.specs.declared.gate.GateSeat.{Ghosts as SeatWords}
-use Rattle.port_gate.specs.declared.gate.PortGate.{Ghosts as GateWords}
+use Rattle.node_turn_laws.specs.Turn.{serves}
+use Rattle.node_gate.specs.Loads.{IsLed, IsLoaded, Loads, TellsLoads, leads_to, shows_asked}
+use Rattle.node_gate.specs.Seats.{NodeAt}
+use Rattle.node_gate.specs.declared.gate.GateSeat.{Ghosts as SeatWords}
+use Rattle.node_gate.specs.declared.gate.PortGate.{Ghosts as GateWords}
 use Rattle.port_queue.specs.Inboxes.{Counts}
 use Rattle.node_host.specs.Acts.{Acts, LoadsSo, TellsState, gate_seen, node_at, state_of}
 use Rattle.node_host.specs.Hosted.{node_of}
 use Rattle.node_host.specs.Posting.{GateSeen, HintOf, Hinted, IsLooked, IsSent, IsSentAfter, IsSentBy, Looked, is_asking}
-use Rattle.node_host.specs.Told.{IsTold}
-use Rattle.node_host.specs.Tried.{CannotBegin, HasNoReply, HasNoRequest, HaveNoReplies, IsHeld, IsTried, Keeps, LoadsPort, Steps, bars_begin, is_busy, is_move, is_passed, is_reply_at, is_stale_for, move_number, passed_ports, shows_in_more}
+use Rattle.node_host.specs.Told.{FitsToldState}
+use Rattle.node_host.specs.Tried.{CannotBegin, HasNoReply, HasNoRequest, HaveNoReplies, IsHeld, IsTried, Keeps, LoadsPort, StepsGrow, bars_begin, is_busy, is_move, is_passed, is_reply_at, is_stale_for, move_number, passed_ports, shows_in_more}
 use Rattle.node_host.specs.declared.node.HostNode.{HostNode}
 use Rattle.node_host.proofs.ActLaws.{as_before}
 use Rattle.node_host.proofs.Hinting.{hint_free}
@@ -53,10 +53,10 @@ no_reply_kept k first r w a b c kept (inr loaded) = by (is_busy w r) refl
         inr (then_so (IsLoaded (first + r) shows_asked) (Keeps k first w) (IsLoaded (first + r) shows_asked)
         (λ x y z l s. loaded_kept (first + r) shows_asked x y z s.steps (s.busy r is) l) a b c loaded kept)
 
-no_reply_since : (first r : ℕ) (w : Known) (a b c : Option Loads) → TellsLoads Steps a b → HasNoReply first w r b c → HasNoReply first w r a c
+no_reply_since : (first r : ℕ) (w : Known) (a b c : Option Loads) → TellsLoads StepsGrow a b → HasNoReply first w r b c → HasNoReply first w r a c
 no_reply_since first r w a b c steps (inl idle) = inl idle
 no_reply_since first r w a b c steps (inr loaded) =
-    inr (then_so Steps (IsLoaded (first + r) shows_asked) (IsLoaded (first + r) shows_asked) (λ x y z s l. loaded_since (first + r) shows_asked x y z s l) a b c steps loaded)
+    inr (then_so StepsGrow (IsLoaded (first + r) shows_asked) (IsLoaded (first + r) shows_asked) (λ x y z s l. loaded_since (first + r) shows_asked x y z s l) a b c steps loaded)
 
 no_reply_past : (first : ℕ) (w : Known) (a b c : Option Loads) → TellsLoads (LoadsPort (first + 1)) b c → HasNoReply first w 0 a b → HasNoReply first w 0 a c
 no_reply_past first w a b c past (inl idle) = inl idle
@@ -67,7 +67,7 @@ no_reply_past first w a b c past (inr loaded) =
     apart : first + 0 ≡ first + 1 → ⊥
     apart same = omega (arith, same)
 
-pub tried_right : (n : NodeAt) (w : Known) (o : Option Event) (a b c : Option Loads) → length (row n.kind).requires_ ≡ 2 → HasNoReply n.first w 0 a b → TellsLoads Steps a b
+pub tried_right : (n : NodeAt) (w : Known) (o : Option Event) (a b c : Option Loads) → length (row n.kind).requires_ ≡ 2 → HasNoReply n.first w 0 a b → TellsLoads StepsGrow a b
     → TellsLoads (LoadsPort (n.first + 1)) b c → is_reply_at (n.first + 1) o ≡ true → (o ≡ None → HasNoReply n.first w 1 b c) → HaveNoReplies n w o a c
 tried_right n w o a b c two left steps past is right zero below = no_reply_past n.first w a b c past left
 tried_right n w None a b c two left steps past is right (suc zero) below = no_reply_since n.first 1 w a b c steps (right refl)
@@ -84,11 +84,11 @@ held_kept first v w (Some u) a b c kept (inr waits) =
     let led = then_so (λ x y. IsLed u.port shows_in_more x.steps y.steps y.hear) (Keeps 3 first v) (λ x y. IsLed u.port shows_in_more x.steps y.steps y.hear)
     (λ x y z l s. led_kept u.port shows_in_more x.steps y.steps z.steps y.hear z.hear s.steps (s.hear (omega arith)) l) a b c waits.1 kept in inr (waits.0, led)
 
-held_since : (w : Known) (o : Option Served) (a b c : Option Loads) → TellsLoads Steps a b → IsHeld w o b c → IsHeld w o a c
+held_since : (w : Known) (o : Option Served) (a b c : Option Loads) → TellsLoads StepsGrow a b → IsHeld w o b c → IsHeld w o a c
 held_since w None a b c steps h = h
 held_since w (Some u) a b c steps (inl left) = inl left
 held_since w (Some u) a b c steps (inr waits) =
-    let led = then_so Steps (λ x y. IsLed u.port shows_in_more x.steps y.steps y.hear) (λ x y. IsLed u.port shows_in_more x.steps y.steps y.hear)
+    let led = then_so StepsGrow (λ x y. IsLed u.port shows_in_more x.steps y.steps y.hear) (λ x y. IsLed u.port shows_in_more x.steps y.steps y.hear)
     (λ x y z s l. led_since u.port shows_in_more x.steps y.steps z.steps z.hear s l) a b c steps waits.1 in inr (waits.0, led)
 
 -- ---- the next request
@@ -99,34 +99,34 @@ request_kept n first w c c' a b d kept (inr (p, gave, led)) =
     let later = then_so (λ x y. IsLed p (is_stale_for n) x.steps y.steps y.take) (Keeps 4 first w) (λ x y. IsLed p (is_stale_for n) x.steps y.steps y.take)
     (λ x y z l s. led_kept p (is_stale_for n) x.steps y.steps z.steps y.take z.take s.steps (s.take (omega arith)) l) a b d led kept in inr (p, gave, later)
 
-request_since : (n : ℕ) (c c' : Counts) (a b d : Option Loads) → TellsLoads Steps a b → HasNoRequest n c c' b d → HasNoRequest n c c' a d
+request_since : (n : ℕ) (c c' : Counts) (a b d : Option Loads) → TellsLoads StepsGrow a b → HasNoRequest n c c' b d → HasNoRequest n c c' a d
 request_since n c c' a b d steps (inl empty) = inl empty
 request_since n c c' a b d steps (inr (p, gave, led)) =
-    let later = then_so Steps (λ x y. IsLed p (is_stale_for n) x.steps y.steps y.take) (λ x y. IsLed p (is_stale_for n) x.steps y.steps y.take)
+    let later = then_so StepsGrow (λ x y. IsLed p (is_stale_for n) x.steps y.steps y.take) (λ x y. IsLed p (is_stale_for n) x.steps y.steps y.take)
     (λ x y z s l. led_since p (is_stale_for n) x.steps y.steps z.steps z.take s l) a b d steps led in inr (p, gave, later)
 
 -- ---- a beginning
 
-cannot_since : (first : ℕ) (t : NodeState) (w : Known) (a b c : Option Loads) → TellsLoads Steps a b → CannotBegin first t w b c → CannotBegin first t w a c
+cannot_since : (first : ℕ) (t : NodeState) (w : Known) (a b c : Option Loads) → TellsLoads StepsGrow a b → CannotBegin first t w b c → CannotBegin first t w a c
 cannot_since first t w a b c steps cannot r wants = by (cannot r wants)
   where
     by : (is_busy w r.require ≡ true) ⊎ TellsLoads (IsLoaded (first + r.require) bars_begin) b c → (is_busy w r.require ≡ true) ⊎ TellsLoads (IsLoaded (first + r.require) bars_begin) a c
     by (inl busy) = inl busy
     by (inr loaded) =
-        inr (then_so Steps (IsLoaded (first + r.require) bars_begin) (IsLoaded (first + r.require) bars_begin) (λ x y z s l. loaded_since (first + r.require) bars_begin x y z s l) a b c steps loaded)
+        inr (then_so StepsGrow (IsLoaded (first + r.require) bars_begin) (IsLoaded (first + r.require) bars_begin) (λ x y z s l. loaded_since (first + r.require) bars_begin x y z s l) a b c steps loaded)
 
 -- ---- hints
 
-sent_since : (s : Option State) (a b c : Option Loads) (first p : ℕ) (old new : Hinted) → TellsLoads Steps a b → IsSent (record { state = s; before = b; after = c }) first p old new
+sent_since : (s : Option State) (a b c : Option Loads) (first p : ℕ) (old new : Hinted) → TellsLoads StepsGrow a b → IsSent (record { state = s; before = b; after = c }) first p old new
     → IsSent (record { state = s; before = a; after = c }) first p old new
 sent_since s a b c first p old new steps h = record {
   target = h.target;
   leads = h.leads;
-  loaded = then_so Steps (IsLoaded p (leads_to h.target)) (IsLoaded p (leads_to h.target)) (λ x y z s l. loaded_since p (leads_to h.target) x y z s l) a b c steps h.loaded;
+  loaded = then_so StepsGrow (IsLoaded p (leads_to h.target)) (IsLoaded p (leads_to h.target)) (λ x y z s l. loaded_since p (leads_to h.target) x y z s l) a b c steps h.loaded;
   posted = h.posted;
 }
 
-pub hint_since : (s : Option State) (a b c : Option Loads) (first : ℕ) (e : Option Event) (old new : Hinted) → TellsLoads Steps a b → HintOf (record { state = s; before = b; after = c }) first e old new
+pub hint_since : (s : Option State) (a b c : Option Loads) (first : ℕ) (e : Option Event) (old new : Hinted) → TellsLoads StepsGrow a b → HintOf (record { state = s; before = b; after = c }) first e old new
     → HintOf (record { state = s; before = a; after = c }) first e old new
 hint_since s a b c first None old new steps h = h
 hint_since s a b c first (Some (Begin p k v)) old new steps h = sent_since s a b c first p old new steps h
@@ -145,7 +145,7 @@ tried_posted slot slot' first first' t t' w w' allowed o a a' b es ef et ew ea h
 
 -- ---- hints after such moves
 
-after_since : (s : Option State) (a b d : Option Loads) (slot first : ℕ) (asked : Bool) (e : Option Event) (old new : Hinted) → TellsLoads Steps a b → IsSentAfter (record { state = s; before = b; after = d }) slot first asked e old new
+after_since : (s : Option State) (a b d : Option Loads) (slot first : ℕ) (asked : Bool) (e : Option Event) (old new : Hinted) → TellsLoads StepsGrow a b → IsSentAfter (record { state = s; before = b; after = d }) slot first asked e old new
     → IsSentAfter (record { state = s; before = a; after = d }) slot first asked e old new
 after_since s a b d slot first asked e old new steps h = record {
   between = h.between;
@@ -156,7 +156,7 @@ after_since s a b d slot first asked e old new steps h = record {
 
 -- ---- after a move that did no event
 
-module _ {C S : Type 0} {component : ComponentWords C} {seats : SeatWords S} {G : Type 0} {words : GateWords G S} {gate gate' : G} {h h' : HostNode C S component seats} (a : Acts words gate gate' h h' None) (steps : LoadsSo Steps h h') (k : HostNode C S component seats) where
+module _ {C S : Type 0} {component : ComponentWords C} {seats : SeatWords S} {G : Type 0} {words : GateWords G S} {gate gate' : G} {h h' : HostNode C S component seats} (a : Acts words gate gate' h h' None) (steps : LoadsSo StepsGrow h h') (k : HostNode C S component seats) where
   abbrev at : HostNode C S component seats → Option Loads
   at x = seats.loads x.seat
 
@@ -220,7 +220,7 @@ same_none s (Some v) None h = absurd h
 same_none s (Some v) (Some u) h = refl
 
 -- the look after the service
-pub sent_after_service : {g : GateSeen} {n : NodeAt} (t : NodeState) {w seat : Known} {e : Option Event} {old new : Hinted} → w ≡ seat → is_passed 2 e ≡ true → ((s : State) → IsTold g.state n seat s → None ≡ serves s n.slot t)
+pub sent_after_service : {g : GateSeen} {n : NodeAt} (t : NodeState) {w seat : Known} {e : Option Event} {old new : Hinted} → w ≡ seat → is_passed 2 e ≡ true → ((s : State) → FitsToldState g.state n seat s → None ≡ serves s n.slot t)
     → IsSentAfter g n.slot n.first (is_none w.service) e old new → IsSentBy g n seat (λ s. is_none (serves s n.slot t) && is_none (service s n.slot)) e old new
 sent_after_service {n = n} t {w = w} {seat = seat} kept passed exact h = record {
   asked = is_none w.service;
@@ -232,7 +232,7 @@ sent_after_service {n = n} t {w = w} {seat = seat} kept passed exact h = record 
 }
 
 -- a move before the look
-pub sent_before_look : {g : GateSeen} {n : NodeAt} {w : Known} {rule : State → Bool} (k : ℕ) {e : Event} {old new : Hinted} → nat_lt 2 k ≡ false → is_move k (Some e) ≡ true → ((s : State) → IsTold g.state n w s → rule s ≡ false)
+pub sent_before_look : {g : GateSeen} {n : NodeAt} {w : Known} {rule : State → Bool} (k : ℕ) {e : Event} {old new : Hinted} → nat_lt 2 k ≡ false → is_move k (Some e) ≡ true → ((s : State) → FitsToldState g.state n w s → rule s ≡ false)
     → HintOf g n.first (Some e) old new → IsSentBy g n w rule (Some e) old new
 sent_before_look {w = w} k {e = e} below number ruled h = record {
   asked = false;

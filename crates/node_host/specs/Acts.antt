@@ -2,17 +2,17 @@
 use Rattle.std.specs.Prelude.{◌≡◌, ◌≢◌, ◌<◌, Option, length, vec_capacity}
 use Rattle.component_trait.specs.States.{NodeState}
 use Rattle.component_trait.specs.declared.component.Component.{Ghosts as ComponentWords}
-use Rattle.port_gate.specs.Loads.{Loads, TellsLoads}
-use Rattle.port_gate.specs.Seats.{NodeAt}
-use Rattle.port_gate.specs.declared.gate.GateSeat.{Ghosts as SeatWords}
-use Rattle.port_gate.specs.declared.gate.PortGate.{Ghosts as GateWords}
+use Rattle.node_gate.specs.Loads.{Loads, TellsLoads}
+use Rattle.node_gate.specs.Seats.{NodeAt}
+use Rattle.node_gate.specs.declared.gate.GateSeat.{Ghosts as SeatWords}
+use Rattle.node_gate.specs.declared.gate.PortGate.{Ghosts as GateWords}
 use Rattle.port_queue.specs.declared.hints.Hints.{Ghosts as HintWords}
 use Rattle.quiesce_core.specs.State.{State}
 use Rattle.quiesce_core.specs.declared.event.Event.{Event}
 use Rattle.node_host.specs.Hosted.{SeatSeen, node_of}
 use Rattle.node_host.specs.Moved.{Moved}
 use Rattle.node_host.specs.Posting.{GateSeen, Hinted}
-use Rattle.node_host.specs.Told.{IsTold}
+use Rattle.node_host.specs.Told.{FitsToldState}
 use Rattle.node_host.specs.declared.node.HostNode.{HostNode}
 
 module _ {C S : Type 0} {component : ComponentWords C} {seats : SeatWords S} where
@@ -54,7 +54,7 @@ module _ {C S : Type 0} {component : ComponentWords C} {seats : SeatWords S} whe
 
     -- the gate tells this state, and has of the node what its seat knows
     abbrev pub TellsState : G → HostNode C S component seats → State → Type 0
-    TellsState gate h s = IsTold (words.state gate) (node_at h) (seats.known h.seat) s
+    TellsState gate h s = FitsToldState (words.state gate) (node_at h) (seats.known h.seat) s
 
     abbrev pub gate_seen : G → HostNode C S component seats → HostNode C S component seats → GateSeen
     gate_seen gate h h' = record { state = words.state gate; before = seats.loads h.seat; after = seats.loads h'.seat }

@@ -6,8 +6,8 @@ use Rattle.component_trait.specs.States.{NodeState}
 use Rattle.quiesce_core.specs.Knowledge.{known_after, own_port_after, served_after}
 use Rattle.quiesce_core.specs.declared.event.Event.{Event}
 use Rattle.quiesce_core.specs.declared.known.Known.{Known}
-use Rattle.port_gate.specs.Seats.{IsWithinLimits, NodeAt}
-use Rattle.turn_laws.specs.Agreement.{Agrees}
+use Rattle.node_gate.specs.Seats.{IsWithinLimits, NodeAt}
+use Rattle.node_turn_laws.specs.Agreement.{Agrees}
 use Rattle.node_host.specs.Lines.{LineNode, line_state}
 
 -- what contracts see of a seat: its slot, what it knows, and its events, where it tells them

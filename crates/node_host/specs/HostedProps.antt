@@ -6,7 +6,7 @@ use Rattle.quiesce_core.specs.Knowledge.{OwnPort}
 use Rattle.quiesce_core.specs.declared.event.Event.{Event}
 use Rattle.quiesce_core.specs.declared.known.Known.{Known}
 use Rattle.quiesce_core.specs.declared.known.Served.{Served}
-use Rattle.turn_laws.specs.Agreement.{Agrees, ServiceAgrees, ServicesAgree}
+use Rattle.node_turn_laws.specs.Agreement.{Agrees, ServiceAgrees, ServicesAgree}
 use Rattle.node_host.specs.Hosted.{IsHosted, SeatSeen}
 use Rattle.node_host.specs.Lines.{LineNode}
 

@@ -4,8 +4,8 @@ use Rattle.component_trait.specs.Fold.{fold_from}
 use Rattle.component_trait.specs.States.{NodeState}
 use Rattle.quiesce_core.specs.State.{State}
 use Rattle.quiesce_core.specs.declared.event.Event.{Event}
-use Rattle.port_gate.specs.Moves.{Does}
-use Rattle.port_gate.specs.Seats.{NodeAt}
+use Rattle.node_gate.specs.Moves.{Does}
+use Rattle.node_gate.specs.Seats.{NodeAt}
 use Rattle.node_host.specs.Hosted.{SeatSeen}
 
 -- The node did this event, or none: the log has it at its end, the fold of the node's state goes on with it, the seat

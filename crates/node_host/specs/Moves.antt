@@ -1,15 +1,15 @@
 -- What the moves of a turn say beside `Acts`, where several say the same.
 use Rattle.std.specs.Prelude.{◌≡◌, Bool, true, false, Option, None}
 use Rattle.component_trait.specs.declared.component.Component.{Ghosts as ComponentWords}
-use Rattle.port_gate.specs.declared.gate.GateSeat.{Ghosts as SeatWords}
-use Rattle.port_gate.specs.declared.gate.PortGate.{Ghosts as GateWords}
+use Rattle.node_gate.specs.declared.gate.GateSeat.{Ghosts as SeatWords}
+use Rattle.node_gate.specs.declared.gate.PortGate.{Ghosts as GateWords}
 use Rattle.port_queue.specs.declared.hints.Hints.{Ghosts as HintWords}
 use Rattle.quiesce_core.specs.State.{State}
 use Rattle.quiesce_core.specs.declared.event.Event.{Event}
-use Rattle.turns.specs.Turn.{ends}
+use Rattle.node_turn_laws.specs.Turn.{ends}
 use Rattle.node_host.specs.Acts.{LoadsSo, TellsState, gate_seen, hinted, node_at, state_of}
 use Rattle.node_host.specs.Posting.{IsSentAfter}
-use Rattle.node_host.specs.Tried.{CannotBegin, HaveNoReplies, Keeps, Steps, is_begin, is_move, is_passed}
+use Rattle.node_host.specs.Tried.{CannotBegin, HaveNoReplies, Keeps, StepsGrow, is_begin, is_move, is_passed}
 use Rattle.node_host.specs.Trying.{LookedAt}
 use Rattle.node_host.specs.declared.node.HostNode.{HostNode}
 
@@ -19,7 +19,7 @@ module _ {C S : Type 0} {component : ComponentWords C} {seats : SeatWords S} whe
     pub record Replies (gate : G) (h h' : HostNode C S component seats) (e : Option Event) : Type 0 where
       pub exact : (s : State) → TellsState words gate h s → e ≡ ends s h.slot (state_of h)
       pub number : is_move 1 e ≡ true
-      pub steps : LoadsSo Steps h h'
+      pub steps : LoadsSo StepsGrow h h'
       pub tried : HaveNoReplies (node_at h) h.known e (seats.loads h.seat) (seats.loads h'.seat)
 
     module _ {H : Type 0} (hint_words : HintWords H) where

@@ -1,14 +1,14 @@
 -- What becomes of the hint of a request that a node sends.
 use Rattle.std.specs.Prelude.{◌≡◌, ◌≢◌, ◌+◌, ◌-◌, ℕ, Bool, true, false, ◌&&◌, List, Option, Some, None, is_none, slice_index_or, slice_set, if◌then◌else◌}
-use Rattle.port_gate.specs.Answers.{IsTargetAt}
-use Rattle.port_gate.specs.Loads.{IsLoaded, Loads, TellsLoads, leads_to}
-use Rattle.port_gate.specs.Seats.{NodeAt}
+use Rattle.node_gate.specs.Answers.{IsTargetAt}
+use Rattle.node_gate.specs.Loads.{IsLoaded, Loads, TellsLoads, leads_to}
+use Rattle.node_gate.specs.Seats.{NodeAt}
 use Rattle.port_queue.specs.Inboxes.{Counts, CountsNext, after_next, after_post, front, has_room}
 use Rattle.quiesce_core.specs.State.{State}
 use Rattle.quiesce_core.specs.declared.event.Event.{Event}
 use Rattle.quiesce_core.specs.declared.event.Event.TheVariants.{Begin, Call}
 use Rattle.quiesce_core.specs.declared.known.Known.{Known}
-use Rattle.node_host.specs.Told.{IsTold}
+use Rattle.node_host.specs.Told.{FitsToldState}
 use Rattle.node_host.specs.Tried.{HasNoRequest, is_passed}
 use Rattle.node_host.specs.Trying.{CountsTried}
 
@@ -63,7 +63,7 @@ Reposted None first r old new = new ≡ old
 Reposted (Some m) first r old new = IsPosted first r m old new
 
 -- the node's waiting hints are posted, by port
-pub record ArePosted (first : ℕ) (old new : Hinted) : Type 0 where
+pub record PostsWaiting (first : ℕ) (old new : Hinted) : Type 0 where
   pub between : Hinted
   pub left : Reposted (slice_index_or old.waiting 0 None) first 0 old between
   pub right : Reposted (slice_index_or between.waiting 1 None) first 1 between new
@@ -96,11 +96,11 @@ pub record IsSentAfter (g : GateSeen) (slot first : ℕ) (asked : Bool) (e : Opt
 pub record IsSentBy (g : GateSeen) (n : NodeAt) (known : Known) (rule : State → Bool) (e : Option Event) (old new : Hinted) : Type 0 where
   pub asked : Bool
   pub exact : asked ≡ (is_passed 2 e && is_none known.service)
-  pub ruled : (s : State) → IsTold g.state n known s → asked ≡ rule s
+  pub ruled : (s : State) → FitsToldState g.state n known s → asked ≡ rule s
   pub after : IsSentAfter g n.slot n.first asked e old new
 
 -- a turn posts the hints that wait, then asks the inbox, and then sends the hint of its event
 pub record IsHinted (g : GateSeen) (n : NodeAt) (known : Known) (rule : State → Bool) (e : Option Event) (old new : Hinted) : Type 0 where
   pub posted : Hinted
-  pub waits : ArePosted n.first old posted
+  pub waits : PostsWaiting n.first old posted
   pub sent : IsSentBy g n known rule e posted new

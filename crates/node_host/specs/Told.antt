@@ -5,12 +5,12 @@ use Rattle.quiesce_core.specs.State.{State}
 use Rattle.quiesce_core.specs.WellFormed.{IsWellFormed}
 use Rattle.quiesce_core.specs.declared.event.Event.{Event}
 use Rattle.quiesce_core.specs.declared.known.Known.{Known}
-use Rattle.port_gate.specs.Core.{FitsCore, node_at}
-use Rattle.port_gate.specs.Seats.{NodeAt}
-use Rattle.turns.specs.Turn.{has_reply, reply_to}
+use Rattle.node_gate.specs.Core.{FitsCore, node_at}
+use Rattle.node_gate.specs.Seats.{NodeAt}
+use Rattle.node_turn_laws.specs.Turn.{has_reply, reply_to}
 
 -- the gate tells this state, which is well formed and has of the node what its seat knows
-pub record IsTold (state : Option State) (n : NodeAt) (known : Known) (s : State) : Type 0 where
+pub record FitsToldState (state : Option State) (n : NodeAt) (known : Known) (s : State) : Type 0 where
   pub told : state ≡ Some s
   pub formed : IsWellFormed s
   pub fits : FitsCore s n.slot known

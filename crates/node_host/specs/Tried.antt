@@ -2,8 +2,8 @@
 -- state too: what the node knows, the words that its seat loaded in the turn, and what was counted of its inbox.
 use Rattle.std.specs.Prelude.{◌≡◌, ◌≢◌, ◌⊎◌, ◌+◌, ◌-◌, ℕ, ◌<◌, ◌≤◌, Bool, true, false, not, ◌==◌, ◌||◌, nat_lt, length, Option, Some, None, is_some, slice_index_or, ⊤}
 use Rattle.config_graph.specs.Kinds.{row}
-use Rattle.gate_word.specs.Phases.{is_in_more}
-use Rattle.gate_word.specs.Words.{is_message_to, is_missing, unpack}
+use Rattle.quiesce_word.specs.Phases.{is_in_more}
+use Rattle.quiesce_word.specs.Words.{is_message_to, is_missing, unpack}
 use Rattle.component_trait.specs.Moves as moves
 use Rattle.component_trait.specs.States.{NodeState}
 use Rattle.component_trait.specs.declared.next.Ask.{Ask}
@@ -12,8 +12,8 @@ use Rattle.quiesce_core.specs.declared.event.Event.{Event}
 use Rattle.quiesce_core.specs.declared.event.Event.TheVariants as event
 use Rattle.quiesce_core.specs.declared.known.Known.{Known}
 use Rattle.quiesce_core.specs.declared.known.Served.{Served}
-use Rattle.port_gate.specs.Loads.{IsLed, IsLoaded, Load, Loads, TellsLoads, shows_asked}
-use Rattle.port_gate.specs.Seats.{NodeAt}
+use Rattle.node_gate.specs.Loads.{IsLed, IsLoaded, Load, Loads, TellsLoads, shows_asked}
+use Rattle.node_gate.specs.Seats.{NodeAt}
 use Rattle.port_queue.specs.Inboxes.{Counts, Gave, Refused}
 use Rattle.node_host.specs.Awaiting.{awaits}
 
@@ -112,8 +112,8 @@ pub record Keeps (number : ℕ) (first : ℕ) (w : Known) (old new : Loads) : Ty
   pub hear : 2 < number → new.hear ≡ old.hear
   pub take : 3 < number → new.take ≡ old.take
 
-abbrev pub Steps : Loads → Loads → Type 0
-Steps old new = old.steps ≤ new.steps
+abbrev pub StepsGrow : Loads → Loads → Type 0
+StepsGrow old new = old.steps ≤ new.steps
 
 -- Each move before the one that was made isn't possible; nor is any where none was. That no request waits at the
 -- next hint is said where the inbox is asked (`IsSentAfter`).

@@ -6,12 +6,12 @@ ghost use Rattle.node_host.specs.Moves.{Looks};
 ghost use Rattle.node_host.specs.Posting.{IsSentBy};
 ghost use Rattle.node_host.specs.Trying.{LookedAt};
 ghost use Rattle.quiesce_core.specs.State.{State, service};
-ghost use Rattle.turns.specs.Turn.{begins, looks, move_of, or_else, serves, takes};
+ghost use Rattle.node_turn_laws.specs.Turn.{begins, looks, move_of, or_else, serves, takes};
 ghost use Rattle.node_host.specs.Tried.{CannotBegin, IsHeld, IsTried, Keeps, is_begin, is_passed};
 
 use crate::node::HostNode;
 use component_trait::Component;
-use port_gate::{GateSeat, PortGate};
+use node_gate::{GateSeat, PortGate};
 use port_queue::Hints;
 use quiesce_core::Event;
 

@@ -7,7 +7,7 @@ ghost use Rattle.node_host.specs.Acts.{Acts, CanAct, LoadsSo, TellsState, gate_s
 ghost use Rattle.node_host.specs.Posting.{HintOf};
 ghost use Rattle.quiesce_core.specs.Knowledge.{port_at_start};
 ghost use Rattle.quiesce_core.specs.State.{State};
-ghost use Rattle.turns.specs.Turn.{begins};
+ghost use Rattle.node_turn_laws.specs.Turn.{begins};
 ghost use Rattle.node_host.specs.Tried.{CannotBegin, Keeps, is_begin, is_move};
 
 use crate::ending::port_known;
@@ -16,7 +16,7 @@ use crate::keeping::{keep, seats_have_places};
 use crate::node::HostNode;
 use crate::posting::post;
 use component_trait::{Ask, Component};
-use port_gate::{BeginAnswer, GateSeat, PortGate};
+use node_gate::{BeginAnswer, GateSeat, PortGate};
 use port_queue::Hints;
 use quiesce_core::Event;
 

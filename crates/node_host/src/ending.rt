@@ -11,14 +11,14 @@ ghost use Rattle.node_host.specs.Told.{reply_at};
 ghost use Rattle.quiesce_core.specs.Knowledge.{port_at_start};
 ghost use Rattle.quiesce_core.specs.State.{State};
 ghost use Rattle.quiesce_core.specs.declared.event.Event.TheVariants as event;
-ghost use Rattle.turn_laws.specs.Agreement.{expects};
+ghost use Rattle.node_turn_laws.specs.Agreement.{expects};
 ghost use Rattle.node_host.specs.Tried.{HasNoReply, LoadsPort, is_reply_at};
 
 use crate::events::{Message, NodeEvent};
 use crate::keeping::{keep, seats_have_places};
 use crate::node::HostNode;
 use component_trait::Component;
-use port_gate::{GateSeat, PortGate, SeeAnswer};
+use node_gate::{GateSeat, PortGate, SeeAnswer};
 use quiesce_core::{Event, Known, PortKnown};
 
 /// What is known of the port of this requirement.
@@ -30,7 +30,7 @@ pub(crate) fn port_known(known: &Known, require: u32) -> PortKnown
 }
 
 /// Hands an answer in: to the service that called, or as that of a transaction that the component wanted.
-#[tactic(auto, using(crate::proofs::Asking::asked_is, crate::proofs::Asking::wanted_is, turn_laws::proofs::AgreementLaws::who_wants_asks_nothing))]
+#[tactic(auto, using(crate::proofs::Asking::asked_is, crate::proofs::Asking::wanted_is, node_turn_laws::proofs::AgreementLaws::who_wants_asks_nothing))]
 fn hand_in<C: Component>(inner: &mut C, first_port: u32, require: u32, known: PortKnown, value: u32)
     requires expected { expects known.consequent first_port (C.state inner.old) (first_port + require) ≡ true }
     requires small { value < VALUE_LIMIT }

@@ -2,12 +2,12 @@
 
 ghost use Rattle.std.specs.Prelude.{◌≡◌, ◌++◌, ◌∷◌, [], ◌<◌, ◌^◌, length, vec_capacity};
 ghost use Rattle.node_host.specs.NodeEvents.{as_event};
-ghost use Rattle.port_gate.specs.Noting.{CanCount};
-ghost use Rattle.port_gate.specs.Seats.{IsWithinLimits};
+ghost use Rattle.node_gate.specs.Noting.{CanCount};
+ghost use Rattle.node_gate.specs.Seats.{IsWithinLimits};
 ghost use Rattle.quiesce_core.specs.Knowledge.{known_next};
 
 use crate::events::NodeEvent;
-use port_gate::{PortGate, note};
+use node_gate::{PortGate, note};
 use quiesce_core::{Event, Known};
 
 /// Puts an event at the end of a log that has room for it, and into what is known. It is answered too.

@@ -5,12 +5,12 @@ ghost use Rattle.component_trait.specs.Moves as moves;
 ghost use Rattle.node_host.specs.Hosted.{IsHosted, node_of};
 ghost use Rattle.node_host.specs.HostedProps.{hosted_prop};
 ghost use Rattle.node_host.specs.Lines.{line_state};
-ghost use Rattle.port_gate.specs.Seats.{IsWithinLimits};
+ghost use Rattle.node_gate.specs.Seats.{IsWithinLimits};
 ghost use Rattle.quiesce_core.specs.Knowledge.{nothing_known};
 ghost use Rattle.quiesce_core.specs.declared.event.Event.{Event};
 
 use component_trait::Component;
-use port_gate::{GateSeat, unknown};
+use node_gate::{GateSeat, unknown};
 use quiesce_core::{Event, Known};
 use std::alloc::Global;
 

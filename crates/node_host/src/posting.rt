@@ -5,12 +5,12 @@ ghost use Rattle.base.specs.Count.{Rose};
 ghost use Rattle.config_graph.specs.declared.TheConstants.{MAX_NODES, MAX_PORTS};
 ghost use Rattle.port_queue.specs.Inboxes.{after_post, has_room};
 ghost use Rattle.node_host.specs.Acts.{hinted};
-ghost use Rattle.node_host.specs.Posting.{ArePosted, Reposted};
+ghost use Rattle.node_host.specs.Posting.{PostsWaiting, Reposted};
 ghost use Rattle.node_host.specs.Trying.{CountsTried, IsGrown, own_box, own_post};
 
 use crate::node::HostNode;
 use component_trait::Component;
-use port_gate::GateSeat;
+use node_gate::GateSeat;
 use port_queue::Hints;
 
 /// Posts the hint for a node at the port of one requirement; where that node's inbox is full, it waits. The answer
@@ -70,7 +70,7 @@ impl<C: Component + Drop, S: GateSeat + Drop> HostNode<C, S> {
         ensures same { (self.new.inner ≡ self.old.inner) × (self.new.seat ≡ self.old.seat)
             × (self.new.log ≡ self.old.log) × (self.new.past ≡ self.old.past) × (self.new.known ≡ self.old.known) }
         ensures place { (self.new.slot ≡ self.old.slot) × (self.new.first_port ≡ self.old.first_port) }
-        ensures posted { ArePosted self.old.first_port
+        ensures posted { PostsWaiting self.old.first_port
             (hinted H.Hints hints.old self.old) (hinted H.Hints hints.new self.new) }
         ensures own { (held : List ℕ) → H.tells hints.old self.old.slot ≡ Some held → H.tells hints.new self.old.slot
             ≡ Some (own_box self.old.slot self.old.first_port self.old.waiting held) }

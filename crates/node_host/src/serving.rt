@@ -11,16 +11,16 @@ ghost use Rattle.node_host.specs.Posting.{HintOf, is_asking};
 ghost use Rattle.node_host.specs.Awaiting.{awaits};
 ghost use Rattle.quiesce_core.specs.State.{State};
 ghost use Rattle.quiesce_core.specs.declared.event.Event.TheVariants as event;
-ghost use Rattle.turns.specs.Turn.{calls, does_next, hears, serves};
+ghost use Rattle.node_turn_laws.specs.Turn.{calls, does_next, hears, serves};
 ghost use Rattle.node_host.specs.Tried.{IsHeld, Keeps, is_move, shows_in_more};
-ghost use Rattle.port_gate.specs.Loads.{IsLed};
+ghost use Rattle.node_gate.specs.Loads.{IsLed};
 
 use crate::events::{Message, NodeEvent};
 use crate::keeping::{keep, seats_have_places};
 use crate::node::HostNode;
 use crate::posting::post;
 use component_trait::{Ask, Component, Next};
-use port_gate::{CallAnswer, GateSeat, HearAnswer, PortGate};
+use node_gate::{CallAnswer, GateSeat, HearAnswer, PortGate};
 use port_queue::Hints;
 use quiesce_core::{Event, Known, Served};
 

@@ -7,15 +7,15 @@ ghost use Rattle.node_host.specs.Trying.{LookedAt};
 ghost use Rattle.node_host.specs.Posting.{IsLooked, is_asking};
 ghost use Rattle.port_queue.specs.Inboxes.{after_next};
 ghost use Rattle.quiesce_core.specs.State.{State};
-ghost use Rattle.turns.specs.Turn.{takes};
+ghost use Rattle.node_turn_laws.specs.Turn.{takes};
 ghost use Rattle.node_host.specs.Tried.{HasNoRequest, Keeps, is_move, is_stale_for};
-ghost use Rattle.port_gate.specs.Loads.{IsLed};
+ghost use Rattle.node_gate.specs.Loads.{IsLed};
 
 use crate::events::{Message, NodeEvent};
 use crate::keeping::{keep, seats_have_places};
 use crate::node::HostNode;
 use component_trait::Component;
-use port_gate::{GateSeat, PortGate, TakeAnswer};
+use node_gate::{GateSeat, PortGate, TakeAnswer};
 use port_queue::Hints;
 use quiesce_core::Event;
 

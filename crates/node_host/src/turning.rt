@@ -8,13 +8,13 @@ ghost use Rattle.node_host.specs.Turning.{event_of};
 ghost use Rattle.node_host.specs.declared.turning.Turn.TheVariants as turn;
 ghost use Rattle.node_host.specs.Trying.{IsAsked, own_box};
 ghost use Rattle.quiesce_core.specs.State.{State};
-ghost use Rattle.turns.specs.Turn.{looks, move_of};
+ghost use Rattle.node_turn_laws.specs.Turn.{looks, move_of};
 ghost use Rattle.node_host.specs.Tried.{IsTried, is_begin};
 
 use crate::node::HostNode;
 use component_trait::Component;
 use config_graph::NoMemory;
-use port_gate::{GateSeat, PortGate};
+use node_gate::{GateSeat, PortGate};
 use port_queue::Hints;
 use quiesce_core::Event;
 

@@ -16,7 +16,7 @@ use Rattle.quiesce_core.specs.declared.event.Event.TheVariants.{Make}
 use Rattle.quiesce_core.specs.declared.state.Slot.{Slot}
 use Rattle.quiesce_core.proofs.InductionLaws.{IsNext}
 use Rattle.quiesce_core.proofs.RunLaws.{changes_are_of_no_node, node_events_keep_the_configuration, runs_grow}
-use Rattle.port_gate.specs.Core.{FitsCore}
+use Rattle.node_gate.specs.Core.{FitsCore}
 use Rattle.node_table.specs.Entries.{SlotEntry, Predecessor, NodeSeen, gone, here, line_of}
 use Rattle.node_table.specs.Holding.{HoldsIn, IsGone, IsHere}
 use Rattle.node_table.specs.Lines.{IsPast}

@@ -6,7 +6,7 @@ use Rattle.quiesce_core.specs.State.{State}
 use Rattle.quiesce_core.specs.declared.known.Known.{Known}
 use Rattle.quiesce_core.specs.declared.known.Served.{Served}
 use Rattle.quiesce_core.specs.declared.state.Service.{Service}
-use Rattle.port_gate.specs.Core.{FitsCore}
+use Rattle.node_gate.specs.Core.{FitsCore}
 
 served_prop : (s : State) (v : Service) (u : Served) → IsProp (IsServed s v u)
 served_prop s v u = Prim.hlevel props

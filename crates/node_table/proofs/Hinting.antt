@@ -7,9 +7,9 @@ use Rattle.std.proofs.lemmas.List.{get_or-set_other, get_or-set_same, length-set
 use Rattle.std.proofs.lemmas.Option.{same_Some, slice_get-get_or}
 use Rattle.base.proofs.PlaceLaws.{slice_get-set_cases}
 use Rattle.port_queue.specs.Inboxes.{after_post, has_room}
-use Rattle.turns.specs.Turn.{post, post_one, post_waiting, with_hint, with_waiting, without_hint}
-use Rattle.turns.specs.World.{World, first_port, inbox, waiting_of}
-use Rattle.node_host.specs.Posting.{ArePosted, Hinted, IsPosted, Looked, Reposted}
+use Rattle.node_turn_laws.specs.Turn.{post, post_one, post_waiting, with_hint, with_waiting, without_hint}
+use Rattle.node_turn_laws.specs.World.{World, first_port, inbox, waiting_of}
+use Rattle.node_host.specs.Posting.{PostsWaiting, Hinted, IsPosted, Looked, Reposted}
 use Rattle.node_host.specs.Trying.{own_box, own_post}
 
 -- the hints of node n, of so many requirements, are as the world has them, and so are all inboxes
@@ -185,7 +185,7 @@ own_posted (Some m) n first q h h' held p is = ⊎_elim
     (λ (other : m ≢ n). p.told n (λ same. other (sym same)) ∙ is ∙ ap (λ b. Some (cond b (after_post held (first + q)) held)) (sym (ne_eqb m n other)))
     (cases_eq m n)
 
-module _ (w : World) (n r : ℕ) (h posted : Hinted) (first : ℕ) (a : Agree w n r h) (p : ArePosted first h posted) (few : r ≤ 2) (there : n < length w.waiting) (first_is : first_port w.machine n ≡ first) where
+module _ (w : World) (n r : ℕ) (h posted : Hinted) (first : ℕ) (a : Agree w n r h) (p : PostsWaiting first h posted) (few : r ≤ 2) (there : n < length w.waiting) (first_is : first_port w.machine n ≡ first) where
   a0 : Option ℕ
   a0 = get_or h.waiting 0 None
 

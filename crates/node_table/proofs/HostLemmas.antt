@@ -10,7 +10,7 @@ use Rattle.quiesce_core.specs.declared.event.Event.{Event}
 use Rattle.quiesce_core.specs.declared.known.Known.{Known}
 use Rattle.quiesce_core.specs.declared.known.Served.{Served}
 use Rattle.quiesce_core.proofs.KnownLaws.{service_of_log}
-use Rattle.turn_laws.specs.Agreement.{ServicesAgree}
+use Rattle.node_turn_laws.specs.Agreement.{ServicesAgree}
 use Rattle.node_host.specs.Hosted.{IsHosted, SeatSeen}
 use Rattle.node_host.specs.Lines.{LineNode}
 use Rattle.node_table.specs.Rooms.{has_past_room}

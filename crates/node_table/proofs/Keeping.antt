@@ -25,8 +25,8 @@ use Rattle.quiesce_core.proofs.LegalLaws.{allowed, legal}
 use Rattle.quiesce_core.proofs.RunLaws.{runs_are_consistent, runs_are_well_formed, state_more}
 use Rattle.quiesce_core.proofs.SourceLaws.{sources_are_gone}
 use Rattle.component_trait.specs.Making.{argument_or_0}
-use Rattle.port_gate.specs.Core.{FitsCore}
-use Rattle.port_gate.proofs.SeatLaws.{seats_stay}
+use Rattle.node_gate.specs.Core.{FitsCore}
+use Rattle.node_gate.proofs.SeatLaws.{seats_stay}
 use Rattle.node_table.specs.Entries.{Predecessor, NodeSeen}
 use Rattle.node_table.specs.Holding.{IsHere}
 use Rattle.node_table.specs.Lines.{IsPast, behind, first_of_line, predecessor}

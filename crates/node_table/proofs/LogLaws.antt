@@ -12,7 +12,7 @@ use Rattle.node_table.specs.Entries.{SlotEntry, Predecessor, gone, here, log_in,
 use Rattle.node_table.specs.Holding.{HoldsIn}
 use Rattle.node_table.specs.Lines.{IsPast, behind, first_of_line, predecessor}
 use Rattle.node_table.specs.Worlds.{ShowsIn}
-use Rattle.turns.specs.World.{World}
+use Rattle.node_turn_laws.specs.World.{World}
 
 past_logs : (es : List Event) (n : ℕ) (ms : List Predecessor) → IsPast es n ms → (i : ℕ) (m : Predecessor) → slice_get ms i ≡ Some m → m.log ≡ done_by m.slot es
 past_logs es _ _ (first_of_line n s at none_) i m is = absurd (none-some m is)

@@ -16,8 +16,8 @@ use Rattle.quiesce_core.specs.declared.known.Known.{Known}
 use Rattle.quiesce_core.specs.declared.state.Slot.{Slot}
 use Rattle.quiesce_core.proofs.InductionLaws.{IsNext}
 use Rattle.component_trait.specs.Making.{argument_or_0}
-use Rattle.port_gate.specs.Core.{FitsCore}
-use Rattle.port_gate.proofs.SeatLaws.{new_seats_fit}
+use Rattle.node_gate.specs.Core.{FitsCore}
+use Rattle.node_gate.proofs.SeatLaws.{new_seats_fit}
 use Rattle.node_table.specs.Entries.{SlotEntry, Predecessor, NodeSeen, gone, here, line_of}
 use Rattle.node_table.specs.Holding.{HoldsIn, IsGone, IsHere}
 use Rattle.node_table.specs.Lines.{IsPast, behind, first_of_line, predecessor}

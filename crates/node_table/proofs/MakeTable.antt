@@ -21,10 +21,10 @@ use Rattle.quiesce_core.specs.State.{Configuration, State, slot}
 use Rattle.quiesce_core.specs.declared.event.Event.TheVariants.{Make}
 use Rattle.quiesce_core.specs.declared.state.Slot.{Slot}
 use Rattle.quiesce_core.proofs.LegalLaws.{legal}
-use Rattle.port_gate.specs.Seats.{IsWithinLimits}
+use Rattle.node_gate.specs.Seats.{IsWithinLimits}
 use Rattle.state_handover.specs.Making.{FitsKind}
 use Rattle.state_handover.specs.declared.any_node.AnyNode.{AnyNode}
-use Rattle.turns.specs.World.{World, with_event}
+use Rattle.node_turn_laws.specs.World.{World, with_event}
 use Rattle.node_table.specs.Entries.{SlotEntry, Predecessor, NodeSeen, gone, here, line_of}
 use Rattle.node_table.specs.Holding.{IsHere}
 use Rattle.node_table.specs.Seen.{is_node, seen}

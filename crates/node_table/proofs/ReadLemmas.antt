@@ -12,7 +12,7 @@ use Rattle.quiesce_core.specs.Runs.{done_by}
 use Rattle.quiesce_core.specs.State.{State, slot}
 use Rattle.quiesce_core.specs.declared.state.Slot.{Slot}
 use Rattle.state_handover.specs.declared.any_node.AnyNode.{AnyNode}
-use Rattle.turns.specs.World.{World, state_of}
+use Rattle.node_turn_laws.specs.World.{World, state_of}
 use Rattle.node_table.specs.Entries.{SlotEntry, Predecessor, NodeSeen, gone, here, log_in, past_log}
 use Rattle.node_table.specs.Holding.{HasLog}
 use Rattle.node_table.specs.Seen.{seen}

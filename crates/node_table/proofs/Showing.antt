@@ -17,8 +17,8 @@ use Rattle.quiesce_core.specs.State.{State, empty}
 use Rattle.quiesce_core.proofs.RunLaws.{run_if}
 use Rattle.quiesce_core.specs.declared.event.Event.{Event}
 use Rattle.quiesce_core.specs.declared.event.Event.TheVariants.{Make}
-use Rattle.turn_laws.specs.Reached.{IsReached, at_start, by_change}
-use Rattle.turns.specs.World.{World, nowhere, opened, with_event}
+use Rattle.node_turn_laws.specs.Reached.{IsReached, at_start, by_change}
+use Rattle.node_turn_laws.specs.World.{World, nowhere, opened, with_event}
 use Rattle.node_table.specs.Entries.{SlotEntry, NodeSeen, here}
 use Rattle.node_table.specs.Holding.{HoldsIn}
 use Rattle.node_table.specs.Worlds.{IsShown, ShowsIn}

@@ -13,9 +13,9 @@ use Rattle.quiesce_core.specs.State.{State, is_live, slot}
 use Rattle.quiesce_core.specs.declared.state.Slot.{Slot}
 use Rattle.quiesce_core.proofs.SourceLaws.{sources_are_gone}
 use Rattle.quiesce_core.proofs.TableLaws.{live_made}
-use Rattle.port_gate.specs.Core.{FitsCore, node_at, node_in}
+use Rattle.node_gate.specs.Core.{FitsCore, node_at, node_in}
 use Rattle.state_handover.specs.declared.any_node.AnyNode.{AnyNode}
-use Rattle.turns.specs.World.{World}
+use Rattle.node_turn_laws.specs.World.{World}
 use Rattle.node_host.specs.Hosted.{node_of}
 use Rattle.node_table.specs.Entries.{SlotEntry, NodeSeen, gone, here}
 use Rattle.node_table.specs.Holding.{IsHere}

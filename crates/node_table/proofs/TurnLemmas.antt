@@ -28,16 +28,16 @@ use Rattle.quiesce_core.proofs.ConfigurationLaws.{port_is}
 use Rattle.quiesce_core.proofs.LegalLaws.{legal}
 use Rattle.quiesce_core.proofs.RunLaws.{changes_are_of_no_node, node_events_keep_the_configuration, runs_are_consistent, runs_are_well_formed}
 use Rattle.quiesce_core.proofs.TableLaws.{live_made}
-use Rattle.port_gate.specs.Core.{FitsCore}
-use Rattle.port_gate.specs.Loads.{Loads}
+use Rattle.node_gate.specs.Core.{FitsCore}
+use Rattle.node_gate.specs.Loads.{Loads}
 use Rattle.port_queue.specs.Inboxes.{Counts}
-use Rattle.turn_laws.specs.Reached.{IsReached, by_turn}
-use Rattle.turns.specs.Turn.{Turn, Request, do_event, looks, move_of, post_request, post_waiting, request_at, request_of, turn, turn_in, without_hint}
-use Rattle.turns.specs.World.{World, first_port, inbox, state_of, waiting_of, with_event_of}
+use Rattle.node_turn_laws.specs.Reached.{IsReached, by_turn}
+use Rattle.node_turn_laws.specs.Turn.{Turn, Request, do_event, looks, move_of, post_request, post_waiting, request_at, request_of, turn, turn_in, without_hint}
+use Rattle.node_turn_laws.specs.World.{World, first_port, inbox, state_of, waiting_of, with_event_of}
 use Rattle.node_host.specs.Hosted.{SeatSeen, node_of}
 use Rattle.node_host.specs.Moved.{Moved}
 use Rattle.node_host.specs.Posting.{GateSeen, HintOf, Hinted, IsHinted, IsSent}
-use Rattle.node_host.specs.Told.{IsTold}
+use Rattle.node_host.specs.Told.{FitsToldState}
 use Rattle.node_host.specs.Trying.{own_box}
 use Rattle.node_table.specs.Entries.{SlotEntry, NodeSeen, here}
 use Rattle.node_table.specs.Holding.{HoldsIn, IsHere}
@@ -117,7 +117,7 @@ module _ (s t : State) (nodes : List SlotEntry) (ends : List ℕ) (tells tells' 
     (live : is_live s.config x.slot ≡ true) (begins : Bool) (c c' : ℕ → Counts) (lo lo' : Option Loads) (e : Option Event) (seat seat' : SeatSeen) (known_is : seat.known ≡ x.known) (known_is' : seat'.known ≡ x'.known)
     (moved : Moved (node_of x.slot x.first x.state) e x.state x'.state x.log x'.log seat seat' (Some s) (Some t))
     (slot_kept : x'.slot ≡ x.slot) (first_kept : x'.first ≡ x.first) (past_kept : x'.past ≡ x.past) (fits : FitsCore t x.slot x'.known) (told : x'.known.service ≡ None → x'.state.service ≡ None)
-    (is_told : IsTold (Some s) (node_of x.slot x.first x.state) seat.known s)
+    (is_told : FitsToldState (Some s) (node_of x.slot x.first x.state) seat.known s)
     (exact : (held : List ℕ) → tells x.slot ≡ Some held → e ≡ move_of s x.slot x.state (own_box x.slot x.first x.waiting held) begins)
     (hinted : IsHinted (gate_of s lo lo') (node_of x.slot x.first x.state) seat.known (λ u. looks u x.slot x.state) e (record { waiting = x.waiting; counts = c; told = tells }) (record { waiting = x'.waiting; counts = c'; told = tells' })) where
   abbrev n : ℕ

@@ -8,16 +8,16 @@ use Rattle.component_trait.specs.States.{NodeState}
 use Rattle.quiesce_core.specs.State.{State, is_live}
 use Rattle.quiesce_core.specs.WellFormed.{IsWellFormed}
 use Rattle.quiesce_core.proofs.RunLaws.{runs_are_well_formed}
-use Rattle.port_gate.specs.Core.{FitsCore, node_at}
-use Rattle.port_gate.specs.Loads.{Loads}
+use Rattle.node_gate.specs.Core.{FitsCore, node_at}
+use Rattle.node_gate.specs.Loads.{Loads}
 use Rattle.port_queue.specs.Inboxes.{Counts}
 use Rattle.state_handover.specs.declared.any_node.AnyNode.{AnyNode}
-use Rattle.turns.specs.Turn.{looks, move_of, turn}
-use Rattle.turns.specs.World.{World}
+use Rattle.node_turn_laws.specs.Turn.{looks, move_of, turn}
+use Rattle.node_turn_laws.specs.World.{World}
 use Rattle.node_host.specs.Hosted.{SeatSeen, node_of}
 use Rattle.node_host.specs.Moved.{Moved}
 use Rattle.node_host.specs.Posting.{IsHinted}
-use Rattle.node_host.specs.Told.{IsTold}
+use Rattle.node_host.specs.Told.{FitsToldState}
 use Rattle.node_host.specs.Trying.{own_box}
 use Rattle.node_host.specs.Turning.{event_of}
 use Rattle.node_host.specs.declared.turning.Turn.{Turn}
@@ -44,14 +44,14 @@ module _ {E : Type 0} (S : AnyNode → NodeState) (s t : State) (xs : List Held)
   then_is = map_set (seen S) xs n new ∙ ap (set (map (seen S) xs) n) new_is
 
   module _ (k : ℕ) (of_slot : k ≡ x.slot) (fits : FitsCore t k x'.known) (told : x'.known.service ≡ None → x'.state.service ≡ None) where
-    both : (exact : (u : State) (held : List ℕ) → IsTold (Some s) (node_of x.slot x.first x.state) seat.known u → tells x.slot ≡ Some held → event_of r ≡ move_of u x.slot x.state (own_box x.slot x.first x.waiting held) begins)
+    both : (exact : (u : State) (held : List ℕ) → FitsToldState (Some s) (node_of x.slot x.first x.state) seat.known u → tells x.slot ≡ Some held → event_of r ≡ move_of u x.slot x.state (own_box x.slot x.first x.waiting held) begins)
         → IsHinted (gate_of s lo lo') (node_of x.slot x.first x.state) seat.known (λ u. looks u x.slot x.state) (event_of r) (record { waiting = x.waiting; counts = c; told = tells }) (record { waiting = x'.waiting; counts = c'; told = tells' })
         → (w : World) → ShowsIn s (map (seen S) xs) ends tells w → ShowsIn t (map (seen S) (set xs n new)) ends tells' (turn w n begins).world × (event_of r ≡ (turn w n begins).event)
     both exact hinted w h =
         let there = here_in S s xs ends tells w h n old x at old_is in
         let place : x.slot ≡ n = there.place in
         let fits_old : FitsCore s x.slot seat.known = subst (λ i. FitsCore s i seat.known) (sym place) (subst (λ y. FitsCore s n y) (sym known_is) (fits_in S s xs ends tells w h n x there live)) in
-        let is_told : IsTold (Some s) (node_of x.slot x.first x.state) seat.known s =
+        let is_told : FitsToldState (Some s) (node_of x.slot x.first x.state) seat.known s =
         record {
           told = refl;
           formed = subst (λ (u : State). IsWellFormed u) (sym h.holds.state) (runs_are_well_formed w.events h.holds.runs);
@@ -65,7 +65,7 @@ module _ {E : Type 0} (S : AnyNode → NodeState) (s t : State) (xs : List Held)
           sym (subst (λ i. (turn w i begins).event ≡ event_of r) place all.1),
         )
 
-    pub shows_ok : ((u : State) (held : List ℕ) → IsTold (Some s) (node_of x.slot x.first x.state) seat.known u → tells x.slot ≡ Some held → OnOk r (event_of r ≡ move_of u x.slot x.state (own_box x.slot x.first x.waiting held) begins))
+    pub shows_ok : ((u : State) (held : List ℕ) → FitsToldState (Some s) (node_of x.slot x.first x.state) seat.known u → tells x.slot ≡ Some held → OnOk r (event_of r ≡ move_of u x.slot x.state (own_box x.slot x.first x.waiting held) begins))
         → OnOk r (IsHinted (gate_of s lo lo') (node_of x.slot x.first x.state) seat.known (λ u. looks u x.slot x.state) (event_of r) (record { waiting = x.waiting; counts = c; told = tells }) (record { waiting = x'.waiting; counts = c'; told = tells' }))
         → OnOk r ((w : World) → ShowsIn s (map (seen S) xs) ends tells w → ShowsIn t (map (seen S) (set xs n new)) ends tells' (turn w n begins).world × (event_of r ≡ (turn w n begins).event))
     shows_ok exact hinted =

@@ -1,6 +1,6 @@
 -- What holds of the entries of a table after a run.
 use Rattle.std.specs.Prelude.{◌≡◌, ℕ, true, false, List, length, slice_get, Some, None}
-use Rattle.port_gate.specs.Core.{FitsCore}
+use Rattle.node_gate.specs.Core.{FitsCore}
 use Rattle.quiesce_core.specs.Runs.{IsRun, done_by, state_after}
 use Rattle.quiesce_core.specs.State.{State, slot}
 use Rattle.quiesce_core.specs.declared.event.Event.{Event}

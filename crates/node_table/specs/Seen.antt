@@ -37,6 +37,6 @@ abbrev pub is_node : Option Held → Bool
 is_node (Some (held.Node h)) = true
 is_node _ = false
 
-abbrev pub line_at : Held → ℕ
-line_at (held.Node h) = option_map_or (λ p. p.slot) (slice_get h.past.items 0) h.slot
-line_at (held.Handed x) = 0
+abbrev pub first_slot : Held → ℕ
+first_slot (held.Node h) = option_map_or (λ p. p.slot) (slice_get h.past.items 0) h.slot
+first_slot (held.Handed x) = 0

@@ -10,7 +10,7 @@ use Rattle.quiesce_core.specs.State.{State}
 use Rattle.quiesce_core.specs.declared.event.Event.{Event}
 use Rattle.quiesce_core.specs.declared.event.Event.TheVariants.{Make}
 use Rattle.state_handover.specs.declared.any_node.AnyNode.{AnyNode}
-use Rattle.turns.specs.World.{World, with_event}
+use Rattle.node_turn_laws.specs.World.{World, with_event}
 use Rattle.node_table.specs.Entries.{SlotEntry, log_in}
 use Rattle.node_table.specs.Seen.{component_state, seen}
 use Rattle.node_table.specs.Worlds.{ShowsIn}
@@ -68,7 +68,7 @@ spare t = min t.spare t.gate.core.spare
 abbrev pub sources : NodeTable → ℕ
 sources t = t.sources
 
-pub record HasRoom (t : NodeTable) (from : Option ℕ) : Type 0 where
+pub record TableHasRoom (t : NodeTable) (from : Option ℕ) : Type 0 where
   pub node : 0 < spare t
   pub source : option_map_or (λ k. nat_lt k (sources t)) from true ≡ true
 

@@ -2,8 +2,8 @@
 use Rattle.std.specs.Prelude.{◌≡◌, ℕ, ◌<◌, List, length, take, slice_get, Option, Some}
 use Rattle.config_graph.specs.Kinds.{row}
 use Rattle.quiesce_core.specs.State.{State}
-use Rattle.turn_laws.specs.Reached.{IsReached}
-use Rattle.turns.specs.World.{World, inbox, state_of, waiting_of}
+use Rattle.node_turn_laws.specs.Reached.{IsReached}
+use Rattle.node_turn_laws.specs.World.{World, inbox, state_of, waiting_of}
 use Rattle.node_table.specs.Entries.{SlotEntry, NodeSeen, here}
 use Rattle.node_table.specs.Holding.{HoldsIn}
 

@@ -2,10 +2,10 @@
 
 ghost use Rattle.std.specs.Prelude.{◌≡◌, ◌+◌, ◌<◌, ◌≤◌, ◌++◌, ◌∷◌, [], None, Some, true, IfOk, length, slice_get, slice_set};
 ghost use Rattle.quiesce_core.specs.declared.event.Event.TheVariants as event;
-ghost use Rattle.turns.specs.World.{nowhere};
+ghost use Rattle.node_turn_laws.specs.World.{nowhere};
 ghost use Rattle.node_table.specs.Rooms.{has_past_room};
-ghost use Rattle.node_table.specs.Seen.{is_node, line_at};
-ghost use Rattle.node_table.specs.Table.{AllowsNode, FollowsNode, HasRoom, Shows, sources, spare};
+ghost use Rattle.node_table.specs.Seen.{is_node, first_slot};
+ghost use Rattle.node_table.specs.Table.{AllowsNode, FollowsNode, TableHasRoom, Shows, sources, spare};
 ghost use Rattle.node_table.specs.declared.held.Held.TheVariants as held;
 
 use crate::handed::Handed;
@@ -13,8 +13,8 @@ use crate::held::Held;
 use crate::making::{host_first, host_from};
 use crate::table::NodeTable;
 use config_graph::{NoMemory, Node};
+use node_gate::{CoreGate, CoreSeat};
 use node_host::HostNode;
-use port_gate::{CoreGate, CoreSeat};
 use port_queue::PlainHints;
 use quiesce_core::Core;
 use state_handover::AnyNode;
@@ -23,7 +23,7 @@ use std::mem;
 
 /// The slot of the first node of a node's line.
 fn first_of_line(node: &HostNode<AnyNode, CoreSeat>) -> u32
-    ensures { result ≡ line_at (held.Node node.now) }
+    ensures { result ≡ first_slot (held.Node node.now) }
 {
     match node.past.first() {
         Some(first) => first.slot,
@@ -71,7 +71,7 @@ impl NodeTable {
         requires source { slot < self.old.sources }
         ensures was { slice_get self.old.nodes.items slot ≡ Some (held.Node result) }
         ensures nodes { self.new.nodes.items ≡ slice_set self.old.nodes.items slot (held.Handed
-            (record { line = line_at (held.Node result); place = length result.past.items })) }
+            (record { line = first_slot (held.Node result); place = length result.past.items })) }
         ensures others { (self.new.gate ≡ self.old.gate) × (self.new.hints ≡ self.old.hints)
             × (self.new.line_ends ≡ self.old.line_ends) × (self.new.sources ≡ self.old.sources)
             × (self.new.spare ≡ self.old.spare) }
@@ -120,7 +120,7 @@ impl NodeTable {
     /// takes no memory.
     pub fn make(&mut self, node: Node, from: Option<u32>)
         requires allowed { AllowsNode self.old node from }
-        requires room { HasRoom self.old from }
+        requires room { TableHasRoom self.old from }
         ensures shows { FollowsNode self.old self.new node from }
         ensures room { (spare self.new + 1 ≡ spare self.old) × (sources self.new ≡ sources self.old) }
     {

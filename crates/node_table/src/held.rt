@@ -1,8 +1,8 @@
 //! What a table keeps of a slot.
 
 use crate::handed::Handed;
+use node_gate::CoreSeat;
 use node_host::HostNode;
-use port_gate::CoreSeat;
 use state_handover::AnyNode;
 
 /// What is kept of a node that was made.

@@ -3,8 +3,8 @@
 ghost use Rattle.std.specs.Prelude.{◌≡◌, length, map};
 ghost use Rattle.std.specs.List.{range_with_len};
 ghost use Rattle.quiesce_core.specs.Runs.{IsRun, done_by};
-ghost use Rattle.turn_laws.specs.Reached.{IsReached};
-ghost use Rattle.turns.specs.World.{World};
+ghost use Rattle.node_turn_laws.specs.Reached.{IsReached};
+ghost use Rattle.node_turn_laws.specs.World.{World};
 ghost use Rattle.node_table.specs.Table.{Shows, logs_of, machine};
 ghost use Rattle.node_table.specs.declared.table.NodeTable.{NodeTable};
 

@@ -4,7 +4,7 @@ ghost use Rattle.std.specs.Prelude.{◌≡◌, ◌+◌, ◌<◌, ◌++◌, ◌�
 ghost use Rattle.std.specs.Option.{option_map_or};
 ghost use Rattle.component_trait.specs.States.{argument};
 ghost use Rattle.component_trait.specs.Making.{handed_over, new_node};
-ghost use Rattle.port_gate.specs.Seats.{IsWithinLimits};
+ghost use Rattle.node_gate.specs.Seats.{IsWithinLimits};
 ghost use Rattle.quiesce_core.specs.Knowledge.{nothing_known};
 ghost use Rattle.state_handover.specs.Making.{FitsKind};
 ghost use Rattle.node_table.specs.Seen.{component_state, past_in};
@@ -12,8 +12,8 @@ ghost use Rattle.node_table.specs.declared.held.Held.TheVariants as held;
 
 use component_trait::Component;
 use config_graph::Kind;
+use node_gate::CoreSeat;
 use node_host::{HostNode, Past};
-use port_gate::CoreSeat;
 use state_handover::{AnyNode, import, make};
 use std::alloc::Global;
 

@@ -1,13 +1,13 @@
 //! What a table tells of its nodes and ports.
 
 ghost use Rattle.std.specs.Prelude.{◌≡◌, ◌<◌, ◌↔◌, ℕ, [], Some, None, length, IfSome, option_and_then, slice_index_or};
-ghost use Rattle.gate_word.specs.Words.{FitsWord, unpack};
+ghost use Rattle.quiesce_word.specs.Words.{FitsWord, unpack};
 ghost use Rattle.quiesce_core.specs.Rules as rules;
 ghost use Rattle.quiesce_core.specs.Runs.{done_by};
 ghost use Rattle.quiesce_core.specs.State as state;
 ghost use Rattle.quiesce_core.specs.Words.{word_of};
 ghost use Rattle.quiesce_core.specs.declared.state.Slot.{Slot};
-ghost use Rattle.turns.specs.World.{World, state_of};
+ghost use Rattle.node_turn_laws.specs.World.{World, state_of};
 ghost use Rattle.node_table.specs.Entries.{gone, log_in};
 ghost use Rattle.node_table.specs.Holding.{HasLog};
 ghost use Rattle.node_table.specs.Seen.{component_state};
@@ -17,8 +17,8 @@ use crate::handed::Handed;
 use crate::held::Held;
 use crate::table::NodeTable;
 use config_graph::Made;
-use gate_word::Word;
 use quiesce_core::Event;
+use quiesce_word::Word;
 use state_handover::AnyNode;
 
 impl NodeTable {

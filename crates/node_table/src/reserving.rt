@@ -4,7 +4,7 @@ ghost use Rattle.std.specs.Prelude.{◌≡◌, ◌≤◌, ◌<◌, ◌+◌, ℕ,
 ghost use Rattle.component_trait.specs.States.{NodeState};
 ghost use Rattle.config_graph.specs.declared.TheConstants.{MAX_NODES};
 ghost use Rattle.state_handover.specs.declared.any_node.AnyNode.{AnyNode as PureNode};
-ghost use Rattle.turns.specs.World.{World};
+ghost use Rattle.node_turn_laws.specs.World.{World};
 ghost use Rattle.node_table.specs.Rooms.{has_past_room};
 ghost use Rattle.node_table.specs.Seen.{seen};
 ghost use Rattle.node_table.specs.Table.{Shows, machine, sources, spare};

@@ -4,7 +4,7 @@ ghost use Rattle.std.specs.Prelude.{◌≡◌, ◌+◌, ◌<◌, ◌≤◌, ℕ,
 ghost use Rattle.node_table.specs.Rooms.{has_past_room};
 
 use crate::held::Held;
-use port_gate::CoreGate;
+use node_gate::CoreGate;
 use port_queue::PlainHints;
 use std::alloc::Global;
 

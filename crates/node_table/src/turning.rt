@@ -3,8 +3,8 @@
 ghost use Rattle.std.specs.Prelude.{◌≡◌, true, OnErr, OnOk};
 ghost use Rattle.node_host.specs.Turning.{event_of};
 ghost use Rattle.quiesce_core.specs.State.{is_live};
-ghost use Rattle.turns.specs.Turn.{turn};
-ghost use Rattle.turns.specs.World.{World};
+ghost use Rattle.node_turn_laws.specs.Turn.{turn};
+ghost use Rattle.node_turn_laws.specs.World.{World};
 ghost use Rattle.node_table.specs.Table.{KeepsRoom, Shows, machine};
 
 use crate::held::Held;

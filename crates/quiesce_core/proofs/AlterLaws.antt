@@ -14,7 +14,7 @@ use Rattle.quiesce_core.specs.declared.state.Slot.{Slot}
 use Rattle.quiesce_core.specs.declared.state.Gate.{Gate}
 use Rattle.quiesce_core.specs.declared.state.Exchange.{Exchange}
 use Rattle.quiesce_core.specs.declared.state.Service.{Service}
-use Rattle.gate_word.specs.declared.phase.Phase.TheVariants as phase
+use Rattle.quiesce_word.specs.declared.phase.Phase.TheVariants as phase
 use Rattle.quiesce_core.specs.State.{Configuration, State, fresh_gate, fresh_exchange, slot, gate, owner, target, exchange, service, target_service}
 use Rattle.quiesce_core.specs.Effect.{with_gate, with_exchange, with_service, with_target_service, with_call, with_node, with_removed, with_target, new_gates, effect}
 use Rattle.quiesce_core.specs.Legal.{Legal}

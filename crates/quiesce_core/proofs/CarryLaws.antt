@@ -6,10 +6,10 @@ use Rattle.std.proofs.lemmas.Bool.{both_ways, cases_Bool, eq-eqb, eqb-true, not-
 use Rattle.quiesce_core.specs.declared.event.Event.{Event}
 use Rattle.quiesce_core.specs.declared.event.Event.TheVariants.{Begin, Call, Take, Give, End, More, Ask, Hear}
 use Rattle.quiesce_core.specs.declared.state.Exchange.{Exchange}
-use Rattle.gate_word.specs.declared.phase.Phase.{Phase}
-use Rattle.gate_word.specs.declared.phase.Phase.TheVariants as phase
+use Rattle.quiesce_word.specs.declared.phase.Phase.{Phase}
+use Rattle.quiesce_word.specs.declared.phase.Phase.TheVariants as phase
 use Rattle.quiesce_core.specs.State.{State, exchange}
-use Rattle.gate_word.specs.Phases.{is_answered, is_asked, is_in_more}
+use Rattle.quiesce_word.specs.Phases.{is_answered, is_asked, is_in_more}
 use Rattle.quiesce_core.specs.Rules.{is_port_serial, is_taken}
 use Rattle.quiesce_core.specs.Knowledge.{StandsThere}
 use Rattle.quiesce_core.specs.Doers.{is_ask_at, is_end_at, is_give_at}
@@ -18,7 +18,7 @@ use Rattle.quiesce_core.specs.Legal.{Legal}
 use Rattle.quiesce_core.specs.Runs.{IsRun, state_after}
 use Rattle.quiesce_core.specs.Traffic.{IsConsistent}
 use Rattle.quiesce_core.specs.WellFormed.{IsWellFormed}
-use Rattle.gate_word.proofs.PhaseLaws.{answered_not_asked, answered_not_more, more_not_answered}
+use Rattle.quiesce_word.proofs.PhaseLaws.{answered_not_asked, answered_not_more, more_not_answered}
 use Rattle.quiesce_core.proofs.AlterLaws.{exchanges_next}
 use Rattle.quiesce_core.proofs.PortEventLaws.{Starts, Turn, asks, ends, gives, passes, replies, starts, turn_of}
 use Rattle.quiesce_core.proofs.InductionLaws.{IsNext, along, none_barred, place, unbarred}

@@ -25,7 +25,7 @@ use Rattle.quiesce_core.specs.declared.state.Slot.{Slot}
 use Rattle.quiesce_core.specs.declared.state.Gate.{Gate}
 use Rattle.quiesce_core.specs.State.{fresh_gate, fresh_exchange, slot, is_live, gate, owner, target, exchange}
 use Rattle.quiesce_core.specs.declared.state.Exchange.{Exchange}
-use Rattle.gate_word.specs.Phases.{is_idle, is_in_more}
+use Rattle.quiesce_word.specs.Phases.{is_idle, is_in_more}
 use Rattle.quiesce_core.specs.Traffic.{IsConsistent}
 use Rattle.quiesce_core.specs.Reach.{IsPortOf, wiring_of}
 use Rattle.quiesce_core.specs.SameWiring.{IsPortAt}

@@ -4,8 +4,8 @@ use Rattle.std.specs.Prelude.{◌==◌, fold, option_map, is_some}
 use Rattle.std.proofs.lemmas.Bool.{and_parts, both_ways, cases_Bool, eqb-true, eq-eqb, ne_eqb}
 use Rattle.std.proofs.lemmas.List.Sums.{fold-append}
 use Rattle.std.proofs.lemmas.Option.{same_Some}
-use Rattle.gate_word.specs.Phases.{is_idle}
-use Rattle.gate_word.specs.declared.phase.Phase.TheVariants as phase
+use Rattle.quiesce_word.specs.Phases.{is_idle}
+use Rattle.quiesce_word.specs.declared.phase.Phase.TheVariants as phase
 use Rattle.quiesce_core.specs.declared.event.Event.{Event}
 use Rattle.quiesce_core.specs.declared.event.Event.TheVariants.{Begin, Call, Take, Give, End, More, Ask, Hear, Miss}
 use Rattle.quiesce_core.specs.declared.known.Served.{Served}
@@ -23,7 +23,7 @@ use Rattle.quiesce_core.specs.Knowledge.{IsServed, KnowsService, OwnPort, own_po
 use Rattle.quiesce_core.proofs.AlterLaws.{ports_grow, exchanges_next, reconfigured, services_next}
 use Rattle.quiesce_core.proofs.ConfigurationLaws.{owner_kept}
 use Rattle.quiesce_core.proofs.StateLaws.{taken_busy, taken_is, target_service_is}
-use Rattle.gate_word.proofs.PhaseLaws.{more_busy, serving_busy}
+use Rattle.quiesce_word.proofs.PhaseLaws.{more_busy, serving_busy}
 use Rattle.quiesce_core.proofs.TableLaws.{gate_place}
 use Rattle.quiesce_core.proofs.PortEventLaws.{Kept, port_kept, replies_are_of_servers, serial_kept, served_there, turn_of}
 

@@ -19,7 +19,7 @@ use Rattle.quiesce_core.specs.declared.state.Exchange.{Exchange}
 use Rattle.quiesce_core.specs.declared.state.Service.{Service}
 use Rattle.quiesce_core.specs.declared.state.Slot.{Slot}
 use Rattle.quiesce_core.specs.State.{State, calls_allowed, depends, fresh_exchange, gate, mores_allowed, slot, owner, ports_of, provision, target, target_service, exchange, service}
-use Rattle.gate_word.specs.Phases.{is_answered, is_idle, is_in_more}
+use Rattle.quiesce_word.specs.Phases.{is_answered, is_idle, is_in_more}
 use Rattle.quiesce_core.specs.Rules.{calls_have_ended, has_calls_left, has_mores_left, is_called_within, is_taken, serves_through, was_heard}
 use Rattle.config_graph.specs.declared.TheConstants.{MAX_NODES, MAX_PORTS}
 use Rattle.config_graph.specs.declared.node.Node.{Node}

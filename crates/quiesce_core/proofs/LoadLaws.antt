@@ -6,11 +6,11 @@ use Rattle.std.proofs.lemmas.Bool.{and_from, and_parts, both_ways, cases_eq, eq-
 use Rattle.std.proofs.lemmas.List.{get_or_past}
 use Rattle.std.proofs.lemmas.Option.{slice_get_past}
 use Rattle.config_graph.specs.declared.node.Target.{Target}
-use Rattle.gate_word.specs.Phases.{is_answered, is_asked, is_idle, is_in_more}
-use Rattle.gate_word.specs.SlotWords.{pack_slot}
-use Rattle.gate_word.specs.Words.{is_message_to, is_missing, is_spent, pack, unpack}
-use Rattle.gate_word.specs.declared.operands.TheConstants.{CLOSED}
-use Rattle.gate_word.specs.declared.word.Word.{Word}
+use Rattle.quiesce_word.specs.Phases.{is_answered, is_asked, is_idle, is_in_more}
+use Rattle.quiesce_word.specs.SlotWords.{pack_slot}
+use Rattle.quiesce_word.specs.Words.{is_message_to, is_missing, is_spent, pack, unpack}
+use Rattle.quiesce_word.specs.declared.operands.TheConstants.{CLOSED}
+use Rattle.quiesce_word.specs.declared.word.Word.{Word}
 use Rattle.quiesce_core.specs.Rules.{denial, is_last_message, is_linked, is_live_port, is_next_serial, is_open, is_value, last_serial, was_heard}
 use Rattle.quiesce_core.specs.Runs.{is_doer}
 use Rattle.quiesce_core.specs.State.{Configuration, State, exchange, fresh_exchange, fresh_gate, gate, service, target, target_service}
@@ -25,7 +25,7 @@ use Rattle.base.proofs.OptionLaws.{map_or_true}
 use Rattle.quiesce_core.proofs.LegalLaws.{allowed, legal}
 use Rattle.quiesce_core.proofs.StabilityLaws.{busy_is_live}
 use Rattle.quiesce_core.proofs.StateLaws.{is_taken_if, target_service_is}
-use Rattle.gate_word.proofs.PhaseLaws.{answered_busy, asked_busy, more_busy}
+use Rattle.quiesce_word.proofs.PhaseLaws.{answered_busy, asked_busy, more_busy}
 use Rattle.quiesce_core.proofs.WordLaws.{port_words_decode}
 
 -- ---- what was never made

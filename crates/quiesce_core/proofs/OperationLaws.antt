@@ -5,14 +5,14 @@ use Rattle.std.specs.Int.Bits.{or_zero_l}
 use Rattle.std.proofs.lemmas.Bool.{and_parts, both_ways, eqb-true, leb-true, ltb-true, not-true}
 use Rattle.config_graph.specs.declared.node.Node.{Node}
 use Rattle.config_graph.specs.declared.node.Target.{Target}
-use Rattle.gate_word.specs.Operands.{call_difference, end_difference, link_difference, message_difference}
-use Rattle.gate_word.specs.Phases.{is_in_more}
-use Rattle.gate_word.specs.SlotWords.{pack_slot}
-use Rattle.gate_word.specs.Words.{FitsTarget, pack}
-use Rattle.gate_word.specs.declared.operands.TheConstants.{ALL_BUT_CLOSED, CLOSED}
-use Rattle.gate_word.specs.declared.phase.Phase.TheVariants as phase
-use Rattle.gate_word.proofs.PhaseLaws.{answered_is, asked_unless_more, more_is}
-use Rattle.gate_word.proofs.OperandLaws.{and_opens, call_turns, end_turns, link_turns, message_turns, or_closes, unlink_turns}
+use Rattle.quiesce_word.specs.Operands.{call_difference, end_difference, link_difference, message_difference}
+use Rattle.quiesce_word.specs.Phases.{is_in_more}
+use Rattle.quiesce_word.specs.SlotWords.{pack_slot}
+use Rattle.quiesce_word.specs.Words.{FitsTarget, pack}
+use Rattle.quiesce_word.specs.declared.operands.TheConstants.{ALL_BUT_CLOSED, CLOSED}
+use Rattle.quiesce_word.specs.declared.phase.Phase.TheVariants as phase
+use Rattle.quiesce_word.proofs.PhaseLaws.{answered_is, asked_unless_more, more_is}
+use Rattle.quiesce_word.proofs.OperandLaws.{and_opens, call_turns, end_turns, link_turns, message_turns, or_closes, unlink_turns}
 use Rattle.quiesce_core.specs.declared.event.Event.TheVariants.{Begin, Call, Give, End, More, Ask, Close, Reopen, Make, Link, Unlink}
 use Rattle.quiesce_core.specs.declared.state.Service.{Service}
 use Rattle.quiesce_core.specs.Rules.{is_linked, is_taken, last_serial, value_limit, was_heard}

@@ -4,8 +4,8 @@ use Rattle.std.specs.Prelude.{◌==◌, nat_le, option_map}
 use Rattle.std.specs.Option.{option_map_or}
 use Rattle.std.proofs.lemmas.Bool.{and_parts, both_ways, eq-eqb, eqb-true, false_from_ne_true}
 use Rattle.config_graph.specs.declared.node.Target.{Target}
-use Rattle.gate_word.specs.Phases.{is_answered, is_idle, is_in_more}
-use Rattle.gate_word.specs.declared.phase.Phase.TheVariants as phase
+use Rattle.quiesce_word.specs.Phases.{is_answered, is_idle, is_in_more}
+use Rattle.quiesce_word.specs.declared.phase.Phase.TheVariants as phase
 use Rattle.quiesce_core.specs.declared.event.Event.{Event}
 use Rattle.quiesce_core.specs.declared.event.Event.TheVariants.{Begin, Call, Give, End, More, Ask}
 use Rattle.quiesce_core.specs.declared.state.Exchange.{Exchange}

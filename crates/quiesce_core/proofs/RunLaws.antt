@@ -23,7 +23,7 @@ use Rattle.quiesce_core.specs.Traffic.{IsConsistent}
 use Rattle.quiesce_core.proofs.LegalLaws.{legal}
 use Rattle.quiesce_core.proofs.SoundnessLaws.{well_formed_next, well_formed_empty}
 use Rattle.quiesce_core.proofs.StateLaws.{taken_is}
-use Rattle.gate_word.proofs.PhaseLaws.{asked_busy}
+use Rattle.quiesce_word.proofs.PhaseLaws.{asked_busy}
 use Rattle.quiesce_core.proofs.TrafficLaws.{consistent_next, consistent_empty}
 use Rattle.quiesce_core.proofs.NamedLemmas.{named_next, named_empty}
 use Rattle.quiesce_core.proofs.KnowledgeLemmas.{Told, mine, done_more, told_next, told_empty}

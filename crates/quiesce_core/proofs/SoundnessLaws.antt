@@ -17,7 +17,7 @@ use Rattle.quiesce_core.specs.declared.state.Slot.{Slot}
 use Rattle.quiesce_core.specs.declared.state.Gate.{Gate}
 use Rattle.quiesce_core.specs.declared.state.Service.{Service}
 use Rattle.quiesce_core.specs.declared.state.Exchange.{Exchange}
-use Rattle.gate_word.specs.declared.phase.Phase.TheVariants as phase
+use Rattle.quiesce_word.specs.declared.phase.Phase.TheVariants as phase
 use Rattle.quiesce_core.specs.State.{Configuration, State, empty, fresh_gate, fresh_exchange, slot, is_live, ports_of, gate, owner, target, provides, exchange, service}
 use Rattle.quiesce_core.specs.Reach.{IsPortOf, wiring_of, has_no_cycle}
 use Rattle.config_graph.specs.Wiring.{MayCall}

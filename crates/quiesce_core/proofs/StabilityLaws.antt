@@ -12,7 +12,7 @@ use Rattle.quiesce_core.specs.declared.event.Event.TheVariants.{Call, Take, Give
 use Rattle.quiesce_core.specs.declared.state.Gate.{Gate}
 use Rattle.quiesce_core.specs.declared.state.Service.{Service}
 use Rattle.quiesce_core.specs.State.{State, fresh_gate, gate, owner, is_live, target, exchange, service, target_service}
-use Rattle.gate_word.specs.Phases.{is_idle, is_answered, is_in_more}
+use Rattle.quiesce_word.specs.Phases.{is_idle, is_answered, is_in_more}
 use Rattle.quiesce_core.specs.Rules.{is_live_port, is_settled, is_taken, was_heard}
 use Rattle.quiesce_core.specs.Doers.{is_ask_at, is_end_at, is_give_at, is_more_at}
 use Rattle.quiesce_core.specs.Effect.{effect}
@@ -24,7 +24,7 @@ use Rattle.quiesce_core.specs.Alters.{gate_next, service_next, service_by}
 use Rattle.quiesce_core.proofs.AlterLaws.{reconfigured, services_next}
 use Rattle.quiesce_core.proofs.SettledLaws.{settled_if}
 use Rattle.quiesce_core.proofs.PortEventLaws.{Turn, asks, ends, gives, passes, replies, served_there, starts, turn_of}
-use Rattle.gate_word.proofs.PhaseLaws.{answered_not_more, answered_busy, more_busy, serving_unanswered}
+use Rattle.quiesce_word.proofs.PhaseLaws.{answered_not_more, answered_busy, more_busy, serving_unanswered}
 use Rattle.quiesce_core.proofs.StateLaws.{busy_made, is_taken_if, taken_busy, taken_is, target_service_is}
 use Rattle.base.proofs.OptionLaws.{None-from_is_none, Some-from_is_some}
 

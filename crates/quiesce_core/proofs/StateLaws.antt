@@ -10,11 +10,11 @@ use Rattle.quiesce_core.specs.declared.state.Gate.{Gate}
 use Rattle.quiesce_core.specs.declared.state.Service.{Service}
 use Rattle.quiesce_core.specs.declared.state.Exchange.{Exchange}
 use Rattle.quiesce_core.specs.State.{Configuration, State, fresh_exchange, fresh_gate, gate, target, provision, exchange, service, target_service}
-use Rattle.gate_word.specs.Phases.{is_idle, is_asked, is_answered, is_in_more}
+use Rattle.quiesce_word.specs.Phases.{is_idle, is_asked, is_answered, is_in_more}
 use Rattle.quiesce_core.specs.Rules.{is_taken}
 use Rattle.quiesce_core.specs.Effect.{with_exchange, with_service, with_target_service}
 use Rattle.quiesce_core.specs.Traffic.{IsConsistent}
-use Rattle.gate_word.proofs.PhaseLaws.{serving_busy, serving_unanswered}
+use Rattle.quiesce_word.proofs.PhaseLaws.{serving_busy, serving_unanswered}
 use Rattle.base.proofs.OptionLaws.{map_or_true, map_or_at}
 
 -- look-ups after a write

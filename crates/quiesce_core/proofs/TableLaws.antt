@@ -13,7 +13,7 @@ use Rattle.quiesce_core.specs.Effect.{new_gates}
 use Rattle.std.proofs.lemmas.List.FromFn.{map-range_with_len_more, length-map-range_with_len}
 use Rattle.quiesce_core.specs.State.{Configuration, State, slot, is_live, owner, target, provision, calls_allowed, mores_allowed, service}
 use Rattle.quiesce_core.specs.Rules.{is_live_port, has_calls_left, has_mores_left}
-use Rattle.gate_word.specs.Words.{FitsTarget}
+use Rattle.quiesce_word.specs.Words.{FitsTarget}
 use Rattle.quiesce_core.specs.WellFormed.{IsWellFormed}
 use Rattle.base.proofs.OptionLaws.{map_or_true, map_or_at}
 use Rattle.config_graph.proofs.KindLaws.{few_calls, few_mores, one_provision}

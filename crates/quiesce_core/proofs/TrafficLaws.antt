@@ -9,8 +9,8 @@ use Rattle.std.proofs.lemmas.Option.{same_Some}
 use Rattle.config_graph.specs.Kinds.{row, depends_on, calls_of, mores_of}
 use Rattle.config_graph.specs.declared.kind.Kind.{Kind}
 use Rattle.config_graph.specs.declared.node.Target.{Target}
-use Rattle.gate_word.specs.Phases.{is_idle, is_asked, is_in_more}
-use Rattle.gate_word.specs.declared.phase.Phase.{Phase}
+use Rattle.quiesce_word.specs.Phases.{is_idle, is_asked, is_in_more}
+use Rattle.quiesce_word.specs.declared.phase.Phase.{Phase}
 use Rattle.quiesce_core.specs.declared.event.Event.{Event}
 use Rattle.quiesce_core.specs.declared.event.Event.TheVariants.{Begin, Call, Take, Give, End, More, Ask, Hear, Miss, Close, Reopen, Make, Link, Unlink, Remove}
 use Rattle.quiesce_core.specs.declared.state.Slot.{Slot}
@@ -33,7 +33,7 @@ use Rattle.quiesce_core.proofs.CycleLaws.{all_of}
 use Rattle.quiesce_core.proofs.SettledLaws.{settled_if}
 use Rattle.quiesce_core.proofs.StabilityLaws.{busy_ports_stay, serves_on, taken_ports_stay}
 use Rattle.quiesce_core.proofs.StateLaws.{busy_made, idle_unserved, provision_is, taken_busy, taken_is, target_service_is}
-use Rattle.gate_word.proofs.PhaseLaws.{asked_not_more, more_busy, serving_busy, serving_unanswered}
+use Rattle.quiesce_word.proofs.PhaseLaws.{asked_not_more, more_busy, serving_busy, serving_unanswered}
 use Rattle.quiesce_core.proofs.TableLaws.{live_made}
 use Rattle.quiesce_core.proofs.PortEventLaws.{Turn, asks, ends, gives, passes, replies, replies_are_of_servers, served_there, starts, turn_of}
 use Rattle.base.proofs.OptionLaws.{None-from_is_none, Some-from_is_some, option_map_some, map_or_at}

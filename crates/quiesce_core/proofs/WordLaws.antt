@@ -8,14 +8,14 @@ use Rattle.std.proofs.lemmas.Option.{same_Some, slice_get_past, slice_get_within
 use Rattle.config_graph.specs.Kinds.{row}
 use Rattle.config_graph.specs.declared.node.Node.{Node}
 use Rattle.config_graph.specs.declared.TheConstants.{MAX_NODES, MAX_PORTS}
-use Rattle.gate_word.specs.Phases.{is_idle}
-use Rattle.gate_word.specs.SlotWords.{FitsSlotWord, pack_slot, unpack_slot}
-use Rattle.gate_word.specs.Words.{FitsWord, has_root, is_drained, unpack}
-use Rattle.gate_word.specs.declared.phase.Phase.{Phase}
-use Rattle.gate_word.specs.declared.phase.Phase.TheVariants as phase
-use Rattle.gate_word.specs.declared.word.Word.{Word}
-use Rattle.gate_word.proofs.WordLaws.{words_decode}
-use Rattle.gate_word.proofs.SlotWordLaws.{slot_words_decode}
+use Rattle.quiesce_word.specs.Phases.{is_idle}
+use Rattle.quiesce_word.specs.SlotWords.{FitsSlotWord, pack_slot, unpack_slot}
+use Rattle.quiesce_word.specs.Words.{FitsWord, has_root, is_drained, unpack}
+use Rattle.quiesce_word.specs.declared.phase.Phase.{Phase}
+use Rattle.quiesce_word.specs.declared.phase.Phase.TheVariants as phase
+use Rattle.quiesce_word.specs.declared.word.Word.{Word}
+use Rattle.quiesce_word.proofs.WordLaws.{words_decode}
+use Rattle.quiesce_word.proofs.SlotWordLaws.{slot_words_decode}
 use Rattle.quiesce_core.specs.declared.event.Event.{Event}
 use Rattle.quiesce_core.specs.declared.event.Event.TheVariants.{Begin, Call, Take, Give, End, More, Ask, Hear, Miss, Close, Reopen, Make, Link, Unlink, Remove}
 use Rattle.quiesce_core.specs.declared.state.Exchange.{Exchange}

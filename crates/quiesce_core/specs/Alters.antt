@@ -8,7 +8,7 @@ use Rattle.quiesce_core.specs.declared.state.Slot.{Slot}
 use Rattle.quiesce_core.specs.declared.state.Gate.{Gate}
 use Rattle.quiesce_core.specs.declared.state.Exchange.{Exchange}
 use Rattle.quiesce_core.specs.declared.state.Service.{Service}
-use Rattle.gate_word.specs.declared.phase.Phase.TheVariants as phase
+use Rattle.quiesce_word.specs.declared.phase.Phase.TheVariants as phase
 use Rattle.quiesce_core.specs.State.{Configuration, State, slot, gate, owner, exchange, service}
 use Rattle.quiesce_core.specs.Runs.{is_doer}
 

@@ -1,6 +1,6 @@
 -- What a port of a state shows, which is all that a gate has of it.
 use Rattle.std.specs.Prelude.{ℕ, is_some}
-use Rattle.gate_word.specs.declared.word.Word.{Word}
+use Rattle.quiesce_word.specs.declared.word.Word.{Word}
 use Rattle.quiesce_core.specs.State.{State, gate, exchange}
 
 -- what a port shows of its gate and its exchange

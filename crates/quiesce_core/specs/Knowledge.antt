@@ -8,7 +8,7 @@ use Rattle.quiesce_core.specs.declared.known.PortKnown.{PortKnown}
 use Rattle.quiesce_core.specs.declared.known.Served.{Served}
 use Rattle.quiesce_core.specs.declared.state.Service.{Service}
 use Rattle.quiesce_core.specs.State.{State, exchange, service, slot}
-use Rattle.gate_word.specs.Phases.{is_answered, is_idle, is_in_more}
+use Rattle.quiesce_word.specs.Phases.{is_answered, is_idle, is_in_more}
 use Rattle.quiesce_core.specs.Reach.{IsPortOf}
 use Rattle.quiesce_core.specs.WellFormed.{IsWellFormed}
 use Rattle.quiesce_core.specs.Traffic.{IsConsistent}

@@ -5,7 +5,7 @@ use Rattle.config_graph.specs.declared.node.Node.{Node}
 use Rattle.quiesce_core.specs.declared.event.Event.{Event}
 use Rattle.quiesce_core.specs.declared.event.Event.TheVariants.{Begin, Call, Take, Give, End, More, Ask, Hear, Miss, Close, Reopen, Make, Link, Unlink, Remove}
 use Rattle.quiesce_core.specs.State.{Configuration, State, is_live, owner, exchange, service, target_service}
-use Rattle.gate_word.specs.Phases.{is_idle, is_asked, is_answered, is_in_more}
+use Rattle.quiesce_word.specs.Phases.{is_idle, is_asked, is_answered, is_in_more}
 use Rattle.quiesce_core.specs.Effect.{with_target}
 use Rattle.quiesce_core.specs.Reach.{has_no_cycle}
 use Rattle.quiesce_core.specs.Rules.{is_live_port, is_open, is_linked, is_next_serial, is_port_serial, is_last_message, is_value, is_missing, serves_through, has_calls_left, was_heard, is_taken, calls_have_ended, has_mores_left, is_settled, has_room, is_path_taken, has_its_argument, can_move, has_provision, is_apart}

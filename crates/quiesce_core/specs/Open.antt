@@ -1,8 +1,8 @@
 -- The transactions of a state that have not ended.
 use Rattle.std.specs.Prelude.{ℕ, Bool, List, length, Option, Some, None, is_none, option_map, filter_map, if◌then◌else◌}
 use Rattle.std.specs.List.{range_with_len}
-use Rattle.gate_word.specs.declared.phase.Phase.{Phase}
-use Rattle.gate_word.specs.declared.phase.Phase.TheVariants as phase
+use Rattle.quiesce_word.specs.declared.phase.Phase.{Phase}
+use Rattle.quiesce_word.specs.declared.phase.Phase.TheVariants as phase
 use Rattle.quiesce_core.specs.declared.state.Stage.{Stage}
 use Rattle.quiesce_core.specs.declared.state.Stage.TheVariants as stage
 use Rattle.quiesce_core.specs.declared.state.OpenTxn.{OpenTxn}

@@ -4,10 +4,10 @@ use Rattle.std.specs.List.{range_with_len}
 use Rattle.std.specs.Option.{option_map_or}
 use Rattle.config_graph.specs.declared.node.Target.{Target}
 use Rattle.quiesce_core.specs.declared.state.Service.{Service}
-use Rattle.gate_word.specs.declared.phase.Phase.{Phase}
-use Rattle.gate_word.specs.declared.phase.Phase.TheVariants as phase
+use Rattle.quiesce_word.specs.declared.phase.Phase.{Phase}
+use Rattle.quiesce_word.specs.declared.phase.Phase.TheVariants as phase
 use Rattle.quiesce_core.specs.State.{Configuration, State, target, ports_of, depends, calls_allowed, mores_allowed, exchange, service}
-use Rattle.gate_word.specs.Phases.{is_in_more}
+use Rattle.quiesce_word.specs.Phases.{is_in_more}
 use Rattle.quiesce_core.specs.Rules.{is_taken}
 
 -- the greatest number that f gives on the list, 0 where it is empty

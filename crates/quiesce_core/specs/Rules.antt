@@ -11,9 +11,9 @@ use Rattle.quiesce_core.specs.declared.event.Event.{Event}
 use Rattle.quiesce_core.specs.declared.event.Event.TheVariants.{Begin, Call, Take, Give, End, More, Ask, Hear, Miss, Close, Reopen, Make, Link, Unlink, Remove}
 use Rattle.quiesce_core.specs.declared.state.Slot.{Slot}
 use Rattle.quiesce_core.specs.declared.state.Service.{Service}
-use Rattle.gate_word.specs.Phases.{is_idle, is_asked, is_answered, is_in_more}
-use Rattle.gate_word.specs.Words as words
-use Rattle.gate_word.specs.declared.word.TheConstants.{LAST_SERIAL}
+use Rattle.quiesce_word.specs.Phases.{is_idle, is_asked, is_answered, is_in_more}
+use Rattle.quiesce_word.specs.Words as words
+use Rattle.quiesce_word.specs.declared.word.TheConstants.{LAST_SERIAL}
 use Rattle.quiesce_core.specs.State.{Configuration, State, slot, is_live, ports_of, gate, owner, target, provision, provides, calls_allowed, mores_allowed, depends, exchange, service, target_service}
 use Rattle.quiesce_core.specs.Effect.{with_target}
 use Rattle.quiesce_core.specs.Fields.{fields_of}

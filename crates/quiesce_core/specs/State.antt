@@ -11,7 +11,7 @@ use Rattle.quiesce_core.specs.declared.state.Slot.{Slot}
 use Rattle.quiesce_core.specs.declared.state.Gate.{Gate}
 use Rattle.quiesce_core.specs.declared.state.Exchange.{Exchange}
 use Rattle.quiesce_core.specs.declared.state.Service.{Service}
-use Rattle.gate_word.specs.declared.phase.Phase.TheVariants.{Idle}
+use Rattle.quiesce_word.specs.declared.phase.Phase.TheVariants.{Idle}
 
 -- the nodes made, by slot, and the ports made, by number
 pub record Configuration : Type 0 where

@@ -2,7 +2,7 @@
 use Rattle.std.specs.Prelude.{◌≡◌, ℕ, ◌≤◌, ◌||◌, true, false, Some, None}
 use Rattle.quiesce_core.specs.declared.state.Service.{Service}
 use Rattle.quiesce_core.specs.State.{State, gate, owner, target, provision, calls_allowed, mores_allowed, depends, is_live, exchange, service}
-use Rattle.gate_word.specs.Phases.{is_idle, is_asked, is_in_more}
+use Rattle.quiesce_word.specs.Phases.{is_idle, is_asked, is_in_more}
 use Rattle.quiesce_core.specs.Rules.{is_linked, is_taken}
 
 -- node n services this: the port is linked to a provision of n, and asked or in more

@@ -1,15 +1,15 @@
 -- The words of a state: what each port and each slot shows of itself in one number, and what an event makes of them.
 use Rattle.std.specs.Prelude.{ℕ, IsTrue, true, false, Option, Some, None, is_none, if◌then◌else◌}
 use Rattle.std.specs.Option.{option_map_or}
-use Rattle.gate_word.specs.Words.{is_spent, pack}
-use Rattle.gate_word.specs.SlotWords.{pack_slot}
-use Rattle.gate_word.specs.declared.phase.Phase.TheVariants as phase
-use Rattle.gate_word.specs.declared.word.Word.{Word}
-use Rattle.gate_word.specs.declared.slot_word.SlotWord.{SlotWord}
+use Rattle.quiesce_word.specs.Words.{is_spent, pack}
+use Rattle.quiesce_word.specs.SlotWords.{pack_slot}
+use Rattle.quiesce_word.specs.declared.phase.Phase.TheVariants as phase
+use Rattle.quiesce_word.specs.declared.word.Word.{Word}
+use Rattle.quiesce_word.specs.declared.slot_word.SlotWord.{SlotWord}
 use Rattle.quiesce_core.specs.declared.event.Event.{Event}
 use Rattle.quiesce_core.specs.declared.event.Event.TheVariants.{Begin, Call, Take, Give, End, More, Ask, Hear, Miss, Close, Reopen, Make, Link, Unlink, Remove}
 use Rattle.quiesce_core.specs.declared.state.Slot.{Slot}
-use Rattle.gate_word.specs.Phases.{is_idle}
+use Rattle.quiesce_word.specs.Phases.{is_idle}
 use Rattle.quiesce_core.specs.Fields.{fields_of}
 use Rattle.quiesce_core.specs.Rules.{has_calls_left, is_live_port, serves_through, was_heard}
 use Rattle.quiesce_core.specs.State.{Configuration, State, slot, owner, exchange, service}

@@ -23,7 +23,7 @@ use crate::event::Event;
 use crate::state::{Exchange, Gate, OpenTxn, Service, Slot};
 use crate::tables::Tables;
 use config_graph::{Graph, Made, NoMemory, Node};
-use gate_word::LAST_SERIAL;
+use quiesce_word::LAST_SERIAL;
 use std::alloc::Global;
 use std::marker::Model;
 

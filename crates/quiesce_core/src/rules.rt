@@ -10,7 +10,7 @@ use crate::links::Links;
 use crate::state::Service;
 use crate::tables::Tables;
 use config_graph::{Kind, MAX_NODES, MAX_PORTS, Node, VALUE_LIMIT};
-use gate_word::LAST_SERIAL;
+use quiesce_word::LAST_SERIAL;
 
 pub fn is_value(value: u32) -> bool
     ensures { result ≡ rules.is_value value }

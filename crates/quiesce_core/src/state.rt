@@ -2,7 +2,7 @@
 //! exchange.
 
 use config_graph::{Node, Target};
-pub use gate_word::Phase;
+pub use quiesce_word::Phase;
 
 /// A node that was made, in its slot.
 #[derive(Debug, Drop, PartialEq, Eq)]

@@ -6,7 +6,7 @@ ghost use Rattle.quiesce_core.specs.declared.state.Service.{Service};
 ghost use Rattle.config_graph.specs.declared.node.Target.{Target};
 ghost use Rattle.quiesce_core.specs.Alters.{Alters};
 ghost use Rattle.quiesce_core.specs.Doers.{is_ask_at, is_end_at, is_give_at};
-ghost use Rattle.gate_word.specs.Phases.{is_answered, is_idle, is_in_more};
+ghost use Rattle.quiesce_word.specs.Phases.{is_answered, is_idle, is_in_more};
 ghost use Rattle.quiesce_core.specs.Rules.{is_linked, is_live_port, is_taken};
 ghost use Rattle.quiesce_core.specs.Runs.{Step};
 ghost use Rattle.quiesce_core.specs.State.{State, exchange, owner, service, target};

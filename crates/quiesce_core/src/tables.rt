@@ -4,13 +4,13 @@ ghost use Rattle.std.specs.Prelude.{◌≡◌};
 ghost use Rattle.quiesce_core.specs.State as state;
 ghost use Rattle.quiesce_core.specs.Tables.{state_of};
 ghost use Rattle.quiesce_core.specs.WellFormed.{IsWellFormed};
-ghost use Rattle.gate_word.specs.Words.{FitsWord};
+ghost use Rattle.quiesce_word.specs.Words.{FitsWord};
 ghost use Rattle.quiesce_core.specs.Fields.{fields_of};
 
 use crate::links::Links;
 use crate::state::{Exchange, Phase, Service};
 use config_graph::Target;
-use gate_word::Word;
+use quiesce_word::Word;
 use std::alloc::Global;
 
 /// What is done at a port at which nothing was ever done.

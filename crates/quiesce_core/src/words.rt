@@ -4,10 +4,10 @@ ghost use Rattle.std.specs.Prelude.{◌≡◌, ◌+◌, ◌≤◌, ◌&&◌, ◌
 ghost use Rattle.std.specs.Option.{option_map_or};
 ghost use Rattle.config_graph.specs.declared.node.Node.{Node};
 ghost use Rattle.config_graph.specs.declared.node.Target.{Target};
-ghost use Rattle.gate_word.specs.Phases.{is_answered, is_asked, is_idle, is_in_more};
-ghost use Rattle.gate_word.specs.SlotWords.{FitsSlotWord, pack_slot, unpack_slot};
-ghost use Rattle.gate_word.specs.Operands.{call_difference, end_difference, link_difference, message_difference};
-ghost use Rattle.gate_word.specs.Words.{FitsWord, has_root, is_drained, is_message_to, is_missing, pack, unpack};
+ghost use Rattle.quiesce_word.specs.Phases.{is_answered, is_asked, is_idle, is_in_more};
+ghost use Rattle.quiesce_word.specs.SlotWords.{FitsSlotWord, pack_slot, unpack_slot};
+ghost use Rattle.quiesce_word.specs.Operands.{call_difference, end_difference, link_difference, message_difference};
+ghost use Rattle.quiesce_word.specs.Words.{FitsWord, has_root, is_drained, is_message_to, is_missing, pack, unpack};
 ghost use Rattle.quiesce_core.specs.declared.event.Event.{Event};
 ghost use Rattle.quiesce_core.specs.declared.state.OpenTxn.{OpenTxn};
 ghost use Rattle.quiesce_core.specs.declared.state.Service.{Service};
@@ -25,7 +25,7 @@ ghost use Rattle.quiesce_core.specs.Fields.{fields_of};
 
 use crate::event::Event;
 use crate::state::Phase;
-use gate_word::{ALL_BUT_CLOSED, CLOSED};
+use quiesce_word::{ALL_BUT_CLOSED, CLOSED};
 
 /// What ports and slots show has its room in their words.
 pub fn words_fit()

@@ -2,7 +2,7 @@
 use Rattle.std.proofs.Common.{◌≡◌, ◌∙◌, ℕ, true, cond, not, [], ◌∷◌, Some, None, refl, ap, ap₂}
 use Rattle.std.specs.Prelude.{◌&&◌, nat_lt}
 use Rattle.std.proofs.lemmas.Bool.{eq-eqb}
-use Rattle.gate_word.specs.Phases.{is_idle}
+use Rattle.quiesce_word.specs.Phases.{is_idle}
 use Rattle.quiesce_core.specs.declared.event.Event.TheVariants.{Begin, Close}
 use Rattle.quiesce_core.specs.declared.state.Gate.{Gate}
 use Rattle.quiesce_core.specs.Effect.{effect}

@@ -10,9 +10,9 @@ use Rattle.base.proofs.OptionLaws.{map_or_at, map_or_true}
 use Rattle.config_graph.specs.Kinds.{calls_of, mores_of, row}
 use Rattle.config_graph.specs.declared.node.Node.{Node}
 use Rattle.config_graph.specs.declared.node.Target.{Target}
-use Rattle.gate_word.specs.Phases.{is_asked, is_answered, is_idle, is_in_more}
-use Rattle.gate_word.specs.Words as words
-use Rattle.gate_word.proofs.PhaseLaws.{answered_busy, asked_busy, more_busy, serving_busy}
+use Rattle.quiesce_word.specs.Phases.{is_asked, is_answered, is_idle, is_in_more}
+use Rattle.quiesce_word.specs.Words as words
+use Rattle.quiesce_word.proofs.PhaseLaws.{answered_busy, asked_busy, more_busy, serving_busy}
 use Rattle.quiesce_core.specs.declared.event.Event.{Event}
 use Rattle.quiesce_core.specs.declared.event.Event.TheVariants.{Begin, Call, Take, Give, End, More, Ask, Hear, Miss, Close, Reopen, Make, Link, Unlink, Remove}
 use Rattle.quiesce_core.specs.declared.state.Exchange.{Exchange}
@@ -38,11 +38,11 @@ use Rattle.quiesce_core.proofs.SoundnessLaws.{well_formed_next}
 use Rattle.quiesce_core.proofs.StabilityLaws.{busy_is_live, busy_ports_stay, serving_nodes_stay, unsettled_ports_stay}
 use Rattle.quiesce_core.proofs.StateLaws.{taken_busy, taken_is}
 use Rattle.quiesce_core.proofs.TableLaws.{gate_place, live_made}
-use Rattle.quiescence_laws.specs.Configurations.{Extends}
-use Rattle.quiescence_laws.specs.Events.{is_reopen_or_link}
-use Rattle.quiescence_laws.proofs.ExtensionLaws.{depends_before, extends_next, owned_before, read_before}
-use Rattle.quiescence_laws.proofs.QuiescenceLaws.{still_if}
-use Rattle.quiescence_laws.proofs.StillLaws.{still_next}
+use Rattle.quiesce_laws.specs.Configurations.{Extends}
+use Rattle.quiesce_laws.specs.Events.{is_reopen_or_link}
+use Rattle.quiesce_laws.proofs.ExtensionLaws.{depends_before, extends_next, owned_before, read_before}
+use Rattle.quiesce_laws.proofs.QuiescenceLaws.{still_if}
+use Rattle.quiesce_laws.proofs.StillLaws.{still_next}
 use Rattle.quiesce_swap_laws.specs.Independence.{AreIndependent, MayBeDoneBy, MayBeDoneByChange, clashes}
 use Rattle.quiesce_swap_laws.proofs.DoerLaws.{changes_have_no_doer, doer_alike, nodes_do_no_change, port_of}
 use Rattle.quiesce_swap_laws.proofs.NodeSwapLaws.{by_alike_all, same_state}

@@ -1,9 +1,9 @@
 -- Whose turn it is at a port, and what an event leaves at other ports and of other nodes' services.
 use Rattle.std.proofs.Common.{◌≡◌, ◌∙◌, ℕ, true, false, cond, refl, sym, ap, subst, ⊎_elim}
 use Rattle.std.proofs.lemmas.Bool.{both_ways, eqb-true, ne_eqb, or_cases}
-use Rattle.gate_word.specs.Phases.{is_asked, is_answered, is_idle, is_in_more}
-use Rattle.gate_word.specs.declared.phase.Phase.{Phase}
-use Rattle.gate_word.specs.declared.phase.Phase.TheVariants as phase
+use Rattle.quiesce_word.specs.Phases.{is_asked, is_answered, is_idle, is_in_more}
+use Rattle.quiesce_word.specs.declared.phase.Phase.{Phase}
+use Rattle.quiesce_word.specs.declared.phase.Phase.TheVariants as phase
 use Rattle.quiesce_core.specs.declared.event.Event.{Event}
 use Rattle.quiesce_core.specs.declared.event.Event.TheVariants.{Begin, Call, Take, Give, End, More, Ask, Hear, Miss, Close, Reopen, Make, Link, Unlink, Remove}
 use Rattle.quiesce_core.specs.State.{State, exchange, owner, service, target_service}
@@ -17,7 +17,7 @@ use Rattle.quiesce_core.specs.Traffic.{IsConsistent}
 use Rattle.quiesce_core.specs.WellFormed.{IsWellFormed}
 use Rattle.quiesce_core.proofs.AlterLaws.{exchanges_next, services_next}
 use Rattle.quiesce_core.proofs.StateLaws.{taken_is, target_service_is}
-use Rattle.quiescence_laws.proofs.ExchangeLaws.{PortStep, stays, begins, calls, ends, port_step}
+use Rattle.quiesce_laws.proofs.ExchangeLaws.{PortStep, stays, begins, calls, ends, port_step}
 use Rattle.quiesce_swap_laws.proofs.DoerLaws.{port_of}
 
 idle_not_asked : (f : Phase) → is_idle f ≡ true → is_asked f ≡ false

@@ -6,8 +6,8 @@ use Rattle.std.specs.List.{list_all}
 use Rattle.std.specs.Option.{option_map_or}
 use Rattle.std.proofs.lemmas.Bool.{both_ways}
 use Rattle.config_graph.specs.declared.node.Target.{Target}
-use Rattle.gate_word.specs.Phases.{is_asked, is_answered, is_idle, is_in_more}
-use Rattle.gate_word.specs.Words as words
+use Rattle.quiesce_word.specs.Phases.{is_asked, is_answered, is_idle, is_in_more}
+use Rattle.quiesce_word.specs.Words as words
 use Rattle.quiesce_core.specs.declared.event.Event.{Event}
 use Rattle.quiesce_core.specs.declared.event.Event.TheVariants.{Begin, Call, Take, Give, End, More, Ask, Hear, Miss, Close, Reopen, Make, Link, Unlink, Remove}
 use Rattle.quiesce_core.specs.declared.state.Exchange.{Exchange}

@@ -1,12 +1,12 @@
 -- What the change may link in the systems of the rows.
 use Rattle.std.proofs.Common.{◌≡◌, ℕ, [], ◌∷◌, ◌++◌, inl, inr, refl, sym, subst}
-use Rattle.commit_laws.specs.Steps.{IsNoted}
+use Rattle.quiesce_commit_laws.specs.Steps.{IsNoted}
 use Rattle.config_graph.specs.declared.kind.Kind.TheVariants as kind
 use Rattle.config_graph.specs.declared.node.Node.{Node}
-use Rattle.gate_records.specs.Entries.{config_of}
-use Rattle.gate_records.specs.Notes.{is_noted}
-use Rattle.gate_records.specs.Records.{May}
-use Rattle.gate_records.specs.declared.entry.Entry.TheVariants.{Did}
+use Rattle.txn_records.specs.Entries.{config_of}
+use Rattle.txn_records.specs.Notes.{is_noted}
+use Rattle.txn_records.specs.Records.{May}
+use Rattle.txn_records.specs.declared.entry.Entry.TheVariants.{Did}
 use Rattle.quiesce_core.specs.Reach.{has_no_cycle}
 use Rattle.quiesce_core.specs.declared.event.Event.TheVariants.{Link}
 use Rattle.rows_gates.specs.Made.{LeadsTo, made_again, made_three, made_two}

@@ -3,9 +3,9 @@ use Rattle.std.specs.Prelude.{◌≡◌, ◌⊎◌, ℕ, List, [], ◌∷◌, �
 use Rattle.config_graph.specs.declared.kind.Kind.{Kind}
 use Rattle.config_graph.specs.declared.kind.Kind.TheVariants.{Source, Sink, Asker, Adder}
 use Rattle.config_graph.specs.declared.node.Node.{Node}
-use Rattle.gate_records.specs.declared.entry.Entry.{Entry}
-use Rattle.gate_records.specs.declared.entry.Entry.TheVariants.{Did, Looked}
-use Rattle.gate_rule.specs.declared.view.NodeView.{NodeView}
+use Rattle.txn_records.specs.declared.entry.Entry.{Entry}
+use Rattle.txn_records.specs.declared.entry.Entry.TheVariants.{Did, Looked}
+use Rattle.txn_law.specs.declared.view.NodeView.{NodeView}
 use Rattle.quiesce_core.specs.Knowledge.{nothing_known}
 use Rattle.quiesce_core.specs.declared.event.Event.TheVariants.{Close, Link, Make, Remove, Reopen, Unlink}
 

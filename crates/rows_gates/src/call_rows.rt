@@ -6,11 +6,11 @@ ghost use Rattle.txn_gate.specs.Seats.{IsSeatOf, table_of_node};
 use crate::row_systems::{close, line, look};
 use crate::seated::Seated;
 use crate::unfit::Unfit;
-use gate_records::Look;
-use port_gate::{BeginAnswer, CallAnswer, SeeAnswer, TakeAnswer};
+use node_gate::{BeginAnswer, CallAnswer, SeeAnswer, TakeAnswer};
 use std::process::Abort;
 use std::test::Fail;
 use txn_gate::Gates;
+use txn_records::Look;
 
 /// The source begins, and the map takes the request up and calls the sink in its service.
 fn call_on(rt: &impl Abort, gates: &Gates, m: &mut Seated, s: &mut Seated) -> Result<(), Unfit>

@@ -7,7 +7,7 @@ ghost use Rattle.txn_gate.specs.Seats.{IsSeatOf, table_of_node};
 use crate::seated::Seated;
 use crate::unfit::Unfit;
 use config_graph::VALUE_LIMIT;
-use port_gate::{BeginAnswer, SeeAnswer, TakeAnswer};
+use node_gate::{BeginAnswer, SeeAnswer, TakeAnswer};
 use std::sync::Wait;
 use std::thread;
 use txn_gate::Gates;

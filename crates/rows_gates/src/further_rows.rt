@@ -1,15 +1,15 @@
 //! Rows of an asker and an adder at the gates, and the calls by which messages within a transaction go to and fro.
 
 ghost use Rattle.std.specs.Prelude.{◌≡◌, IfErr};
-ghost use Rattle.gate_rule.specs.Views.{node_at};
-ghost use Rattle.port_gate.specs.Seats.{MayAsk, MayHear, MaySendMore};
+ghost use Rattle.txn_law.specs.Views.{node_at};
+ghost use Rattle.node_gate.specs.Seats.{MayAsk, MayHear, MaySendMore};
 ghost use Rattle.txn_gate.specs.Seats.{IsSeatOf, node_in, table_of_node};
 
 use crate::seated::Seated;
 use crate::systems::{node, open_two};
 use crate::unfit::Unfit;
 use config_graph::{Kind, VALUE_LIMIT};
-use port_gate::{HearAnswer, SeeAnswer, TakeAnswer};
+use node_gate::{HearAnswer, SeeAnswer, TakeAnswer};
 use std::process::Abort;
 use std::test::Fail;
 use txn_gate::Gates;

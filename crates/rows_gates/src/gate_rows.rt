@@ -8,11 +8,11 @@ use crate::seated::Seated;
 use crate::systems::{node, open_two, pipe, reopen};
 use crate::unfit::Unfit;
 use config_graph::Kind;
-use gate_records::Look;
-use port_gate::{BeginAnswer, SeeAnswer, TakeAnswer};
+use node_gate::{BeginAnswer, SeeAnswer, TakeAnswer};
 use std::process::Abort;
 use std::test::Fail;
 use txn_gate::Gates;
+use txn_records::Look;
 
 /// The word of a port that was never made, or never linked and reopened.
 const CLOSED: u64 = 0x8000_0000_0000_0000;

@@ -3,9 +3,9 @@
 
 ghost use Rattle.std.specs.Prelude.{◌≡◌, ◌≤◌, ◌↔◌, ℕ, [], false, length, IfOk, IfErr, IsTrue};
 ghost use Rattle.config_graph.specs.declared.kind.Kind.TheVariants as kind;
-ghost use Rattle.gate_records.specs.Entries.{config_of};
-ghost use Rattle.gate_records.specs.Records.{AreAllNoted};
-ghost use Rattle.gate_rule.specs.Merging.{MergeIntoRun};
+ghost use Rattle.txn_records.specs.Entries.{config_of};
+ghost use Rattle.txn_records.specs.Records.{AreAllNoted};
+ghost use Rattle.txn_law.specs.Merging.{MergeIntoRun};
 ghost use Rattle.quiesce_core.specs.Rules.{is_live_port};
 ghost use Rattle.rows_gates.specs.Made.{made_three, opened_two};
 ghost use Rattle.txn_gate.specs.Seats.{IsChangeSeatOf, IsSeatOf, collected_in, node_in, record_of, table_of_change, table_of_node};
@@ -14,9 +14,9 @@ use crate::seated::Seated;
 use crate::systems::{make, make_two, node, reopen};
 use crate::unfit::{Unfit, Unmade};
 use config_graph::{Kind, Node};
-use gate_records::Look;
 use std::alloc::Global;
 use txn_gate::{ChangeSeat, Gates};
+use txn_records::Look;
 
 /// Makes the first three nodes.
 fn make_three(

@@ -3,14 +3,14 @@
 
 ghost use Rattle.std.specs.Prelude.{◌≡◌, ◌<◌, ◌↔◌, IfOk, IfErr, IsTrue, slice_index_or};
 ghost use Rattle.quiesce_core.specs.Knowledge.{port_at_start};
-ghost use Rattle.gate_rule.specs.Views.{node_at};
-ghost use Rattle.port_gate.specs.Seats as seats;
-ghost use Rattle.port_gate.specs.Seats.{HasEndedCalls, IsOwn, MayBegin, MayCall, MayEnd, MayGive, MaySee, MayTake};
+ghost use Rattle.txn_law.specs.Views.{node_at};
+ghost use Rattle.node_gate.specs.Seats as seats;
+ghost use Rattle.node_gate.specs.Seats.{HasEndedCalls, IsOwn, MayBegin, MayCallAt, MayEnd, MayGive, MaySee, MayTake};
 ghost use Rattle.txn_gate.specs.Seats.{IsSeatOf, node_in, table_of_node};
 
 use crate::unfit::Unfit;
 use config_graph::{Kind, MAX_PORTS, VALUE_LIMIT, kinds_are_small};
-use port_gate::{BeginAnswer, CallAnswer, SeeAnswer, TakeAnswer};
+use node_gate::{BeginAnswer, CallAnswer, SeeAnswer, TakeAnswer};
 use quiesce_core::{Known, PortKnown};
 use txn_gate::{Gates, NodeSeat};
 
@@ -75,7 +75,7 @@ impl Seated {
     pub fn call(&mut self, gates: &Gates, port: u32, value: u32) -> Result<CallAnswer, Unfit>
         requires here { IsSeatOf self.old.seat gates.now }
         ensures here { table_of_node self.new.seat ≡ table_of_node self.old.seat }
-        ensures unfit { IfErr result (λ _. (MayCall (node_at (node_in self.old.seat)) self.old.seat.known
+        ensures unfit { IfErr result (λ _. (MayCallAt (node_at (node_in self.old.seat)) self.old.seat.known
             port value → ⊥) × (self.new ≡ self.old)) }
     {
         let known = self.port_known(port)?;

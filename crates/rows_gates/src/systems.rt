@@ -3,8 +3,8 @@
 
 ghost use Rattle.std.specs.Prelude.{◌≡◌, ℕ, false, [], ◌∷◌, ◌++◌, ◌<◌, length, true, IfOk, IfErr, IsTrue};
 ghost use Rattle.std.specs.Option.{option_map_or};
-ghost use Rattle.gate_records.specs.Entries.{config_of};
-ghost use Rattle.gate_records.specs.declared.entry.Entry.TheVariants.{Did};
+ghost use Rattle.txn_records.specs.Entries.{config_of};
+ghost use Rattle.txn_records.specs.declared.entry.Entry.TheVariants.{Did};
 ghost use Rattle.quiesce_core.specs.Legal.{CanMake};
 ghost use Rattle.quiesce_core.specs.Rules.{can_move, is_live_port, is_path_taken};
 ghost use Rattle.quiesce_core.specs.declared.event.Event.TheVariants as event;

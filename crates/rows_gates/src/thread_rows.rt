@@ -8,13 +8,13 @@ use crate::row_systems::{close, finish_two, look};
 use crate::seated::Seated;
 use crate::systems::{pipe, reopen};
 use crate::unfit::Unfit;
-use gate_records::Look;
 use std::sync::Wait;
 use std::sync::atomic::{AtomicBool, Ordering};
 use std::test::Fail;
 use std::thread;
 use std::thread::Threads;
 use txn_gate::{ChangeSeat, Gates};
+use txn_records::Look;
 
 const TIMES: u32 = 100_000;
 

@@ -2,7 +2,7 @@
 
 ghost use Rattle.std.specs.Prelude.{◌≡◌, ◌≢◌, ◌≤◌, ℕ, true, false, IfOk, OnOk};
 ghost use Rattle.node_host.specs.Hosted.{node_of};
-ghost use Rattle.port_gate.specs.Core.{FitsCore, node_at};
+ghost use Rattle.node_gate.specs.Core.{FitsCore, node_at};
 ghost use Rattle.quiesce_core.specs.Knowledge.{nothing_known};
 ghost use Rattle.quiesce_core.specs.Runs.{Step, is_doer};
 ghost use Rattle.quiesce_core.specs.State.{is_live};
@@ -14,8 +14,8 @@ use crate::steps::shows;
 use base::Text;
 use component_trait::{Component, VALUE_LIMIT};
 use config_graph::{Kind, NoMemory, Node};
+use node_gate::{CoreGate, CoreSeat, seats_of_live_nodes_fit};
 use node_host::{HostNode, Turn};
-use port_gate::{CoreGate, CoreSeat, seats_of_live_nodes_fit};
 use port_queue::PlainHints;
 use quiesce_core::{Core, Event};
 use state_handover::{AnyNode, make};

@@ -2,8 +2,8 @@
 
 ghost use Rattle.std.specs.Prelude.{◌≤◌, length};
 
-use change_script::report_text;
-use report_parser::{MAX_REPORT, ReportFault, parse_report};
+use report_texts::{MAX_REPORT, ReportFault, parse_report};
+use report_writing::report_text;
 use std::alloc::Global;
 use std::process::Abort;
 use std::test::Fail;

@@ -1,11 +1,12 @@
 //! Rows of `report_text`: each line of a report, and whole reports.
 
 ghost use Rattle.std.specs.Prelude.{IfOk};
-ghost use Rattle.change_script.specs.Reports.{LogsAreMade};
+ghost use Rattle.report_writing.specs.Reports.{LogsAreMade};
 
-use change_script::{HistoryLine, Last, NodeLog, Report, report_text};
 use config_graph::{Graph, Kind, List, Node, Text};
 use quiesce_core::{Core, Event};
+use report_types::{HistoryLine, Last, NodeLog, Report};
+use report_writing::report_text;
 use std::alloc::Global;
 use std::process::Abort;
 use std::test::Fail;

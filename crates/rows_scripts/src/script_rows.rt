@@ -3,9 +3,10 @@
 
 ghost use Rattle.std.specs.Prelude.{◌≤◌, length};
 
-use change_script::{Body, MAX_STATEMENTS, ScriptError, parse_script};
+use change_script::{MAX_STATEMENTS, ScriptError, parse_script};
 use config_graph::Text;
 use darwin_lexer::MAX_TEXT;
+use report_types::Body;
 use std::alloc::Global;
 use std::process::Abort;
 use std::test::Fail;

@@ -3,7 +3,7 @@
 use crate::descriptions::{BANK, LINE};
 use crate::running::{AMPLE, STEP, words_of};
 use cfg_io::{MemShelf, MemSink};
-use darwin_commands::{Status, still};
+use command_program::{Status, still};
 use std::alloc::Global;
 use std::process::Abort;
 use std::test::Fail;

@@ -1,7 +1,7 @@
 //! How a row is run.
 
 use cfg_io::{MemShelf, MemSink};
-use darwin_commands::still;
+use command_program::still;
 use std::alloc::Global;
 use std::process::Abort;
 use std::test::Fail;

@@ -7,20 +7,20 @@ use Rattle.std.proofs.lemmas.List.Elements.{All-weaker}
 use Rattle.std.proofs.lemmas.List.FromFn.{length-map-range_with_len}
 use Rattle.std.proofs.lemmas.Option.{slice_get-get_or}
 use Rattle.change_board.specs.Collecting.{IsEndOf, first_undone, heir_of}
-use Rattle.gate_records.specs.Entries.{config_of}
-use Rattle.gate_records.specs.declared.entry.Entry.{Entry}
-use Rattle.gate_records.specs.Records.{Adds}
+use Rattle.txn_records.specs.Entries.{config_of}
+use Rattle.txn_records.specs.declared.entry.Entry.{Entry}
+use Rattle.txn_records.specs.Records.{Adds}
 use Rattle.change_board.specs.Scans.{SightsAll, all_ports, is_idle_if_live, is_seen_at_rest, live_nodes, look_entry, ports_of, scan_entries}
 use Rattle.change_board.specs.Sights.{Sight, is_seen_done, seen_in, sight_entry}
 use Rattle.change_law.specs.Lawful.{EndsAs}
 use Rattle.change_law.specs.Opening.{fold_of_node}
-use Rattle.change_script.specs.declared.report.NodeLog.{NodeLog}
+use Rattle.report_types.specs.declared.report.NodeLog.{NodeLog}
 use Rattle.quiesce_core.specs.Runs.{done_by}
 use Rattle.quiesce_core.specs.State.{State}
 use Rattle.quiesce_core.specs.declared.event.Event.{Event}
-use Rattle.turn_laws.specs.Reached.{IsReached}
-use Rattle.turns.specs.Round.{is_done, round}
-use Rattle.turns.specs.World.{World, state_of}
+use Rattle.node_turn_laws.specs.Reached.{IsReached}
+use Rattle.node_turn_laws.specs.Round.{is_done, round}
+use Rattle.node_turn_laws.specs.World.{World, state_of}
 use Rattle.step_board.specs.Agreeing.{config_at}
 use Rattle.step_board.specs.Going.{BrokeOff, GaveTurns, ShowsSome}
 use Rattle.step_board.specs.Playing.{played}

@@ -10,15 +10,15 @@ use Rattle.std.proofs.lemmas.List.FromFn.{length-map-range_with_len}
 use Rattle.base.proofs.PlaceLaws.{slice_get-there}
 use Rattle.change_board.specs.Collecting.{heir_of}
 use Rattle.change_law.specs.Lawful.{EndsAs}
-use Rattle.change_script.specs.declared.report.Last.TheVariants as last
-use Rattle.change_script.specs.declared.report.NodeLog.{NodeLog}
+use Rattle.report_types.specs.declared.report.Last.TheVariants as last
+use Rattle.report_types.specs.declared.report.NodeLog.{NodeLog}
 use Rattle.component_trait.specs.States.{NodeState}
 use Rattle.quiesce_core.specs.Runs.{done_by}
 use Rattle.quiesce_core.specs.State.{State}
 use Rattle.quiesce_core.specs.declared.event.Event.{Event}
-use Rattle.turn_laws.proofs.ReachedLaws.{holds_where_reached}
-use Rattle.turn_laws.specs.Reached.{IsReached}
-use Rattle.turns.specs.World.{World, state_of}
+use Rattle.node_turn_laws.proofs.ReachedLaws.{holds_where_reached}
+use Rattle.node_turn_laws.specs.Reached.{IsReached}
+use Rattle.node_turn_laws.specs.World.{World, state_of}
 use Rattle.step_board.specs.Going.{ShowsSome}
 use Rattle.step_board.specs.Standing.{AreLogs}
 use Rattle.step_board.proofs.TurnLemmas.{range_more}

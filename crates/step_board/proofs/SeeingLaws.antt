@@ -14,9 +14,9 @@ use Rattle.quiesce_core.specs.Runs.{done_by, state_after}
 use Rattle.quiesce_core.specs.State.{Configuration, State}
 use Rattle.quiesce_core.specs.Words.{word_of}
 use Rattle.quiesce_core.specs.declared.event.Event.{Event}
-use Rattle.turn_laws.specs.Reached.{IsReached}
-use Rattle.turns.specs.Round.{is_done}
-use Rattle.turns.specs.World.{World, state_of}
+use Rattle.node_turn_laws.specs.Reached.{IsReached}
+use Rattle.node_turn_laws.specs.Round.{is_done}
+use Rattle.node_turn_laws.specs.World.{World, state_of}
 use Rattle.step_board.specs.Seeing.{found_at, sight_of, sights_of}
 use Rattle.change_law.specs.Opening.{fold_of_node}
 use Rattle.step_board.specs.RunFacts.{machine_is}

@@ -5,11 +5,11 @@ use Rattle.std.specs.List.{range_with_len}
 use Rattle.std.proofs.lemmas.List.{append-nil}
 use Rattle.base.proofs.EachLaws.{each_joined}
 use Rattle.base.specs.Each.{EachAfter}
-use Rattle.gate_records.proofs.NoteLaws.{may_is_allowed}
-use Rattle.gate_records.specs.Entries.{config_of}
-use Rattle.gate_records.specs.declared.entry.Entry.{Entry}
-use Rattle.gate_records.specs.declared.entry.Entry.TheVariants.{Did, Looked, Scanned}
-use Rattle.gate_records.specs.Records.{Adds, May, events}
+use Rattle.txn_records.proofs.NoteLaws.{may_is_allowed}
+use Rattle.txn_records.specs.Entries.{config_of}
+use Rattle.txn_records.specs.declared.entry.Entry.{Entry}
+use Rattle.txn_records.specs.declared.entry.Entry.TheVariants.{Did, Looked, Scanned}
+use Rattle.txn_records.specs.Records.{Adds, May, events}
 use Rattle.config_graph.specs.declared.node.Node.{Node}
 use Rattle.quiesce_core.specs.Doers.{is_of_change}
 use Rattle.quiesce_core.specs.Rules.{denial}
@@ -18,8 +18,8 @@ use Rattle.quiesce_core.specs.State.{Configuration, State}
 use Rattle.quiesce_core.specs.Words.{word_of}
 use Rattle.quiesce_core.specs.declared.event.Event.{Event}
 use Rattle.quiesce_core.specs.declared.event.Event.TheVariants.{Make}
-use Rattle.turns.specs.Round.{round}
-use Rattle.turns.specs.World.{World, with_event}
+use Rattle.node_turn_laws.specs.Round.{round}
+use Rattle.node_turn_laws.specs.World.{World, with_event}
 use Rattle.step_board.specs.Going.{GaveTurns}
 use Rattle.step_board.specs.Playing.{HasWholeRounds, IsSoAt, IsSoIn, play, played}
 use Rattle.step_board.specs.Standing.{AreParts, StandsFor}

@@ -15,9 +15,9 @@ use Rattle.change_board.specs.Collecting.{heir_of, took_over}
 use Rattle.quiesce_core.proofs.SourceLaws.{sources_are_gone}
 use Rattle.quiesce_core.specs.State.{Configuration, State, is_live, slot}
 use Rattle.quiesce_core.specs.declared.state.Slot.{Slot}
-use Rattle.turn_laws.proofs.ReachedLaws.{holds_where_reached}
-use Rattle.turn_laws.specs.Reached.{IsReached}
-use Rattle.turns.specs.World.{World}
+use Rattle.node_turn_laws.proofs.ReachedLaws.{holds_where_reached}
+use Rattle.node_turn_laws.specs.Reached.{IsReached}
+use Rattle.node_turn_laws.specs.World.{World}
 
 -- some node took over the state of node k
 abbrev pub IsTakenOver : Configuration → ℕ → Type 0

@@ -9,9 +9,9 @@ use Rattle.std.proofs.lemmas.List.Elements.{filter-append}
 use Rattle.std.proofs.lemmas.List.FromFn.{map-range_with_len_more}
 use Rattle.std.proofs.lemmas.List.Sums.{fold-append}
 use Rattle.quiesce_core.specs.State.{Configuration, is_live}
-use Rattle.turn_laws.specs.Reached.{IsReached}
-use Rattle.turns.specs.Round.{Round, give_turn}
-use Rattle.turns.specs.World.{World}
+use Rattle.node_turn_laws.specs.Reached.{IsReached}
+use Rattle.node_turn_laws.specs.Round.{Round, give_turn}
+use Rattle.node_turn_laws.specs.World.{World}
 use Rattle.step_board.specs.Going.{Gave, GaveTurnIfLive, ShowsSome, Went, WentOn, before_turns, live_below, turn_if_live, turns_below}
 use Rattle.step_board.specs.TurnFacts.{went_live, went_none}
 

@@ -4,9 +4,9 @@ use Rattle.std.specs.List.{range_with_len}
 use Rattle.quiesce_core.specs.Doers.{is_of_change}
 use Rattle.quiesce_core.specs.State.{is_live}
 use Rattle.quiesce_core.specs.declared.event.Event.{Event}
-use Rattle.turn_laws.specs.Reached.{IsReached}
-use Rattle.turns.specs.Round.{Round, give_turn, round}
-use Rattle.turns.specs.World.{World}
+use Rattle.node_turn_laws.specs.Reached.{IsReached}
+use Rattle.node_turn_laws.specs.Round.{Round, give_turn, round}
+use Rattle.node_turn_laws.specs.World.{World}
 
 -- further events of nodes, which the machine allowed; the configuration stands
 pub record WentOn (w v : World) : Type 0 where

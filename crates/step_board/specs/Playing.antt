@@ -2,14 +2,14 @@
 -- takes its turn, in the order of slots.
 use Rattle.std.specs.Prelude.{◌≡◌, true, List, None, fold}
 use Rattle.base.specs.Each.{Each}
-use Rattle.gate_records.specs.declared.entry.Entry.{Entry}
-use Rattle.gate_records.specs.declared.entry.Entry.TheVariants.{Did, Looked, Sighted, Scanned}
+use Rattle.txn_records.specs.declared.entry.Entry.{Entry}
+use Rattle.txn_records.specs.declared.entry.Entry.TheVariants.{Did, Looked, Sighted, Scanned}
 use Rattle.quiesce_core.specs.Doers.{is_of_change}
 use Rattle.quiesce_core.specs.Rules.{denial}
 use Rattle.quiesce_core.specs.Runs.{done_by}
 use Rattle.quiesce_core.specs.Words.{word_of}
-use Rattle.turns.specs.Round.{round}
-use Rattle.turns.specs.World.{World, nowhere, with_event}
+use Rattle.node_turn_laws.specs.Round.{round}
+use Rattle.node_turn_laws.specs.World.{World, nowhere, with_event}
 
 abbrev pub play : World → Entry → World
 play w (Did e) = with_event w e

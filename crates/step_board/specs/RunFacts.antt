@@ -7,11 +7,11 @@ use Rattle.std.proofs.lemmas.List.Elements.{All-head, All-tail, filter_map-appen
 use Rattle.std.proofs.lemmas.List.Sums.{fold_push}
 use Rattle.base.proofs.EachLaws.{each_pushed}
 use Rattle.base.specs.Each.{EachAfter}
-use Rattle.gate_records.proofs.RecordLaws.{config_is, did_more, node_more, quiet_events, seen_more}
-use Rattle.gate_records.specs.Entries.{config_of, event_in}
-use Rattle.gate_records.specs.declared.entry.Entry.{Entry}
-use Rattle.gate_records.specs.declared.entry.Entry.TheVariants.{Did, Looked, Sighted, Scanned}
-use Rattle.gate_records.specs.Records.{IsRecordCut, IsRecordOf, IsSo, Moment, by_node, entry, event_at, events, state_at}
+use Rattle.txn_records.proofs.RecordLaws.{config_is, did_more, node_more, quiet_events, seen_more}
+use Rattle.txn_records.specs.Entries.{config_of, event_in}
+use Rattle.txn_records.specs.declared.entry.Entry.{Entry}
+use Rattle.txn_records.specs.declared.entry.Entry.TheVariants.{Did, Looked, Sighted, Scanned}
+use Rattle.txn_records.specs.Records.{IsRecordCut, IsRecordOf, IsSo, Moment, by_node, entry, event_at, events, state_at}
 use Rattle.quiesce_core.proofs.RunLaws.{fronts_are_runs, runs_grow}
 use Rattle.quiesce_core.specs.Doers.{is_of_change}
 use Rattle.quiesce_core.specs.Rules.{denial}
@@ -20,10 +20,10 @@ use Rattle.quiesce_core.specs.State.{State}
 use Rattle.quiesce_core.specs.Words.{word_of}
 use Rattle.quiesce_core.specs.declared.event.Event.{Event}
 use Rattle.quiesce_core.specs.declared.event.Event.TheVariants.{Begin, Call, Take, Give, End, More, Ask, Hear, Miss, Close, Reopen, Make, Link, Unlink, Remove}
-use Rattle.turn_laws.proofs.ReachedLaws.{holds_where_reached}
-use Rattle.turn_laws.specs.Reached.{IsReached}
-use Rattle.turns.specs.Round.{round}
-use Rattle.turns.specs.World.{World, nowhere, with_event}
+use Rattle.node_turn_laws.proofs.ReachedLaws.{holds_where_reached}
+use Rattle.node_turn_laws.specs.Reached.{IsReached}
+use Rattle.node_turn_laws.specs.Round.{round}
+use Rattle.node_turn_laws.specs.World.{World, nowhere, with_event}
 use Rattle.step_board.specs.Going.{WentOn}
 use Rattle.step_board.specs.Playing.{HasWholeRounds, IsSoAt, IsSoIn, play, played}
 use Rattle.step_board.specs.TurnFacts.{went_live, went_none}

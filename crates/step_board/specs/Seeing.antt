@@ -6,8 +6,8 @@ use Rattle.change_board.specs.Sights.{Sight}
 use Rattle.quiesce_core.specs.State.{State}
 use Rattle.quiesce_core.specs.Words.{word_of}
 use Rattle.quiesce_core.specs.declared.event.Event.{Event}
-use Rattle.turns.specs.Round.{is_done}
-use Rattle.turns.specs.World.{World}
+use Rattle.node_turn_laws.specs.Round.{is_done}
+use Rattle.node_turn_laws.specs.World.{World}
 
 abbrev pub found_at : State → ℕ → Found
 found_at s p = record { port = p; word = word_of s p }

@@ -2,17 +2,17 @@
 use Rattle.std.specs.Prelude.{◌≡◌, List, map, length, All}
 use Rattle.std.specs.List.{range_with_len}
 use Rattle.change_board.specs.Collecting.{heir_of}
-use Rattle.gate_records.specs.Entries.{config_of}
-use Rattle.gate_records.specs.declared.entry.Entry.{Entry}
-use Rattle.gate_records.specs.Records.{IsRecordOf, Moment, events}
+use Rattle.txn_records.specs.Entries.{config_of}
+use Rattle.txn_records.specs.declared.entry.Entry.{Entry}
+use Rattle.txn_records.specs.Records.{IsRecordOf, Moment, events}
 use Rattle.change_law.specs.Lawful.{EndsAs}
-use Rattle.change_script.specs.declared.report.NodeLog.{NodeLog}
+use Rattle.report_types.specs.declared.report.NodeLog.{NodeLog}
 use Rattle.quiesce_core.specs.Runs.{done_by}
 use Rattle.quiesce_core.specs.State.{State}
 use Rattle.quiesce_core.specs.declared.event.Event.{Event}
 use Rattle.step_board.specs.Going.{WentOn}
 use Rattle.step_board.specs.Playing.{HasWholeRounds, played}
-use Rattle.turns.specs.World.{World, state_of}
+use Rattle.node_turn_laws.specs.World.{World, state_of}
 
 -- the record is of rounds, and the nodes are as in the world behind it
 pub record StandsFor {B : Type 0} (S : B → World → Type 0) (b : B) (r : List Entry) : Type 0 where
@@ -20,7 +20,7 @@ pub record StandsFor {B : Type 0} (S : B → World → Type 0) (b : B) (r : List
   pub shows : S b (played r)
 
 -- they are as in a world to which nodes went on behind it
-pub record StandsBehind {B : Type 0} (S : B → World → Type 0) (b : B) (r : List Entry) : Type 0 where
+pub record StandsBehindRounds {B : Type 0} (S : B → World → Type 0) (b : B) (r : List Entry) : Type 0 where
   pub rounds : HasWholeRounds r
   pub world : World
   pub went_on : WentOn (played r) world

@@ -13,8 +13,8 @@ use Rattle.quiesce_core.specs.Runs.{done_by}
 use Rattle.quiesce_core.specs.State.{State}
 use Rattle.quiesce_core.specs.declared.event.Event.{Event}
 use Rattle.state_handover.specs.declared.any_node.AnyNode.{AnyNode}
-use Rattle.turn_laws.specs.Reached.{IsReached}
-use Rattle.turns.specs.World.{World}
+use Rattle.node_turn_laws.specs.Reached.{IsReached}
+use Rattle.node_turn_laws.specs.World.{World}
 
 -- the event of a turn that moved
 abbrev pub event_in : Turn → Option Event

@@ -7,13 +7,13 @@ use Rattle.quiesce_core.proofs.RunLaws.{node_events_keep_the_configuration}
 use Rattle.quiesce_core.specs.Doers.{is_of_change}
 use Rattle.quiesce_core.specs.State.{Configuration, is_live}
 use Rattle.quiesce_core.specs.declared.event.Event.{Event}
-use Rattle.turn_laws.proofs.ReachedLaws.{turn_goes_on}
-use Rattle.turn_laws.specs.Reached.{IsReached}
-use Rattle.turns.proofs.TurnLaws.{turns_do}
-use Rattle.turns.specs.Hints.{after_move}
-use Rattle.turns.specs.Round.{Round, give_turn}
-use Rattle.turns.specs.Turn.{turn}
-use Rattle.turns.specs.World.{World}
+use Rattle.node_turn_laws.proofs.ReachedLaws.{turn_goes_on}
+use Rattle.node_turn_laws.specs.Reached.{IsReached}
+use Rattle.node_turn_laws.proofs.TurnLaws.{turns_do}
+use Rattle.node_turn_laws.specs.Hints.{after_move}
+use Rattle.node_turn_laws.specs.Round.{Round, give_turn}
+use Rattle.node_turn_laws.specs.Turn.{turn}
+use Rattle.node_turn_laws.specs.World.{World}
 use Rattle.step_board.specs.Going.{WentOn}
 
 pub went_none : (w : World) → IsReached w → WentOn w w

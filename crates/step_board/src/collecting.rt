@@ -6,12 +6,12 @@ ghost use Rattle.change_law.specs.Lawful.{EndsAs};
 ghost use Rattle.step_board.specs.Going.{ShowsSome};
 ghost use Rattle.step_board.specs.Heirs.{AreHeirs, with_heir};
 ghost use Rattle.step_board.specs.Standing.{AreLogs};
-ghost use Rattle.turns.specs.World.{World, state_of};
+ghost use Rattle.node_turn_laws.specs.World.{World, state_of};
 
 use crate::copying::copy_log;
 use crate::nodes::Nodes;
-use change_script::{Last, NodeLog};
 use config_graph::{List, NoMemory};
+use report_types::{Last, NodeLog};
 use std::alloc::Global;
 
 /// Notes that the node in this slot took over the state of the source, unless one before it did.

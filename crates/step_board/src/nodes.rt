@@ -3,10 +3,10 @@
 ghost use Rattle.std.specs.Prelude.{◌≡◌, ◌<◌, ◌≤◌, ◌+◌, List, [], Option, None, Some, IfOk, OnErr, OnOk, IsTrue, length, map, option_and_then, option_map, slice_index_or};
 ghost use Rattle.std.specs.List.{range_with_len};
 ghost use Rattle.change_board.specs.Collecting.{heir_of};
-ghost use Rattle.change_board.specs.Steps.{HasRoom, Room, less_one};
+ghost use Rattle.change_board.specs.Steps.{HasRoomToMake, Room, less_one};
 ghost use Rattle.component_trait.specs.Moves as moves;
 ghost use Rattle.config_graph.specs.declared.TheConstants.{MAX_NODES};
-ghost use Rattle.gate_word.specs.Words.{FitsWord, unpack};
+ghost use Rattle.quiesce_word.specs.Words.{FitsWord, unpack};
 ghost use Rattle.quiesce_core.specs.Rules as rules;
 ghost use Rattle.quiesce_core.specs.Rules.{denial};
 ghost use Rattle.quiesce_core.specs.Runs.{done_by};
@@ -17,13 +17,13 @@ ghost use Rattle.quiesce_core.specs.declared.event.Event.{Event};
 ghost use Rattle.quiesce_core.specs.declared.event.Event.TheVariants as event;
 ghost use Rattle.quiesce_core.specs.declared.state.Slot.{Slot};
 ghost use Rattle.step_board.specs.Going.{GaveTurn, ShowsSome};
-ghost use Rattle.turn_laws.specs.Reached.{IsReached};
-ghost use Rattle.turns.specs.Round.{is_done};
-ghost use Rattle.turns.specs.World.{World, state_of, with_event};
+ghost use Rattle.node_turn_laws.specs.Reached.{IsReached};
+ghost use Rattle.node_turn_laws.specs.Round.{is_done};
+ghost use Rattle.node_turn_laws.specs.World.{World, state_of, with_event};
 
 use config_graph::{Made, NoMemory, Node};
-use gate_word::Word;
 use quiesce_core::Event;
+use quiesce_word::Word;
 use std::alloc::Global;
 
 /// The nodes of a system on one thread, with the change machine that they share. Contracts see which worlds they are:
@@ -139,7 +139,7 @@ pub trait Nodes {
     fn make(&mut self, node: Node, from: Option<u32>)
         requires may { (w : World) × shows self.old w
             × (denial w.machine (event.Make (length w.machine.config.slots) node from) ≡ None) }
-        requires room { HasRoom (room self.old) from }
+        requires room { HasRoomToMake (room self.old) from }
         ensures shows { (w : World) → shows self.old w
             → shows self.new (with_event w (event.Make (length w.machine.config.slots) node from)) }
         ensures room { room self.new ≡ less_one (room self.old) };

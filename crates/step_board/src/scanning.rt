@@ -1,18 +1,18 @@
 //! What a scan does: turns of the live nodes, and looks at all nodes and ports.
 
 ghost use Rattle.std.specs.Prelude.{◌≡◌, ◌+◌, ◌-◌, ◌*◌, ◌<◌, ◌≤◌, ◌^◌, ◌&&◌, IfOk, OnErr, is_none, length, if◌then◌else◌};
-ghost use Rattle.gate_word.specs.Phases.{is_idle};
+ghost use Rattle.quiesce_word.specs.Phases.{is_idle};
 ghost use Rattle.std.specs.List.{list_all};
-ghost use Rattle.gate_records.specs.Looks.{ended_in_word};
+ghost use Rattle.txn_records.specs.Looks.{ended_in_word};
 ghost use Rattle.change_board.specs.Scans.{ended_in, is_idle_if_live};
 ghost use Rattle.quiesce_core.specs.Words.{word_of};
 ghost use Rattle.step_board.specs.Going.{BrokeOff, GaveTurnIfLive, GaveTurns, ShowsSome};
 ghost use Rattle.step_board.specs.Seeing.{first_undone_in, found_all, found_at};
-ghost use Rattle.turns.specs.World.{World};
+ghost use Rattle.node_turn_laws.specs.World.{World};
 
 use crate::nodes::Nodes;
 use config_graph::NoMemory;
-use gate_word::Word;
+use quiesce_word::Word;
 
 /// Gives the node in this slot a turn, if it is live. Tells whether it moved.
 fn give_turn<N: Nodes>(nodes: &mut N, slot: u32, begins: bool) -> Result<bool, NoMemory>

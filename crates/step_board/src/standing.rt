@@ -1,20 +1,20 @@
 //! The board that stands on nodes of one thread.
 
 ghost use Rattle.std.specs.Prelude.{true, List, []};
-ghost use Rattle.gate_records.specs.declared.entry.Entry.{Entry};
+ghost use Rattle.txn_records.specs.declared.entry.Entry.{Entry};
 ghost use Rattle.step_board.specs.Going.{ShowsSome};
-ghost use Rattle.step_board.specs.Standing.{AreOfRounds, AreParts, StandsBehind, StandsFor};
+ghost use Rattle.step_board.specs.Standing.{AreOfRounds, AreParts, StandsBehindRounds, StandsFor};
 ghost use Rattle.step_board.specs.Agreeing as agreeing;
-ghost use Rattle.turns.specs.World.{nowhere};
+ghost use Rattle.node_turn_laws.specs.World.{nowhere};
 
 use crate::collecting::collect_logs;
 use crate::nodes::Nodes;
 use crate::scanning::{first_undone, give_turns, look_at_ports, rests};
 use change_board::{Board, Collected, Scan};
+use change_round_laws::states_are_folds_of_own_events;
 use config_graph::{List, NoMemory, Node};
-use gate_records::Look;
-use report_laws::states_are_folds_of_own_events;
 use std::alloc::Global;
+use txn_records::Look;
 
 /// A board that stands on nodes of one thread, and gets every one of them: in a scan each live node has one turn, in
 /// the order of slots. It stands for a record where playing the record by such rounds leads to what the nodes are.
@@ -53,7 +53,7 @@ impl<N: Nodes + Drop> Board for StepBoard<N> {
 
     ghost taken = { λ b. N.logs b.nodes };
 
-    ghost broke_off = { λ b r. StandsBehind N.shows b.nodes r };
+    ghost broke_off = { λ b r. StandsBehindRounds N.shows b.nodes r };
 
     ghost alone = { true };
 

@@ -10,11 +10,11 @@ use crate::standing::StepBoard;
 use change_board::Board;
 use component_trait::Component;
 use config_graph::{Made, NoMemory, Node};
-use gate_word::Word;
 use node_host::Turn;
 use node_table::NodeTable;
 use port_queue::{Hints, PlainHints};
 use quiesce_core::Event;
+use quiesce_word::Word;
 use state_handover::AnyNode;
 use std::alloc::Global;
 

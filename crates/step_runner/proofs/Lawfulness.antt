@@ -2,26 +2,26 @@
 use Rattle.std.proofs.Common.{◌≡◌, ◌∙◌, Bool, true, List, length, map, sym, ap, subst}
 use Rattle.std.specs.Prelude.{All}
 use Rattle.quiesce_core.specs.State.{Configuration}
-use Rattle.change_script.specs.declared.report.Report.{Report}
+use Rattle.report_types.specs.declared.report.Report.{Report}
 use Rattle.change_law.specs.Lawful.{IsLawfulBy}
 use Rattle.change_law.specs.Members.{Member}
 use Rattle.change_law.specs.Serial.{Serial}
 use Rattle.change_law.specs.Statements.{Statement}
 use Rattle.change_board.specs.Collecting.{IsEndOf, first_undone}
 use Rattle.change_board.specs.declared.board.Board.{Ghosts as BoardWords}
-use Rattle.gate_records.specs.Records.{IsRecordOf, Moment}
+use Rattle.txn_records.specs.Records.{IsRecordOf, Moment}
 use Rattle.change_board.specs.Transcripts.{Item, entries}
 use Rattle.change_engine.specs.Ending.{unfinished_after}
-use Rattle.headline_laws.specs.Joining.{AreJoined}
-use Rattle.headline_laws.specs.Pieces.{IsTranscript, config_at}
-use Rattle.headline_laws.specs.Reports.{IsReport, taken_in}
-use Rattle.headline_laws.proofs.LawfulLaws.{join}
-use Rattle.script_runner.specs.Ran.{HasCarriedOut}
+use Rattle.change_transcript_laws.specs.Joining.{AreJoined}
+use Rattle.change_transcript_laws.specs.Pieces.{IsTranscript, config_at}
+use Rattle.change_transcript_laws.specs.Reports.{IsReportOfTranscript, taken_in}
+use Rattle.change_transcript_laws.proofs.LawfulLaws.{join}
+use Rattle.change_runner.specs.Ran.{HasCarriedOut}
 use Rattle.step_board.specs.Standing.{AreOfRounds, AreParts}
 
 module _ {B : Type 0} (W : BoardWords B) (statements : List Statement) (report : Report) (board : B) (x : HasCarriedOut W statements report board)
     (parts : AreParts (entries x.transcript) (W.taken board)) where
-  is_report : IsReport x.transcript parts.moments report
+  is_report : IsReportOfTranscript x.transcript parts.moments report
   is_report = record {
     history_is = x.history_is;
     slots = x.slots;
@@ -32,7 +32,7 @@ module _ {B : Type 0} (W : BoardWords B) (statements : List Statement) (report :
   }
 
   pub lawful_by : ((alone : Bool) (statements : List Statement) (t : List Item) (m : List Moment) (members : List Member) (report : Report)
-      → IsTranscript alone statements t → AreJoined t m members → IsRecordOf (entries t) m → IsReport t m report → IsLawfulBy statements report members)
+      → IsTranscript alone statements t → AreJoined t m members → IsRecordOf (entries t) m → IsReportOfTranscript t m report → IsLawfulBy statements report members)
       → (members : List Member) × IsLawfulBy statements report members
   lawful_by law =
       let j = join x.transcript parts.moments parts.is_of in
@@ -42,7 +42,7 @@ module _ {B : Type 0} (W : BoardWords B) (statements : List Statement) (report :
 pub serial_by : {B : Type 0} (W : BoardWords B) (statements : List Statement) (report : Report) (board : B) (x : HasCarriedOut W statements report board) → W.alone ≡ true
     → AreParts (entries x.transcript) (W.taken board) → AreOfRounds (entries x.transcript) (W.taken board)
     → ((statements : List Statement) (t : List Item) (m : List Moment) (report : Report) → IsTranscript true statements t → AreOfRounds (entries t) (taken_in report)
-    → IsReport t m report → Serial statements report) → Serial statements report
+    → IsReportOfTranscript t m report → Serial statements report) → Serial statements report
 serial_by W statements report board x alone parts rounds law =
     law statements x.transcript parts.moments report (subst (λ one. IsTranscript one statements x.transcript) alone x.is_transcript)
     (subst (AreOfRounds (entries x.transcript)) (sym x.logs_are) rounds) (is_report W statements report board x parts)

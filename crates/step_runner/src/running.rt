@@ -5,16 +5,16 @@ ghost use Rattle.change_law.specs.Follows.{Follows};
 ghost use Rattle.change_law.specs.Lawful.{IsLawfulBy};
 ghost use Rattle.change_law.specs.Members.{Member};
 ghost use Rattle.change_law.specs.Serial.{Serial};
-ghost use Rattle.change_script.specs.Reports.{LogsAreMade};
-ghost use Rattle.script_steps.specs.Asked.{CanDoAll, CanStart, after_start, statements_of};
+ghost use Rattle.report_writing.specs.Reports.{LogsAreMade};
+ghost use Rattle.change_law.specs.Asked.{CanDoAll, CanStart, after_start, statements_of};
 
+use crate::reports_are_those_of_rounds;
 use change_board::Board;
-use change_script::Report;
+use change_law::{Start, Step};
+use change_runner::{NoOne, run_statements};
+use change_transcript_laws::joined_members_make_a_report_lawful;
 use config_graph::NoMemory;
-use headline_laws::joined_members_make_a_report_lawful;
-use script_runner::{NoOne, run_statements};
-use script_steps::{Start, Step};
-use serial_laws::reports_are_those_of_rounds;
+use report_types::Report;
 use std::alloc::Global;
 use step_board::{Nodes, StepBoard};
 

@@ -2,13 +2,13 @@
 use Rattle.std.proofs.Common.{◌≡◌, ◌∙◌, ℕ, ◌<◌, List, [], ◌∷◌, sym, ap, subst}
 use Rattle.atomic_table.specs.Table.{Allows, Joins, Splits, step}
 use Rattle.config_graph.specs.declared.TheConstants.{MAX_PORTS}
-use Rattle.gate_rule.specs.Merging.{AreAllAmong, Learns, Meets, Merges}
-use Rattle.gate_rule.specs.Steps.{IsChange, IsNode, Seat}
-use Rattle.gate_rule.specs.Views.{change_of, given_out, node_of, nobody, of_change, of_node, seat_again, with_seat, with_sight}
-use Rattle.gate_rule.specs.Traces.{Holds}
-use Rattle.gate_rule.specs.declared.view.NodeView.{NodeView}
-use Rattle.gate_rule.proofs.MergingLaws as merging
-use Rattle.gate_rule.proofs.SeatStepLaws as seat_
+use Rattle.txn_law.specs.Merging.{AreAllAmong, Learns, Meets, Merges}
+use Rattle.txn_law.specs.Steps.{IsChange, IsNode, Seat}
+use Rattle.txn_law.specs.Views.{change_of, given_out, node_of, nobody, of_change, of_node, seat_again, with_seat, with_sight}
+use Rattle.txn_law.specs.Traces.{Holds}
+use Rattle.txn_law.specs.declared.view.NodeView.{NodeView}
+use Rattle.txn_law.proofs.MergingLaws as merging
+use Rattle.txn_law.proofs.SeatStepLaws as seat_
 use mathlib.Core.Option.{none}
 
 module _ (id : ℕ) (me : Seat) (is : IsChange me) where

@@ -3,17 +3,17 @@ use Rattle.std.proofs.Common.{◌≡◌, ℕ, Bool, [], Some, sym, subst}
 use Rattle.std.specs.Prelude.{bit_xor}
 use Rattle.atomic_table.specs.Table.{Allows, step}
 use Rattle.config_graph.specs.declared.node.Target.{Target}
-use Rattle.gate_records.specs.Entries.{config_of}
-use Rattle.gate_records.specs.Records.{May}
-use Rattle.gate_records.specs.declared.entry.Entry.TheVariants.{Did}
-use Rattle.gate_word.specs.Operands.{link_difference}
+use Rattle.txn_records.specs.Entries.{config_of}
+use Rattle.txn_records.specs.Records.{May}
+use Rattle.txn_records.specs.declared.entry.Entry.TheVariants.{Did}
+use Rattle.quiesce_word.specs.Operands.{link_difference}
 use Rattle.quiesce_core.specs.State.{target}
 use Rattle.quiesce_core.specs.declared.event.Event.{Event}
 use Rattle.quiesce_core.specs.declared.event.Event.TheVariants.{Link, Unlink, Remove}
-use Rattle.gate_rule.specs.Steps.{IsChange, MarksScan, Seat, noted}
-use Rattle.gate_rule.specs.Views.{change_of, of_change}
-use Rattle.gate_rule.specs.Traces.{Holds}
-use Rattle.gate_rule.proofs.ChangeStepLaws as change_
+use Rattle.txn_law.specs.Steps.{IsChange, MarksScan, Seat, noted}
+use Rattle.txn_law.specs.Views.{change_of, of_change}
+use Rattle.txn_law.specs.Traces.{Holds}
+use Rattle.txn_law.proofs.ChangeStepLaws as change_
 use mathlib.Core.Option.{none}
 
 module _ (slots id : ℕ) (me : Seat) (is : IsChange me) where

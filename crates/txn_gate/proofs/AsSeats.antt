@@ -5,24 +5,24 @@ use Rattle.atomic_table.specs.Table.{Allows, Splits, step}
 use Rattle.config_graph.specs.declared.TheConstants.{MAX_PORTS}
 use Rattle.config_graph.specs.declared.node.Node.{Node}
 use Rattle.config_graph.specs.declared.node.Target.{Target}
-use Rattle.gate_word.specs.Operands.{call_difference, end_difference, message_difference}
-use Rattle.gate_word.specs.SlotWords.{pack_slot}
-use Rattle.gate_word.specs.Words.{FitsWord, is_missing, pack, unpack}
-use Rattle.gate_word.specs.declared.operands.TheConstants.{ALL_BUT_CLOSED, CLOSED}
-use Rattle.gate_word.specs.declared.phase.Phase.TheVariants as phase
-use Rattle.gate_records.specs.Entries.{config_of}
-use Rattle.gate_records.specs.Records.{May}
-use Rattle.gate_records.specs.declared.entry.Entry.TheVariants.{Did}
+use Rattle.quiesce_word.specs.Operands.{call_difference, end_difference, message_difference}
+use Rattle.quiesce_word.specs.SlotWords.{pack_slot}
+use Rattle.quiesce_word.specs.Words.{FitsWord, is_missing, pack, unpack}
+use Rattle.quiesce_word.specs.declared.operands.TheConstants.{ALL_BUT_CLOSED, CLOSED}
+use Rattle.quiesce_word.specs.declared.phase.Phase.TheVariants as phase
+use Rattle.txn_records.specs.Entries.{config_of}
+use Rattle.txn_records.specs.Records.{May}
+use Rattle.txn_records.specs.declared.entry.Entry.TheVariants.{Did}
 use Rattle.quiesce_core.specs.Rules.{last_serial}
 use Rattle.quiesce_core.specs.declared.event.Event.{Event}
 use Rattle.quiesce_core.specs.declared.event.Event.TheVariants.{Begin, Call, Give, End, More, Ask, Close, Reopen, Make}
-use Rattle.port_gate.specs.Seats.{MayAsk, MayBegin, MayCall, MayEnd, MayGive, MayHear, MaySee, MaySendMore, MayTake, port_known, serial_served, value_seen}
-use Rattle.gate_rule.specs.Steps.{Adopts, Begins, Hears, IsChange, IsNode, LoadsWord, LooksAt, LooksToCall, Seat, Sees, Takes, did, noted, value_served}
-use Rattle.gate_rule.specs.Views.{change_of, new_seat, node_at, node_of, of_change, of_node, without_seat}
-use Rattle.gate_rule.specs.Traces.{Holds}
-use Rattle.gate_rule.proofs.ChangeStepLaws as change_
-use Rattle.gate_rule.proofs.NodeStepLaws as node_
-use Rattle.gate_rule.proofs.SeatStepLaws as seat_
+use Rattle.node_gate.specs.Seats.{MayAsk, MayBegin, MayCallAt, MayEnd, MayGive, MayHear, MaySee, MaySendMore, MayTake, port_known, serial_served, value_seen}
+use Rattle.txn_law.specs.Steps.{Adopts, ExchangesFor, Hears, IsChange, IsNode, LoadsWord, LooksAt, LooksToCall, Seat, Sees, Takes, did, noted, value_served}
+use Rattle.txn_law.specs.Views.{change_of, new_seat, node_at, node_of, of_change, of_node, without_seat}
+use Rattle.txn_law.specs.Traces.{Holds}
+use Rattle.txn_law.proofs.ChangeStepLaws as change_
+use Rattle.txn_law.proofs.NodeStepLaws as node_
+use Rattle.txn_law.proofs.SeatStepLaws as seat_
 use mathlib.Core.Option.{none}
 use prog.Atomic.{either}
 
@@ -36,10 +36,10 @@ module _ (slots id : ℕ) (me : Seat) (is : IsNode me) where
   pub begins : (p v old new : ℕ) (e : Event) → e ≡ Begin p ((unpack old).serial + 1) v → MayBegin (node_at (node_of me.0)) (node_of me.0).known p v → (unpack old).closed ≡ false
       → (t : Target) → (unpack old).target ≡ Some t → (unpack old).serial < last_serial
       → new ≡ pack (record (unpack old) { phase = phase.Asked; serial = (unpack old).serial + 1; value = v; consequent = false })
-      → Allows Holds slots id me p (λ x. either (x == old) new x) (Begins e (step slots p old new none) me)
+      → Allows Holds slots id me p (λ x. either (x == old) new x) (ExchangesFor e (step slots p old new none) me)
   begins p v old new e event may opened t leads unspent asked =
-      as_node (λ m. Allows Holds slots id m p (λ x. either (x == old) new x) (Begins e (step slots p old new none) m))
-      (subst (λ (y : ℕ × Event). Allows Holds slots id (of_node (node_of me.0), []) p (λ x. either (x == old) y.0 x) (Begins y.1 (step slots p old y.0 none) (of_node (node_of me.0), []))) (λ i. (sym asked i, sym event i))
+      as_node (λ m. Allows Holds slots id m p (λ x. either (x == old) new x) (ExchangesFor e (step slots p old new none) m))
+      (subst (λ (y : ℕ × Event). Allows Holds slots id (of_node (node_of me.0), []) p (λ x. either (x == old) y.0 x) (ExchangesFor y.1 (step slots p old y.0 none) (of_node (node_of me.0), []))) (λ i. (sym asked i, sym event i))
       (node_.begins (node_of me.0) p v old may t opened leads unspent slots id))
 
   pub takes : (p : ℕ) → MayTake (node_of me.0).known p → Allows Holds slots id me p (λ x. x) (Takes (step slots p 0 0 none) me)
@@ -76,10 +76,10 @@ module _ (slots id : ℕ) (me : Seat) (is : IsNode me) where
   pub hears : (p : ℕ) → MayHear (node_of me.0).known p → Allows Holds slots id me p (λ x. x) (Hears (step slots p 0 0 none) me)
   hears p may = as_node (λ m. Allows Holds slots id m p (λ x. x) (Hears (step slots p 0 0 none) m)) (node_.hears slots id p (node_of me.0) may)
 
-  pub looks_to_call : (p v : ℕ) → MayCall (node_at (node_of me.0)) (node_of me.0).known p v → Allows Holds slots id me p (λ x. x) (LooksToCall (step slots p 0 0 none) me)
+  pub looks_to_call : (p v : ℕ) → MayCallAt (node_at (node_of me.0)) (node_of me.0).known p v → Allows Holds slots id me p (λ x. x) (LooksToCall (step slots p 0 0 none) me)
   looks_to_call p v may = as_node (λ m. Allows Holds slots id m p (λ x. x) (LooksToCall (step slots p 0 0 none) m)) (node_.looks_to_call (node_of me.0) p v may slots id)
 
-  pub calls : (p v word k : ℕ) (e : Event) → e ≡ Call p ((unpack word).serial + 1) v → k ≡ call_difference (unpack word) v → MayCall (node_at (node_of me.0)) (node_of me.0).known p v
+  pub calls : (p v word k : ℕ) (e : Event) → e ≡ Call p ((unpack word).serial + 1) v → k ≡ call_difference (unpack word) v → MayCallAt (node_at (node_of me.0)) (node_of me.0).known p v
       → (node_of me.0).loaded ≡ Some (record { port = p; word = word }) → FitsWord (unpack word) → is_missing (unpack word) ≡ false → Allows Holds slots id me p (λ x. bit_xor x k) (λ found new. new ≡ did me e)
   calls p v word k e event operand may was fit found_there = acts p k _ e _ event operand (node_.calls (node_of me.0) p v may word was fit found_there slots id)
 

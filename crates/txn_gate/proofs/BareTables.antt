@@ -9,13 +9,13 @@ use Rattle.std.proofs.lemmas.Option.{slice_get-map}
 use Rattle.base.proofs.OptionLaws.{map_or_at, map_or_true}
 use Rattle.base.proofs.PlaceLaws.{slice_get-map_at, slice_get-map_some}
 use Rattle.base.proofs.RangeLaws.{all_in_range, range_all}
-use Rattle.commit_laws.specs.Steps.{IsNoted}
+use Rattle.quiesce_commit_laws.specs.Steps.{IsNoted}
 use Rattle.config_graph.specs.Kinds.{depends_on, row}
 use Rattle.config_graph.specs.Wiring.{MayCall, Reach, direct, through}
 use Rattle.config_graph.specs.declared.node.Node.{Node}
 use Rattle.config_graph.specs.declared.node.Target.{Target}
 use Rattle.config_graph.proofs.KindLaws.{one_provision}
-use Rattle.gate_word.specs.Words.{FitsTarget}
+use Rattle.quiesce_word.specs.Words.{FitsTarget}
 use Rattle.quiesce_core.specs.Effect.{new_gates, with_node, with_removed}
 use Rattle.quiesce_core.specs.Reach.{IsPortOf, has_no_cycle, reaches, wiring_of}
 use Rattle.quiesce_core.specs.Rules.{has_provision, is_live_port}

@@ -4,10 +4,10 @@ use Rattle.std.specs.List.{list_any}
 use Rattle.std.proofs.lemmas.List.{append-nil}
 use Rattle.std.proofs.lemmas.List.Elements.{filter_map-append}
 use Rattle.std.proofs.lemmas.List.Sums.{fold_push}
-use Rattle.gate_records.specs.Entries.{config_of, event_in, events_in}
-use Rattle.gate_records.specs.Notes.{found_next}
-use Rattle.gate_records.specs.declared.entry.Entry.{Entry}
-use Rattle.gate_records.specs.declared.entry.Entry.TheVariants.{Scanned}
+use Rattle.txn_records.specs.Entries.{config_of, event_in, events_in}
+use Rattle.txn_records.specs.Notes.{found_next}
+use Rattle.txn_records.specs.declared.entry.Entry.{Entry}
+use Rattle.txn_records.specs.declared.entry.Entry.TheVariants.{Scanned}
 use Rattle.txn_gate.specs.TablesOf.{IsTableOf, bare, note_of}
 use Rattle.txn_gate.specs.Tabled.{Tabled}
 use Rattle.txn_gate.proofs.Sighted.{config_seen}

@@ -6,9 +6,9 @@ use Rattle.std.proofs.lemmas.List.{length-map}
 use Rattle.config_graph.specs.Kinds.{row}
 use Rattle.config_graph.specs.declared.TheConstants.{MAX_NODES, MAX_PORTS}
 use Rattle.config_graph.specs.declared.node.Node.{Node}
-use Rattle.gate_records.specs.Entries.{config_of}
-use Rattle.gate_records.specs.declared.entry.Entry.{Entry}
-use Rattle.gate_records.specs.declared.entry.Entry.TheVariants.{Did, Sighted}
+use Rattle.txn_records.specs.Entries.{config_of}
+use Rattle.txn_records.specs.declared.entry.Entry.{Entry}
+use Rattle.txn_records.specs.declared.entry.Entry.TheVariants.{Did, Sighted}
 use Rattle.quiesce_core.specs.Effect.{change_next}
 use Rattle.quiesce_core.specs.Legal.{CanMake}
 use Rattle.quiesce_core.specs.Links.{HasRoomForAll, KeepsCapacity}
@@ -18,7 +18,7 @@ use Rattle.quiesce_core.specs.declared.event.Event.{Event}
 use Rattle.quiesce_core.specs.declared.links.Links.{Links}
 use Rattle.txn_gate.specs.TablesOf.{IsTableOf, bare, bare_slot}
 use Rattle.txn_gate.specs.Tabled.{Tabled}
-use Rattle.gate_records.proofs.EntryLaws.{config_did, config_sighted}
+use Rattle.txn_records.proofs.EntryLaws.{config_did, config_sighted}
 use Rattle.txn_gate.proofs.NotingTables.{noted_sighted}
 
 -- tables of a record are those of the record with a sight more

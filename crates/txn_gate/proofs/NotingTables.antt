@@ -8,14 +8,14 @@ use Rattle.std.proofs.lemmas.List.Elements.{filter_map-append}
 use Rattle.std.proofs.lemmas.List.Folds.{list_any-append}
 use Rattle.std.proofs.lemmas.List.Sums.{fold_push}
 use Rattle.config_graph.specs.declared.node.Node.{Node}
-use Rattle.gate_records.specs.Entries.{event_in, events_in}
-use Rattle.gate_records.specs.Looks.{is_drained_word}
-use Rattle.gate_records.specs.Notes.{found_next}
-use Rattle.gate_records.specs.declared.entry.Entry.{Entry}
-use Rattle.gate_records.specs.declared.entry.Entry.TheVariants.{Did, Looked, Sighted}
+use Rattle.txn_records.specs.Entries.{event_in, events_in}
+use Rattle.txn_records.specs.Looks.{is_drained_word}
+use Rattle.txn_records.specs.Notes.{found_next}
+use Rattle.txn_records.specs.declared.entry.Entry.{Entry}
+use Rattle.txn_records.specs.declared.entry.Entry.TheVariants.{Did, Looked, Sighted}
 use Rattle.quiesce_core.specs.declared.event.Event.{Event}
 use Rattle.quiesce_core.specs.declared.event.Event.TheVariants.{Close, Reopen, Make, Link, Unlink, Remove}
-use Rattle.quiescence_laws.specs.Events.{reopens}
+use Rattle.quiesce_laws.specs.Events.{reopens}
 use Rattle.txn_gate.specs.PortNotes.{fresh_note, note_in}
 use Rattle.txn_gate.specs.TablesOf.{note_of}
 use Rattle.txn_gate.specs.declared.port_notes.PortNote.{PortNote}

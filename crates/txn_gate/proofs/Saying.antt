@@ -6,11 +6,11 @@ use Rattle.std.proofs.lemmas.Bool.{and_parts, both_ways, eqb-true}
 use Rattle.base.proofs.OptionLaws.{map_or_at, map_or_true, option_map_some}
 use Rattle.config_graph.specs.Kinds.{row}
 use Rattle.config_graph.specs.declared.node.Target.{Target}
-use Rattle.gate_word.specs.Phases.{is_answered, is_asked, is_idle, is_in_more}
-use Rattle.gate_word.specs.Words.{FitsWord, is_message_to, unpack}
-use Rattle.gate_word.specs.declared.phase.Phase.{Phase}
-use Rattle.gate_word.specs.declared.phase.Phase.TheVariants as phase
-use Rattle.gate_word.specs.declared.word.Word.{Word}
+use Rattle.quiesce_word.specs.Phases.{is_answered, is_asked, is_idle, is_in_more}
+use Rattle.quiesce_word.specs.Words.{FitsWord, is_message_to, unpack}
+use Rattle.quiesce_word.specs.declared.phase.Phase.{Phase}
+use Rattle.quiesce_word.specs.declared.phase.Phase.TheVariants as phase
+use Rattle.quiesce_word.specs.declared.word.Word.{Word}
 use Rattle.quiesce_core.specs.Fields.{fields_of}
 use Rattle.quiesce_core.specs.Runs.{state_after}
 use Rattle.quiesce_core.specs.State.{provides, slot, target}
@@ -18,16 +18,16 @@ use Rattle.quiesce_core.specs.Words.{slot_fields_of}
 use Rattle.quiesce_core.specs.declared.state.Slot.{Slot}
 use Rattle.quiesce_core.proofs.RunLaws.{runs_are_well_formed}
 use Rattle.quiesce_core.proofs.WordLaws.{port_words_decode, port_words_fit}
-use Rattle.port_gate.specs.Answers.{HearSays, SeeSays, TakeSays}
-use Rattle.port_gate.specs.Seats.{MayHear, MaySee}
-use Rattle.port_gate.specs.declared.answers.HearAnswer.TheVariants as hear
-use Rattle.port_gate.specs.declared.answers.SeeAnswer.TheVariants as see
-use Rattle.port_gate.specs.declared.answers.TakeAnswer.TheVariants.{Stale, Taken}
-use Rattle.port_gate.proofs.AllowedLaws.{not_yet_by_word}
-use Rattle.gate_rule.specs.Steps.{WasShown, seen_in}
-use Rattle.gate_rule.specs.Views.{node_at}
-use Rattle.gate_rule.specs.declared.view.NodeView.{NodeView}
-use Rattle.gate_rule.proofs.FittingLaws as fitting
+use Rattle.node_gate.specs.Answers.{HearSays, SeeSays, TakeSays}
+use Rattle.node_gate.specs.Seats.{MayHear, MaySee}
+use Rattle.node_gate.specs.declared.answers.HearAnswer.TheVariants as hear
+use Rattle.node_gate.specs.declared.answers.SeeAnswer.TheVariants as see
+use Rattle.node_gate.specs.declared.answers.TakeAnswer.TheVariants.{Stale, Taken}
+use Rattle.node_gate.proofs.AllowedLaws.{not_yet_by_word}
+use Rattle.txn_law.specs.Steps.{WasShown, seen_in}
+use Rattle.txn_law.specs.Views.{node_at}
+use Rattle.txn_law.specs.declared.view.NodeView.{NodeView}
+use Rattle.txn_law.proofs.FittingLaws as fitting
 use Rattle.txn_gate.specs.Calls.{heard_in, provision_in, taken_in}
 
 module _ (n : NodeView) (p w : ℕ) (shown : WasShown n p w) where

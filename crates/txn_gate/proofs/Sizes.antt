@@ -11,10 +11,10 @@ use Rattle.config_graph.specs.Kinds.{row}
 use Rattle.config_graph.specs.declared.TheConstants.{MAX_NODES, MAX_PORTS}
 use Rattle.config_graph.specs.declared.kind.Kind.{Kind}
 use Rattle.config_graph.specs.declared.node.Node.{Node}
-use Rattle.gate_word.specs.SlotWords.{FitsSlotWord}
-use Rattle.gate_records.specs.Entries.{config_of}
-use Rattle.gate_records.specs.declared.entry.Entry.{Entry}
-use Rattle.gate_records.specs.declared.entry.Entry.TheVariants.{Did, Looked}
+use Rattle.quiesce_word.specs.SlotWords.{FitsSlotWord}
+use Rattle.txn_records.specs.Entries.{config_of}
+use Rattle.txn_records.specs.declared.entry.Entry.{Entry}
+use Rattle.txn_records.specs.declared.entry.Entry.TheVariants.{Did, Looked}
 use Rattle.quiesce_core.specs.Effect.{with_node}
 use Rattle.quiesce_core.specs.Knowledge.{nothing_known}
 use Rattle.quiesce_core.specs.Legal.{CanMake}
@@ -25,12 +25,12 @@ use Rattle.quiesce_core.proofs.TableLaws.{new_gates_length}
 use Rattle.quiesce_core.specs.State.{Configuration, slot}
 use Rattle.quiesce_core.specs.declared.event.Event.{Event}
 use Rattle.quiesce_core.specs.declared.event.Event.TheVariants.{Close, Reopen, Make, Link, Unlink, Remove}
-use Rattle.gate_rule.specs.Steps.{IsChange, Seat, noted}
-use Rattle.gate_rule.specs.Views.{change_of, new_seat, newest, notes, of_node, unknown, without_seat}
-use Rattle.gate_rule.specs.declared.view.ChangeView.{ChangeView}
+use Rattle.txn_law.specs.Steps.{IsChange, Seat, noted}
+use Rattle.txn_law.specs.Views.{change_of, new_seat, newest, notes, of_node, unknown, without_seat}
+use Rattle.txn_law.specs.declared.view.ChangeView.{ChangeView}
 use Rattle.txn_gate.specs.TablesOf.{IsTableOf}
 use Rattle.txn_gate.specs.Tabled.{Tabled}
-use Rattle.gate_records.proofs.EntryLaws.{config_did, config_looked}
+use Rattle.txn_records.proofs.EntryLaws.{config_did, config_looked}
 use Rattle.txn_gate.proofs.NextTables.{room_of}
 use Rattle.txn_gate.specs.Calls.{made_node}
 

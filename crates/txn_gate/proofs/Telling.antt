@@ -5,22 +5,22 @@ use Rattle.std.specs.Option.{option_map_or}
 use Rattle.std.proofs.lemmas.Bool.{eq-eqb, ne_eqb}
 use Rattle.std.proofs.lemmas.List.Sums.{fold-append}
 use Rattle.config_graph.specs.declared.node.Target.{Target}
-use Rattle.gate_word.specs.Phases.{is_answered, is_in_more}
-use Rattle.gate_word.specs.Words.{is_spent, unpack}
+use Rattle.quiesce_word.specs.Phases.{is_answered, is_in_more}
+use Rattle.quiesce_word.specs.Words.{is_spent, unpack}
 use Rattle.quiesce_core.specs.declared.event.Event.{Event}
-use Rattle.port_gate.specs.Loads.{Load, Loads, LoadsAt, begin_shows, call_shows, see_shows}
-use Rattle.port_gate.specs.declared.answers.BeginAnswer.{BeginAnswer}
-use Rattle.port_gate.specs.declared.answers.BeginAnswer.TheVariants.{Again, Begun, Closed, Spent, Unlinked}
-use Rattle.port_gate.specs.Moves.{events_of_begin, events_of_call, with_seen}
-use Rattle.port_gate.specs.declared.answers.CallAnswer.{CallAnswer}
-use Rattle.port_gate.specs.declared.answers.CallAnswer.TheVariants.{Called, Missed}
-use Rattle.port_gate.specs.declared.answers.SeeAnswer.{SeeAnswer}
-use Rattle.port_gate.specs.declared.answers.SeeAnswer.TheVariants as see
-use Rattle.gate_rule.specs.Steps.{seen_in}
-use Rattle.gate_rule.specs.Views.{does, load_step, node_at, reads}
-use Rattle.gate_rule.specs.declared.view.LoadKind.TheVariants as kinds
-use Rattle.gate_rule.specs.declared.view.LoadStep.{LoadStep}
-use Rattle.gate_rule.specs.declared.view.NodeView.{NodeView}
+use Rattle.node_gate.specs.Loads.{Load, Loads, LoadsAt, begin_shows, call_shows, see_shows}
+use Rattle.node_gate.specs.declared.answers.BeginAnswer.{BeginAnswer}
+use Rattle.node_gate.specs.declared.answers.BeginAnswer.TheVariants.{Again, Begun, Closed, Spent, Unlinked}
+use Rattle.node_gate.specs.Moves.{events_of_begin, events_of_call, with_seen}
+use Rattle.node_gate.specs.declared.answers.CallAnswer.{CallAnswer}
+use Rattle.node_gate.specs.declared.answers.CallAnswer.TheVariants.{Called, Missed}
+use Rattle.node_gate.specs.declared.answers.SeeAnswer.{SeeAnswer}
+use Rattle.node_gate.specs.declared.answers.SeeAnswer.TheVariants as see
+use Rattle.txn_law.specs.Steps.{seen_in}
+use Rattle.txn_law.specs.Views.{does, load_step, node_at, reads}
+use Rattle.txn_law.specs.declared.view.LoadKind.TheVariants as kinds
+use Rattle.txn_law.specs.declared.view.LoadStep.{LoadStep}
+use Rattle.txn_law.specs.declared.view.NodeView.{NodeView}
 use Rattle.txn_gate.specs.Calls.{ByWord, ByWords, after, begin_loads, begin_reads, called_in, exchanged_in, leads_in, refused_in}
 use Rattle.txn_gate.specs.Told.{loads_by, loads_next, loads_of, next_load, no_loads, with_found}
 

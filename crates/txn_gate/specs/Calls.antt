@@ -4,26 +4,26 @@ use Rattle.std.specs.Option.{option_map_or}
 use Rattle.config_graph.specs.declared.TheConstants.{MAX_PORTS}
 use Rattle.config_graph.specs.declared.node.Node.{Node}
 use Rattle.config_graph.specs.declared.node.Target.{Target}
-use Rattle.gate_word.specs.Phases.{is_asked}
-use Rattle.gate_word.specs.Words.{is_message_to, is_missing, is_spent, unpack}
-use Rattle.port_gate.specs.Moves.{events_of_begin}
-use Rattle.port_gate.specs.declared.answers.BeginAnswer.{BeginAnswer}
-use Rattle.port_gate.specs.declared.answers.BeginAnswer.TheVariants.{Again, Begun, Closed, Spent, Unlinked}
-use Rattle.port_gate.specs.declared.answers.CallAnswer.{CallAnswer}
-use Rattle.port_gate.specs.declared.answers.CallAnswer.TheVariants.{Called, Missed}
-use Rattle.port_gate.specs.declared.answers.HearAnswer.{HearAnswer}
-use Rattle.port_gate.specs.declared.answers.HearAnswer.TheVariants as hear
-use Rattle.port_gate.specs.declared.answers.TakeAnswer.{TakeAnswer}
-use Rattle.port_gate.specs.declared.answers.TakeAnswer.TheVariants.{Stale, Taken}
+use Rattle.quiesce_word.specs.Phases.{is_asked}
+use Rattle.quiesce_word.specs.Words.{is_message_to, is_missing, is_spent, unpack}
+use Rattle.node_gate.specs.Moves.{events_of_begin}
+use Rattle.node_gate.specs.declared.answers.BeginAnswer.{BeginAnswer}
+use Rattle.node_gate.specs.declared.answers.BeginAnswer.TheVariants.{Again, Begun, Closed, Spent, Unlinked}
+use Rattle.node_gate.specs.declared.answers.CallAnswer.{CallAnswer}
+use Rattle.node_gate.specs.declared.answers.CallAnswer.TheVariants.{Called, Missed}
+use Rattle.node_gate.specs.declared.answers.HearAnswer.{HearAnswer}
+use Rattle.node_gate.specs.declared.answers.HearAnswer.TheVariants as hear
+use Rattle.node_gate.specs.declared.answers.TakeAnswer.{TakeAnswer}
+use Rattle.node_gate.specs.declared.answers.TakeAnswer.TheVariants.{Stale, Taken}
 use Rattle.quiesce_core.specs.Knowledge.{nothing_known}
 use Rattle.quiesce_core.specs.declared.event.Event.{Event}
 use Rattle.quiesce_core.specs.declared.known.Known.{Known}
 use Rattle.quiesce_core.specs.declared.known.Served.{Served}
-use Rattle.gate_rule.specs.Views.{does, load_step, reads}
-use Rattle.gate_rule.specs.declared.view.LoadKind.{LoadKind}
-use Rattle.gate_rule.specs.declared.view.LoadKind.TheVariants.{Own, Exchange}
-use Rattle.gate_rule.specs.declared.view.LoadStep.{LoadStep}
-use Rattle.gate_rule.specs.declared.view.NodeView.{NodeView}
+use Rattle.txn_law.specs.Views.{does, load_step, reads}
+use Rattle.txn_law.specs.declared.view.LoadKind.{LoadKind}
+use Rattle.txn_law.specs.declared.view.LoadKind.TheVariants.{Own, Exchange}
+use Rattle.txn_law.specs.declared.view.LoadStep.{LoadStep}
+use Rattle.txn_law.specs.declared.view.NodeView.{NodeView}
 
 -- the node did these events more
 abbrev pub after : NodeView → List Event → NodeView

@@ -4,9 +4,9 @@ use Rattle.std.proofs.Common.{subst, sym}
 use Rattle.atomic_table.specs.Seated.{TableId}
 use Rattle.config_graph.specs.Kinds.{row}
 use Rattle.config_graph.specs.declared.TheConstants.{MAX_NODES, MAX_PORTS}
-use Rattle.port_gate.specs.Seats.{IsWithinLimits}
-use Rattle.gate_rule.specs.Views.{node_at}
-use Rattle.gate_rule.specs.declared.view.NodeView.{NodeView}
+use Rattle.node_gate.specs.Seats.{IsWithinLimits}
+use Rattle.txn_law.specs.Views.{node_at}
+use Rattle.txn_law.specs.declared.view.NodeView.{NodeView}
 
 -- the seat is of this table, which has a word for each port and one for each slot
 pub record IsHere (seat gates : TableId) : Type 0 where

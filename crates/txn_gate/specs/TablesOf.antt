@@ -1,12 +1,12 @@
 -- Of which records tables are.
 use Rattle.std.specs.Prelude.{◌≡◌, ℕ, List, map, None}
 use Rattle.std.specs.List.{list_any}
-use Rattle.gate_records.specs.Entries.{config_of, events_in}
-use Rattle.gate_records.specs.Notes.{is_found_drained}
-use Rattle.gate_records.specs.declared.entry.Entry.{Entry}
+use Rattle.txn_records.specs.Entries.{config_of, events_in}
+use Rattle.txn_records.specs.Notes.{is_found_drained}
+use Rattle.txn_records.specs.declared.entry.Entry.{Entry}
 use Rattle.quiesce_core.specs.State.{Configuration}
 use Rattle.quiesce_core.specs.declared.state.Slot.{Slot}
-use Rattle.quiescence_laws.specs.Events.{reopens}
+use Rattle.quiesce_laws.specs.Events.{reopens}
 use Rattle.txn_gate.specs.PortNotes.{note_in}
 use Rattle.txn_gate.specs.Tabled.{Tabled, bare_node}
 use Rattle.txn_gate.specs.declared.port_notes.PortNote.{PortNote}

@@ -1,13 +1,13 @@
 //! What words answer the calls of nodes.
 
 ghost use Rattle.std.specs.Prelude.{◌≡◌, None};
-ghost use Rattle.gate_word.specs.Words as words;
-ghost use Rattle.gate_word.specs.Words.{unpack};
-ghost use Rattle.gate_rule.specs.Steps.{seen_in};
+ghost use Rattle.quiesce_word.specs.Words as words;
+ghost use Rattle.quiesce_word.specs.Words.{unpack};
+ghost use Rattle.txn_law.specs.Steps.{seen_in};
 ghost use Rattle.txn_gate.specs.Calls.{called_in, exchanged_in, heard_in, refused_in, taken_in};
 
-use gate_word::{Phase, Word};
-use port_gate::{BeginAnswer, CallAnswer, HearAnswer, SeeAnswer, TakeAnswer};
+use node_gate::{BeginAnswer, CallAnswer, HearAnswer, SeeAnswer, TakeAnswer};
+use quiesce_word::{Phase, Word};
 
 /// Why the node can't begin by the word that was loaded, where it can't.
 pub fn refusal(loaded: u64) -> Option<BeginAnswer>

@@ -1,23 +1,23 @@
 //! The calls of the change at the gates.
 
 ghost use Rattle.std.specs.Prelude.{◌≡◌, ◌⊎◌, ◌+◌, ◌<◌, ◌≤◌, ℕ, [], IfOk, IsOk, IsTrue, OnOk, length, replicate};
-ghost use Rattle.commit_laws.specs.Steps.{MayLink, MayRemove, MayUnlink};
+ghost use Rattle.quiesce_commit_laws.specs.Steps.{MayLink, MayRemove, MayUnlink};
 ghost use Rattle.config_graph.specs.Kinds.{row};
 ghost use Rattle.config_graph.specs.declared.TheConstants.{MAX_NODES, MAX_PORTS};
-ghost use Rattle.gate_records.specs.Entries.{config_of};
-ghost use Rattle.gate_records.specs.Looks.{look_of};
-ghost use Rattle.gate_records.specs.Notes.{is_noted};
-ghost use Rattle.gate_records.specs.Records.{IsRecord};
-ghost use Rattle.gate_records.specs.declared.entry.Entry.TheVariants.{Did, Looked};
+ghost use Rattle.txn_records.specs.Entries.{config_of};
+ghost use Rattle.txn_records.specs.Looks.{look_of};
+ghost use Rattle.txn_records.specs.Notes.{is_noted};
+ghost use Rattle.txn_records.specs.Records.{IsRecord};
+ghost use Rattle.txn_records.specs.declared.entry.Entry.TheVariants.{Did, Looked};
 ghost use Rattle.quiesce_core.specs.Knowledge.{nothing_known};
 ghost use Rattle.quiesce_core.specs.Legal.{CanMake};
 ghost use Rattle.quiesce_core.specs.Rules.{is_live_port};
 ghost use Rattle.quiesce_core.specs.declared.event.Event.TheVariants as event;
-ghost use Rattle.gate_rule.specs.Views.{notes, nothing_done, of_node};
-ghost use Rattle.gate_rule.specs.declared.view.NodeView.{NodeView as NodeFields};
+ghost use Rattle.txn_law.specs.Views.{notes, nothing_done, of_node};
+ghost use Rattle.txn_law.specs.declared.view.NodeView.{NodeView as NodeFields};
 ghost use Rattle.txn_gate.specs.Calls.{made_node};
 ghost use Rattle.txn_gate.specs.Seats.{IsChangeSeatOf, change_in, collected_in, node_in, record_of, table_of_change, table_of_node};
-ghost use Rattle.gate_rule.specs.Traces.{first_words};
+ghost use Rattle.txn_law.specs.Traces.{first_words};
 
 use crate::change_seat::ChangeSeat;
 use crate::gates::Gates;
@@ -27,11 +27,11 @@ use crate::record_tables::RecordTables;
 use crate::steps::{AnySeat, Words};
 use crate::{change_steps, steps};
 use config_graph::{MAX_NODES, MAX_PORTS, Made, NoMemory, Node, Target};
-use gate_records::Look;
-use gate_word::{CLOSED, SlotWord};
-use port_gate::unknown;
+use node_gate::unknown;
+use quiesce_word::{CLOSED, SlotWord};
 use std::alloc::Global;
 use std::marker::Brand;
+use txn_records::Look;
 
 /// So many words, all of them this one.
 fn copies(alloc: Global, word: u64, count: u32) -> Result<Vec<u64>, NoMemory>

@@ -2,12 +2,12 @@
 
 ghost use Rattle.std.specs.Prelude.{◌≡◌, ◌<◌, Some};
 ghost use Rattle.config_graph.specs.declared.TheConstants.{MAX_PORTS};
-ghost use Rattle.gate_records.specs.Entries.{config_of};
-ghost use Rattle.gate_records.specs.Records.{IsRecord, May};
-ghost use Rattle.gate_records.specs.declared.entry.Entry.TheVariants.{Did, Scanned};
-ghost use Rattle.gate_rule.specs.Steps.{IsChange, noted};
-ghost use Rattle.gate_rule.specs.Views.{change_of};
-ghost use Rattle.gate_word.specs.Words.{FitsTarget};
+ghost use Rattle.txn_records.specs.Entries.{config_of};
+ghost use Rattle.txn_records.specs.Records.{IsRecord, May};
+ghost use Rattle.txn_records.specs.declared.entry.Entry.TheVariants.{Did, Scanned};
+ghost use Rattle.txn_law.specs.Steps.{IsChange, noted};
+ghost use Rattle.txn_law.specs.Views.{change_of};
+ghost use Rattle.quiesce_word.specs.Words.{FitsTarget};
 ghost use Rattle.quiesce_core.specs.State as state;
 ghost use Rattle.quiesce_core.specs.declared.event.Event.TheVariants as event;
 ghost use Rattle.txn_gate.specs.Places.{IsHere};
@@ -15,7 +15,7 @@ ghost use Rattle.txn_gate.specs.Places.{IsHere};
 use crate::plays::{Changing, Marking, Marks, Names};
 use crate::steps::{AnySeat, Words};
 use config_graph::Target;
-use gate_word::link_operand;
+use quiesce_word::link_operand;
 
 /// The change links a port that is linked to nothing.
 pub fn link<E: Names>(words: &Words, seat: &mut AnySeat, port: u32, to: Target)

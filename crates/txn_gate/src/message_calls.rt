@@ -1,17 +1,17 @@
 //! The calls of nodes at the gates in a service of theirs: calls of other nodes, and further messages.
 
 ghost use Rattle.std.specs.Prelude.{◌≡◌, None, ◌+◌, ◌<◌, ◌^◌, Some, false, true};
-ghost use Rattle.gate_word.specs.Phases.{is_asked};
-ghost use Rattle.gate_word.specs.Words as fields;
-ghost use Rattle.gate_word.specs.Words.{unpack};
+ghost use Rattle.quiesce_word.specs.Phases.{is_asked};
+ghost use Rattle.quiesce_word.specs.Words as fields;
+ghost use Rattle.quiesce_word.specs.Words.{unpack};
 ghost use Rattle.quiesce_core.specs.declared.event.Event.TheVariants as event;
-ghost use Rattle.port_gate.specs.Answers.{CallSays, HearSays};
-ghost use Rattle.port_gate.specs.Moves as moves;
-ghost use Rattle.port_gate.specs.Moves.{Does};
-ghost use Rattle.port_gate.specs.Seats.{MayAsk, MayCall, MayHear, MaySendMore, serial_served};
-ghost use Rattle.gate_rule.specs.Steps.{WasShown, looks};
-ghost use Rattle.gate_rule.specs.Views.{does, node_at, reads};
-ghost use Rattle.gate_rule.specs.declared.view.LoadKind.TheVariants as kinds;
+ghost use Rattle.node_gate.specs.Answers.{CallSays, HearSays};
+ghost use Rattle.node_gate.specs.Moves as moves;
+ghost use Rattle.node_gate.specs.Moves.{Does};
+ghost use Rattle.node_gate.specs.Seats.{MayAsk, MayCallAt, MayHear, MaySendMore, serial_served};
+ghost use Rattle.txn_law.specs.Steps.{WasShown, looks};
+ghost use Rattle.txn_law.specs.Views.{does, node_at, reads};
+ghost use Rattle.txn_law.specs.declared.view.LoadKind.TheVariants as kinds;
 ghost use Rattle.txn_gate.specs.Calls.{ByWord, after, called_in, heard_in};
 ghost use Rattle.txn_gate.specs.Seats.{IsSeatOf, node_in, table_of_node};
 
@@ -21,16 +21,16 @@ use crate::node_seat::{NodeSeat, port_known, seen_or_0};
 use crate::plays::Names;
 use crate::steps;
 use config_graph::VALUE_LIMIT;
-use gate_word::{Word, ask_operand, call_operand, more_operand};
-use port_gate::{CallAnswer, HearAnswer, note};
+use node_gate::{CallAnswer, HearAnswer, note};
 use quiesce_core::Event;
+use quiesce_word::{Word, ask_operand, call_operand, more_operand};
 use std::marker::Brand;
 
 impl Gates {
     /// The node makes a call of the service that it is in, whether the gate is closed or not.
     pub fn call(&self, seat: &mut NodeSeat, port: u32, value: u32) -> CallAnswer
         requires here { IsSeatOf seat.old self.now }
-        requires may { MayCall (node_at (node_in seat.old)) seat.old.known port value }
+        requires may { MayCallAt (node_at (node_in seat.old)) seat.old.known port value }
         ensures here { table_of_node seat.new ≡ table_of_node seat.old }
         ensures node { node_at (node_in seat.new) ≡ node_at (node_in seat.old) }
         ensures does { Does (node_at (node_in seat.old)) (moves.events_of_call port value result)
@@ -46,7 +46,7 @@ impl Gates {
     /// The load, and the call where it isn't missed by that. Returns the word that was loaded.
     fn call_word(&self, seat: &mut NodeSeat, port: u32, value: u32) -> u64
         requires here { IsSeatOf seat.old self.now }
-        requires may { MayCall (node_at (node_in seat.old)) seat.old.known port value }
+        requires may { MayCallAt (node_at (node_in seat.old)) seat.old.known port value }
         ensures here { table_of_node seat.new ≡ table_of_node seat.old }
         ensures node { node_in seat.new ≡ after (reads (node_in seat.old) kinds.Own port result)
             (moves.events_of_call port value (called_in result)) }
@@ -61,7 +61,7 @@ impl Gates {
     /// The load, and what the node knows by it where it misses the call. Returns the word that was loaded.
     fn look_to_call(&self, seat: &mut NodeSeat, port: u32, value: u32) -> u64
         requires here { IsSeatOf seat.old self.now }
-        requires may { MayCall (node_at (node_in seat.old)) seat.old.known port value }
+        requires may { MayCallAt (node_at (node_in seat.old)) seat.old.known port value }
         ensures here { table_of_node seat.new ≡ table_of_node seat.old }
         ensures missed { fields.is_missing (unpack result) ≡ true → node_in seat.new
             ≡ does (reads (node_in seat.old) kinds.Own port result) (event.Miss port) }
@@ -79,7 +79,7 @@ impl Gates {
     fn call_by<E: Names>(&self, seat: &mut NodeSeat, port: u32, value: u32, loaded: u64)
         requires event { E.event ≡ event.Call port ((unpack loaded).serial + 1) value }
         requires here { IsSeatOf seat.old self.now }
-        requires may { MayCall (node_at (node_in seat.old)) seat.old.known port value }
+        requires may { MayCallAt (node_at (node_in seat.old)) seat.old.known port value }
         requires loaded { (node_in seat.old).loaded ≡ Some (record { port = port; word = loaded }) }
         requires found { fields.is_missing (unpack loaded) ≡ false }
         requires unspent { (unpack loaded).serial + 1 < 2 ^ 24 }

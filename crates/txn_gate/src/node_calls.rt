@@ -3,16 +3,16 @@
 ghost use Rattle.std.specs.Prelude.{◌≡◌, ◌≢◌, None, ◌+◌, ◌<◌, Some, false, true};
 ghost use Rattle.config_graph.specs.declared.TheConstants.{MAX_PORTS};
 ghost use Rattle.config_graph.specs.declared.node.Target.{Target as Linked};
-ghost use Rattle.gate_word.specs.Words.{FitsWord, is_message_to, unpack};
+ghost use Rattle.quiesce_word.specs.Words.{FitsWord, is_message_to, unpack};
 ghost use Rattle.quiesce_core.specs.declared.event.Event.TheVariants as event;
 ghost use Rattle.quiesce_core.specs.Rules.{last_serial};
-ghost use Rattle.port_gate.specs.Answers.{BeginSays, SeeSays, TakeSays};
-ghost use Rattle.port_gate.specs.Moves as moves;
-ghost use Rattle.port_gate.specs.Moves.{Does};
-ghost use Rattle.port_gate.specs.Seats.{MayBegin, MayEnd, MayGive, MaySee, MayTake};
-ghost use Rattle.gate_rule.specs.Steps.{WasShown, seen_in};
-ghost use Rattle.gate_rule.specs.Views.{does, node_at, reads};
-ghost use Rattle.gate_rule.specs.declared.view.LoadKind.TheVariants as kinds;
+ghost use Rattle.node_gate.specs.Answers.{BeginSays, SeeSays, TakeSays};
+ghost use Rattle.node_gate.specs.Moves as moves;
+ghost use Rattle.node_gate.specs.Moves.{Does};
+ghost use Rattle.node_gate.specs.Seats.{MayBegin, MayEnd, MayGive, MaySee, MayTake};
+ghost use Rattle.txn_law.specs.Steps.{WasShown, seen_in};
+ghost use Rattle.txn_law.specs.Views.{does, node_at, reads};
+ghost use Rattle.txn_law.specs.declared.view.LoadKind.TheVariants as kinds;
 ghost use Rattle.txn_gate.specs.Calls.{ByWord, ByWords, after, exchanged_in, refused_in, taken_in};
 ghost use Rattle.txn_gate.specs.Seats.{IsSeatOf, node_in, table_of_node};
 
@@ -22,9 +22,9 @@ use crate::node_seat::{NodeSeat, port_known, seen_or_0};
 use crate::plays::Names;
 use crate::steps;
 use config_graph::VALUE_LIMIT;
-use gate_word::{Phase, Word, end_operand, give_operand};
-use port_gate::{BeginAnswer, SeeAnswer, TakeAnswer, note, note_seen};
+use node_gate::{BeginAnswer, SeeAnswer, TakeAnswer, note, note_seen};
 use quiesce_core::Event;
+use quiesce_word::{Phase, Word, end_operand, give_operand};
 use std::marker::Brand;
 
 impl Gates {

@@ -4,15 +4,15 @@ ghost use Rattle.std.specs.Prelude.{◌≡◌, ◌%◌, ◌^◌, ◌<◌, ◌≤
 ghost use Rattle.config_graph.specs.Kinds.{row};
 ghost use Rattle.config_graph.specs.declared.TheConstants.{MAX_NODES, MAX_PORTS};
 ghost use Rattle.quiesce_core.specs.Knowledge as knowledge;
-ghost use Rattle.port_gate.specs.Seats.{serial_served, value_seen};
-ghost use Rattle.gate_rule.specs.Steps.{IsNode, value_served};
-ghost use Rattle.gate_rule.specs.Views.{node_of};
+ghost use Rattle.node_gate.specs.Seats.{serial_served, value_seen};
+ghost use Rattle.txn_law.specs.Steps.{IsNode, value_served};
+ghost use Rattle.txn_law.specs.Views.{node_of};
 ghost use Rattle.txn_gate.specs.Calls.{is_served_within};
 ghost use Rattle.txn_gate.specs.Told.{loads_of};
 
 use crate::steps::AnySeat;
 use config_graph::VALUE_LIMIT;
-use port_gate::GateSeat;
+use node_gate::GateSeat;
 use quiesce_core::{Known, PortKnown};
 
 /// A node's seat: its steps at the gates are its node's events. Contracts see all that it knows of its node

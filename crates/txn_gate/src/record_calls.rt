@@ -1,10 +1,10 @@
 //! The calls by which the change learns of its record, and marks its scans there.
 
 ghost use Rattle.std.specs.Prelude.{◌≡◌};
-ghost use Rattle.gate_records.specs.Records.{IsRecord};
-ghost use Rattle.gate_records.specs.declared.entry.Entry.TheVariants.{Scanned};
-ghost use Rattle.gate_rule.specs.Traces.{HaveOwnSlots};
-ghost use Rattle.gate_rule.specs.Views.{notes};
+ghost use Rattle.txn_records.specs.Records.{IsRecord};
+ghost use Rattle.txn_records.specs.declared.entry.Entry.TheVariants.{Scanned};
+ghost use Rattle.txn_law.specs.Traces.{HaveOwnSlots};
+ghost use Rattle.txn_law.specs.Views.{notes};
 ghost use Rattle.txn_gate.specs.Seats.{IsChangeSeatOf, change_in, collected_in, record_of, table_of_change};
 
 use crate::change_seat::ChangeSeat;

@@ -2,14 +2,14 @@
 
 ghost use Rattle.std.specs.Prelude.{◌≡◌, ◌-◌, ◌<◌, ◌≤◌, ◌↔◌, ◌++◌, ◌∷◌, ◌||◌, not, ℕ, [], Some, List, IfOk, IsTrue, length};
 ghost use Rattle.std.specs.List.{list_all, range_with_len};
-ghost use Rattle.commit_laws.specs.Steps.{IsNoted};
+ghost use Rattle.quiesce_commit_laws.specs.Steps.{IsNoted};
 ghost use Rattle.config_graph.specs.declared.TheConstants.{MAX_NODES, MAX_PORTS};
-ghost use Rattle.gate_records.specs.Entries.{config_of};
-ghost use Rattle.gate_records.specs.Notes.{is_noted};
-ghost use Rattle.gate_records.specs.Records.{May};
-ghost use Rattle.gate_records.specs.declared.entry.Entry.{Entry};
-ghost use Rattle.gate_records.specs.declared.entry.Entry.TheVariants.{Did, Looked};
-ghost use Rattle.gate_word.specs.Words.{FitsTarget};
+ghost use Rattle.txn_records.specs.Entries.{config_of};
+ghost use Rattle.txn_records.specs.Notes.{is_noted};
+ghost use Rattle.txn_records.specs.Records.{May};
+ghost use Rattle.txn_records.specs.declared.entry.Entry.{Entry};
+ghost use Rattle.txn_records.specs.declared.entry.Entry.TheVariants.{Did, Looked};
+ghost use Rattle.quiesce_word.specs.Words.{FitsTarget};
 ghost use Rattle.quiesce_core.specs.Links.{config_in};
 ghost use Rattle.quiesce_core.specs.Reach.{reaches};
 ghost use Rattle.quiesce_core.specs.Rules.{is_live_port};
@@ -22,8 +22,8 @@ ghost use Rattle.txn_gate.specs.TablesOf.{IsTableOf};
 
 use crate::port_notes::{PortNote, fresh_notes, note_at};
 use config_graph::{Kind, MAX_PORTS, Made, NoMemory, Node, Target, Text};
-use gate_word::Word;
 use quiesce_core::Links;
+use quiesce_word::Word;
 use std::alloc::Global;
 use std::marker::Model;
 use std::ops::Range;

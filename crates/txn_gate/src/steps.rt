@@ -3,20 +3,20 @@
 ghost use Rattle.std.specs.Prelude.{[], ◌≡◌, ◌≢◌, ◌%◌, ◌^◌, true, ◌+◌, ◌<◌, Some, false, length};
 ghost use Rattle.config_graph.specs.declared.TheConstants.{MAX_NODES, MAX_PORTS};
 ghost use Rattle.config_graph.specs.declared.node.Target.{Target as Linked};
-ghost use Rattle.gate_word.specs.Operands.{call_difference, end_difference, message_difference};
-ghost use Rattle.gate_word.specs.Phases.{is_asked};
-ghost use Rattle.gate_word.specs.SlotWords.{pack_slot, unpack_slot};
-ghost use Rattle.gate_word.specs.Words.{FitsWord, is_message_to, is_missing, pack, unpack};
-ghost use Rattle.gate_word.specs.declared.phase.Phase.TheVariants as phases;
-ghost use Rattle.gate_records.specs.Entries.{config_of};
-ghost use Rattle.gate_records.specs.Records.{IsRecord, May};
-ghost use Rattle.gate_records.specs.declared.entry.Entry.TheVariants.{Did, Looked};
+ghost use Rattle.quiesce_word.specs.Operands.{call_difference, end_difference, message_difference};
+ghost use Rattle.quiesce_word.specs.Phases.{is_asked};
+ghost use Rattle.quiesce_word.specs.SlotWords.{pack_slot, unpack_slot};
+ghost use Rattle.quiesce_word.specs.Words.{FitsWord, is_message_to, is_missing, pack, unpack};
+ghost use Rattle.quiesce_word.specs.declared.phase.Phase.TheVariants as phases;
+ghost use Rattle.txn_records.specs.Entries.{config_of};
+ghost use Rattle.txn_records.specs.Records.{IsRecord, May};
+ghost use Rattle.txn_records.specs.declared.entry.Entry.TheVariants.{Did, Looked};
 ghost use Rattle.quiesce_core.specs.Rules.{last_serial};
 ghost use Rattle.quiesce_core.specs.declared.event.Event.TheVariants as event;
-ghost use Rattle.port_gate.specs.Seats.{MayAsk, MayBegin, MayCall, MayEnd, MayGive, MayHear, MaySee, MaySendMore, MayTake, port_known, serial_served, value_seen};
-ghost use Rattle.gate_rule.specs.Steps.{IsChange, IsNode, WasShown, did, looks, noted, read, sees, value_served};
-ghost use Rattle.gate_rule.specs.Views.{change_of, new_seat, node_at, node_of, of_node, without_seat};
-ghost use Rattle.gate_rule.specs.declared.view.LoadKind.TheVariants as kinds;
+ghost use Rattle.node_gate.specs.Seats.{MayAsk, MayBegin, MayCallAt, MayEnd, MayGive, MayHear, MaySee, MaySendMore, MayTake, port_known, serial_served, value_seen};
+ghost use Rattle.txn_law.specs.Steps.{IsChange, IsNode, WasShown, did, looks, noted, read, sees, value_served};
+ghost use Rattle.txn_law.specs.Views.{change_of, new_seat, node_at, node_of, of_node, without_seat};
+ghost use Rattle.txn_law.specs.declared.view.LoadKind.TheVariants as kinds;
 ghost use Rattle.txn_gate.specs.Places.{IsHere};
 
 use crate::plays::{
@@ -25,9 +25,9 @@ use crate::plays::{
 };
 use atomic_table::{Seat, Table};
 use config_graph::{MAX_PORTS, Node};
-use gate_rule::{GateRule, View};
-use gate_word::{ALL_BUT_CLOSED, CLOSED};
+use quiesce_word::{ALL_BUT_CLOSED, CLOSED};
 use std::alloc::Global;
+use txn_law::{GateRule, View};
 
 /// One word for each port, and one for each slot after them.
 pub type Words = Table<(), View, (), GateRule, Global>;
@@ -206,7 +206,7 @@ pub fn hear(words: &Words, seat: &mut AnySeat, port: u32) -> u64
 pub fn look_to_call(words: &Words, seat: &mut AnySeat, port: u32, value: u32) -> u64
     requires here { IsHere seat.old.table_id words.now.shared.table_id }
     requires node { IsNode seat.old.me }
-    requires may { MayCall (node_at (node_of seat.old.me.0)) (node_of seat.old.me.0).known port value }
+    requires may { MayCallAt (node_at (node_of seat.old.me.0)) (node_of seat.old.me.0).known port value }
     requires port { port < MAX_PORTS }
     ensures here { seat.new.table_id ≡ seat.old.table_id }
     ensures missed { is_missing (unpack result) ≡ true
@@ -231,7 +231,7 @@ pub fn call<E: Names>(
     requires event { E.event ≡ event.Call port ((unpack loaded).serial + 1) value }
     requires here { IsHere seat.old.table_id words.now.shared.table_id }
     requires node { IsNode seat.old.me }
-    requires may { MayCall (node_at (node_of seat.old.me.0)) (node_of seat.old.me.0).known port value }
+    requires may { MayCallAt (node_at (node_of seat.old.me.0)) (node_of seat.old.me.0).known port value }
     requires port { port < MAX_PORTS }
     requires loaded { (node_of seat.old.me.0).loaded ≡ Some (record { port = port; word = loaded }) }
     requires fits { FitsWord (unpack loaded) }

@@ -1,25 +1,25 @@
 //! The gates as one worker's gate, at which nodes take their turns.
 
 ghost use Rattle.std.specs.Prelude.{◌≡◌, None};
-ghost use Rattle.gate_rule.specs.Views.{node_at};
+ghost use Rattle.txn_law.specs.Views.{node_at};
 ghost use Rattle.txn_gate.specs.Places.{within_limits};
 ghost use Rattle.txn_gate.specs.Seats.{IsSeatOf, node_in};
 
 use crate::gates::Gates;
 use crate::node_seat::NodeSeat;
-use port_gate::{BeginAnswer, CallAnswer, HearAnswer, PortGate, SeeAnswer, TakeAnswer};
+use node_gate::{BeginAnswer, CallAnswer, HearAnswer, PortGate, SeeAnswer, TakeAnswer};
 use std::marker::{Brand, PhantomData};
 
 /// Names what a slot's word says of its node.
 pub trait Makes {
-    ghost use Rattle.gate_word.specs.declared.slot_word.SlotWord.{SlotWord};
+    ghost use Rattle.quiesce_word.specs.declared.slot_word.SlotWord.{SlotWord};
 
     ghost made: { SlotWord };
 }
 
 /// A call that passes `Brand` picks what it names; this one is never meant.
 impl Makes for Brand {
-    ghost use Rattle.gate_rule.specs.Views.{unknown};
+    ghost use Rattle.txn_law.specs.Views.{unknown};
 
     ghost made = { unknown.made };
 }

@@ -1,5 +1,5 @@
 use Rattle.std.proofs.Common.{◌≡◌, ◌++◌, List}
-use Rattle.gate_records.specs.declared.entry.Entry.{Entry}
+use Rattle.txn_records.specs.declared.entry.Entry.{Entry}
 use Rattle.change_board.specs.Doing.{DoesEvents}
 use Rattle.change_board.specs.Steps.{HasRoomForAll, MayDoAll}
 use Rattle.change_board.proofs.stepping.do_steps.Given as goal

@@ -1,7 +1,7 @@
 use Rattle.std.proofs.Common.{length, ap, ◌∙◌, subst}
 use Rattle.quiesce_core.specs.declared.event.Event.TheVariants.{Make}
 use Rattle.quiesce_core.specs.State.{Configuration}
-use Rattle.gate_records.specs.Records.{May}
+use Rattle.txn_records.specs.Records.{May}
 use Rattle.change_board.proofs.DeedLemmas.{does_make, next_slot}
 use Rattle.change_board.proofs.stepping.make_in.Goals as goal
 

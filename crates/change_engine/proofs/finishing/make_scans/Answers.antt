@@ -1,6 +1,6 @@
 use Rattle.std.proofs.Common.{◌≡◌, ◌+◌, ◌++◌, ◌∷◌, [], length, refl, sym, ap, ◌∙◌, subst, arith, inl, inr}
 use Rattle.std.proofs.lemmas.List.{append-nil, length-append}
-use Rattle.change_engine.specs.Finishing.{GoesOn, ends_finish, rounds_in}
+use Rattle.change_engine.specs.Finishing.{ScansGoOn, ends_finish, rounds_in}
 use Rattle.change_engine.proofs.Breaking.{broke_behind}
 use Rattle.change_engine.proofs.Growing.{if_err}
 use Rattle.change_engine.proofs.Scanning.{all_push, all_quiet, rounds_pushed, scans_add, scans_are, seen_by}
@@ -33,7 +33,7 @@ loop-made-preserved g c =
       scans = inv.scans ++ w ∷ [];
       all_scans = length-append inv.scans (w ∷ []) ∙ ap (λ k. k + 1) inv.all_scans;
       are_scans = scans_are W a b d inv.scans s x inv.adds inv.are_scans;
-      go_on = all_push (GoesOn g.B.Board.alone) inv.scans w inv.go_on (ap (λ alone. ends_finish alone s) (sym c.is_alone-alone.ensures) ∙ sym c.if-ends_finish.ensures);
+      go_on = all_push (ScansGoOn g.B.Board.alone) inv.scans w inv.go_on (ap (λ alone. ends_finish alone s) (sym c.is_alone-alone.ensures) ∙ sym c.if-ends_finish.ensures);
       rounds_are = ap (λ k. k + c.count_of-rounds.result) inv.rounds_are ∙ ap (λ k. rounds_in inv.scans + k) c.count_of-rounds.ensures.value ∙ sym (rounds_pushed inv.scans w);
       few = omega (arith, inv.few, c.count_of-rounds.ensures.few);
       adds = scans_add W a b d inv.scans s x inv.adds;

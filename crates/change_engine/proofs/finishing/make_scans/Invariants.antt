@@ -1,9 +1,9 @@
 use Rattle.std.proofs.Common.{◌≡◌, ◌≤◌, List, length}
 use Rattle.std.specs.List.{AllByRecursion}
-use Rattle.gate_records.specs.Entries.{config_of}
-use Rattle.gate_records.specs.declared.entry.Entry.{Entry}
-use Rattle.gate_records.specs.Records.{Adds}
-use Rattle.change_engine.specs.Finishing.{GoesOn, IsScanIn, ScanSeen, all_entries, rounds_in}
+use Rattle.txn_records.specs.Entries.{config_of}
+use Rattle.txn_records.specs.declared.entry.Entry.{Entry}
+use Rattle.txn_records.specs.Records.{Adds}
+use Rattle.change_engine.specs.Finishing.{ScansGoOn, IsScanIn, ScanSeen, all_entries, rounds_in}
 use Rattle.change_engine.proofs.finishing.make_scans.Given as goal
 
 abbrev pub invariant-loop-made : goal.invariant-loop-made
@@ -12,7 +12,7 @@ invariant-loop-made g l = record {
   scans : List ScanSeen;
   all_scans : length scans ≡ l._made;
   are_scans : (r : List Entry) → g.B.Board.stands_for l.fn.board r → AllByRecursion (IsScanIn g.B.Board.alone (config_of r)) scans;
-  go_on : AllByRecursion (GoesOn g.B.Board.alone) scans;
+  go_on : AllByRecursion (ScansGoOn g.B.Board.alone) scans;
   rounds_are : l.rounds ≡ rounds_in scans;
   few : l.rounds ≤ l._made;
   adds : Adds g.B.Board.stands_for l.fn.board l.board (all_entries scans);

@@ -2,8 +2,8 @@ use Rattle.std.proofs.Common.{[], map}
 use Rattle.std.proofs.lemmas.List.{append-nil}
 use Rattle.quiesce_core.specs.declared.event.Event.TheVariants.{Reopen}
 use Rattle.quiesce_core.specs.Runs.{state_after}
-use Rattle.plan_laws.specs.Commit.{reopened_ports}
-use Rattle.gate_records.specs.Records.{events}
+use Rattle.change_plan_laws.specs.Commit.{reopened_ports}
+use Rattle.txn_records.specs.Records.{events}
 use Rattle.change_engine.proofs.Planning.{all_change, may_all, may_commit, new_graph_there}
 use Rattle.change_engine.proofs.laws.plans_may_be_carried_out.Goals as goal
 

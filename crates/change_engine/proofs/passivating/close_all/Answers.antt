@@ -1,8 +1,8 @@
 use Rattle.std.proofs.Common.{◌≡◌, true, ◌++◌, ◌∷◌, [], append_assoc, map, take, get_or, sym, ap, ◌∙◌, subst, arith}
 use Rattle.std.proofs.lemmas.List.Elements.{All-take}
 use Rattle.quiesce_core.specs.Rules.{is_live_port}
-use Rattle.change_script.specs.declared.report.HistoryLine.TheVariants as to
-use Rattle.gate_records.specs.Entries.{config_of}
+use Rattle.report_types.specs.declared.report.HistoryLine.TheVariants as to
+use Rattle.txn_records.specs.Entries.{config_of}
 use Rattle.change_engine.proofs.Growing.{adds_both}
 use Rattle.change_engine.proofs.Passing.{closes, closes_more, close_lines_more, live_behind}
 use Rattle.change_engine.proofs.passivating.close_all.Goals as goal

@@ -1,7 +1,7 @@
 use Rattle.std.proofs.Common.{◌≡◌, ◌≤◌, ◌+◌, ◌++◌, map, take, vec_len}
 use Rattle.std.specs.Vec.{vec_capacity}
-use Rattle.change_script.specs.declared.report.HistoryLine.TheVariants as to
-use Rattle.gate_records.specs.Records.{Adds}
+use Rattle.report_types.specs.declared.report.HistoryLine.TheVariants as to
+use Rattle.txn_records.specs.Records.{Adds}
 use Rattle.change_engine.proofs.Passing.{closes}
 use Rattle.change_engine.proofs.passivating.close_all.Given as goal
 

@@ -1,5 +1,5 @@
 use Rattle.std.proofs.Common.{◌<◌, ◌++◌, ◌∷◌, [], map, get_or, refl, sym, ap, ◌∙◌, subst, length, arith}
-use Rattle.gate_records.specs.Entries.{events_in}
+use Rattle.txn_records.specs.Entries.{events_in}
 use Rattle.change_board.specs.Scans.{Found}
 use Rattle.change_board.specs.Transcripts.{entries}
 use Rattle.change_engine.specs.Passivating.{lines_by, look_item, roots_by, roots_of}

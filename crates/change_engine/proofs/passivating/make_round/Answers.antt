@@ -1,5 +1,5 @@
 use Rattle.std.proofs.Common.{◌∙◌, sym, ap, subst}
-use Rattle.gate_records.specs.Entries.{config_of}
+use Rattle.txn_records.specs.Entries.{config_of}
 use Rattle.change_engine.specs.Passivating.{AreMadePorts, Passed, root_ports}
 use Rattle.change_engine.proofs.Passing.{made_scanned, rounded}
 use Rattle.change_engine.specs.Growing.{telling}

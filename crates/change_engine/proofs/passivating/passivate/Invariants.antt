@@ -1,7 +1,7 @@
 use Rattle.std.proofs.Common.{◌≡◌, ◌≤◌, ◌+◌, ◌*◌, List, length, vec_len}
 use Rattle.std.specs.Vec.{vec_capacity}
-use Rattle.gate_records.specs.Entries.{config_of}
-use Rattle.gate_records.specs.declared.entry.Entry.{Entry}
+use Rattle.txn_records.specs.Entries.{config_of}
+use Rattle.txn_records.specs.declared.entry.Entry.{Entry}
 use Rattle.change_engine.specs.Growing.{Grew, telling}
 use Rattle.change_engine.specs.Passivating.{AreMadePorts, HasPlaceFor, IsPassivation, Passivation, left_after, passivation_items, root_ports}
 use Rattle.change_engine.proofs.passivating.passivate.Given as goal

@@ -1,6 +1,6 @@
 use Rattle.std.proofs.Common.{◌≡◌, ◌≤◌, ◌*◌, ◌^◌, List, map}
 use Rattle.std.specs.List.{range_with_len}
-use Rattle.gate_records.specs.Records.{Adds}
+use Rattle.txn_records.specs.Records.{Adds}
 use Rattle.change_board.specs.Scans.{Found, ended_in, look_entry, ports_of}
 use Rattle.change_engine.proofs.running.count_ended.Given as goal
 

@@ -1,9 +1,9 @@
 use Rattle.std.proofs.Common.{◌≡◌, List, false}
 use Rattle.std.specs.List.{AllByRecursion}
 use Rattle.base.specs.Each.{Each}
-use Rattle.gate_records.specs.Entries.{config_of}
-use Rattle.gate_records.specs.declared.entry.Entry.{Entry}
-use Rattle.gate_records.specs.Records.{Adds}
+use Rattle.txn_records.specs.Entries.{config_of}
+use Rattle.txn_records.specs.declared.entry.Entry.{Entry}
+use Rattle.txn_records.specs.Records.{Adds}
 use Rattle.change_engine.specs.Finishing.{IsScanIn, ScanSeen, all_entries}
 use Rattle.change_engine.specs.Running.{RunsOn, ended_since, is_out_after}
 use Rattle.change_engine.proofs.running.scan_until.Given as goal

@@ -3,9 +3,9 @@ use Rattle.std.specs.Prelude.{◌==◌}
 use Rattle.std.proofs.lemmas.Bool.{eqb-true}
 use Rattle.base.proofs.MapLaws.{no_length}
 use Rattle.change_board.specs.Collecting.{Collects}
-use Rattle.gate_records.specs.Entries.{config_of}
+use Rattle.txn_records.specs.Entries.{config_of}
 use Rattle.change_board.specs.Transcripts.{entries}
-use Rattle.change_script.specs.declared.report.HistoryLine.TheVariants as to
+use Rattle.report_types.specs.declared.report.HistoryLine.TheVariants as to
 use Rattle.change_engine.specs.Passivating.{AreLivePorts, passivation_items}
 use Rattle.change_engine.specs.Stopping.{Stops}
 use Rattle.change_engine.proofs.Breaking.{broke_in_stop, on_err}

@@ -1,7 +1,7 @@
 use Rattle.std.proofs.Common.{◌≡◌, ◌++◌, filter_map, take}
 use Rattle.std.specs.List.{enumerate_from}
 use Rattle.config_graph.specs.Graph.{ports}
-use Rattle.quiescence_laws.specs.Starts.{link_of}
+use Rattle.quiesce_laws.specs.Starts.{link_of}
 use Rattle.change_lists.proofs.starting.push_links.Given as goal
 
 abbrev pub invariant-loop-port : goal.invariant-loop-port

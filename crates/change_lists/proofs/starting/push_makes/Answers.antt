@@ -3,7 +3,7 @@ use Rattle.std.specs.List.{enumerate_from}
 use Rattle.std.proofs.lemmas.List.{take_all}
 use Rattle.quiesce_core.specs.declared.event.Event.TheVariants.{Make}
 use Rattle.quiesce_core.proofs.GraphLaws.{get_numbered, length-numbered_from}
-use Rattle.quiescence_laws.specs.Starts.{make_of}
+use Rattle.quiesce_laws.specs.Starts.{make_of}
 use Rattle.change_lists.proofs.ListingLaws.{mapped_on}
 use Rattle.change_lists.proofs.starting.push_makes.Goals as goal
 

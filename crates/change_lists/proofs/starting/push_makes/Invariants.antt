@@ -1,6 +1,6 @@
 use Rattle.std.proofs.Common.{◌≡◌, ◌++◌, map, take}
 use Rattle.std.specs.List.{enumerate_from}
-use Rattle.quiescence_laws.specs.Starts.{make_of}
+use Rattle.quiesce_laws.specs.Starts.{make_of}
 use Rattle.change_lists.proofs.starting.push_makes.Given as goal
 
 abbrev pub invariant-loop-slot : goal.invariant-loop-slot

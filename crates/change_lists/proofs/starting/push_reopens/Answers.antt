@@ -5,7 +5,7 @@ use Rattle.base.proofs.PlaceLaws.{slice_get-there}
 use Rattle.config_graph.specs.Graph.{ports}
 use Rattle.quiesce_core.specs.declared.event.Event.TheVariants.{Reopen}
 use Rattle.quiesce_core.proofs.GraphLaws.{get_numbered, length-numbered_from}
-use Rattle.quiescence_laws.specs.Starts.{reopen_of}
+use Rattle.quiesce_laws.specs.Starts.{reopen_of}
 use Rattle.change_lists.proofs.ListingLaws.{mapped_on}
 use Rattle.change_lists.proofs.starting.push_reopens.Goals as goal
 

@@ -1,5 +1,5 @@
 use Rattle.std.proofs.Common.{map, sym}
-use Rattle.change_script.specs.declared.report.NodeLog.{NodeLog}
+use Rattle.report_types.specs.declared.report.NodeLog.{NodeLog}
 use Rattle.merge_laws.proofs.GuideLemmas.{guided}
 use Rattle.merge_laws.proofs.GuidedLemmas.{found}
 use Rattle.merge_laws.proofs.LawfulLemmas.{lawful_lists_are_merges}

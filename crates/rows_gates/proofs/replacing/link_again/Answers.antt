@@ -1,8 +1,8 @@
 use Rattle.std.proofs.Common.{sym, subst}
-use Rattle.commit_laws.specs.Steps.{IsNoted}
-use Rattle.gate_records.specs.Entries.{config_of}
-use Rattle.gate_records.specs.Notes.{is_noted}
-use Rattle.gate_records.specs.Records.{May}
+use Rattle.quiesce_commit_laws.specs.Steps.{IsNoted}
+use Rattle.txn_records.specs.Entries.{config_of}
+use Rattle.txn_records.specs.Notes.{is_noted}
+use Rattle.txn_records.specs.Records.{May}
 use Rattle.quiesce_core.specs.declared.event.Event.TheVariants.{Link}
 use Rattle.rows_gates.proofs.Linking.{again}
 use Rattle.rows_gates.proofs.replacing.link_again.Goals as goal

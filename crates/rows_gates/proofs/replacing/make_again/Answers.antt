@@ -1,6 +1,6 @@
 use Rattle.std.proofs.Common.{◌∙◌, ◌∷◌, ◌++◌, [], Some, ap}
 use Rattle.std.proofs.lemmas.Result.{IfOk-weaker}
-use Rattle.gate_records.specs.declared.entry.Entry.TheVariants.{Did}
+use Rattle.txn_records.specs.declared.entry.Entry.TheVariants.{Did}
 use Rattle.quiesce_core.specs.declared.event.Event.TheVariants.{Make}
 use Rattle.rows_gates.proofs.replacing.make_again.Goals as goal
 

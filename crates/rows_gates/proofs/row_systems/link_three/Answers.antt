@@ -1,6 +1,6 @@
 use Rattle.std.proofs.Common.{◌∙◌, ◌∷◌, ◌++◌, [], ap, sym, subst}
-use Rattle.gate_records.specs.Records.{May}
-use Rattle.gate_records.specs.declared.entry.Entry.TheVariants.{Did}
+use Rattle.txn_records.specs.Records.{May}
+use Rattle.txn_records.specs.declared.entry.Entry.TheVariants.{Did}
 use Rattle.quiesce_core.specs.declared.event.Event.TheVariants.{Link}
 use Rattle.rows_gates.proofs.Linking.{three}
 use Rattle.rows_gates.proofs.row_systems.link_three.Goals as goal

@@ -1,5 +1,5 @@
 use Rattle.std.proofs.Common.{sym, subst}
-use Rattle.gate_records.specs.Records.{May}
+use Rattle.txn_records.specs.Records.{May}
 use Rattle.quiesce_core.specs.declared.event.Event.TheVariants.{Link}
 use Rattle.rows_gates.proofs.Linking.{two}
 use Rattle.rows_gates.proofs.systems.link_two.Goals as goal

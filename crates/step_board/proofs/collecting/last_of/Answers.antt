@@ -1,8 +1,8 @@
 use Rattle.std.proofs.Common.{◌<◌, length, sym, subst}
 use Rattle.change_law.specs.Lawful.{EndsAs}
-use Rattle.change_script.specs.declared.report.Last.TheVariants as last
+use Rattle.report_types.specs.declared.report.Last.TheVariants as last
 use Rattle.quiesce_core.specs.State.{State}
-use Rattle.turns.specs.World.{state_of}
+use Rattle.node_turn_laws.specs.World.{state_of}
 use Rattle.step_board.proofs.LogLemmas.{ends_moved}
 use Rattle.step_board.proofs.collecting.last_of.Goals as goal
 

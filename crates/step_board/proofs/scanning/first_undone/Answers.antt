@@ -1,6 +1,6 @@
 use Rattle.std.proofs.Common.{◌≡◌, ◌∙◌, ◌<◌, ◌&&◌, not, true, false, sym, ap, arith}
 use Rattle.quiesce_core.specs.State.{State, is_live}
-use Rattle.turns.specs.Round.{is_done}
+use Rattle.node_turn_laws.specs.Round.{is_done}
 use Rattle.step_board.proofs.TurnLemmas.{undone_here, undone_later}
 use Rattle.step_board.proofs.scanning.first_undone.Goals as goal
 use Rattle.step_board.proofs.scanning.first_undone.Goals.{else-is_live-via-then-is_live+else-not-is_done, else-is_live-via-else-is_live}

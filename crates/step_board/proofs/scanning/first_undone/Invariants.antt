@@ -3,8 +3,8 @@ use Rattle.std.specs.Prelude.{filter, find, not}
 use Rattle.std.specs.List.{range_with_len}
 use Rattle.quiesce_core.specs.State.{is_live}
 use Rattle.step_board.specs.Seeing.{first_undone_in}
-use Rattle.turns.specs.Round.{is_done}
-use Rattle.turns.specs.World.{World}
+use Rattle.node_turn_laws.specs.Round.{is_done}
+use Rattle.node_turn_laws.specs.World.{World}
 use Rattle.step_board.proofs.scanning.first_undone.Given as goal
 
 -- the first of all is the first of those from this slot on

@@ -1,6 +1,6 @@
 use Rattle.std.proofs.Common.{◌≡◌}
 use Rattle.step_board.specs.Going.{Gave, ShowsSome, turns_below}
-use Rattle.turns.specs.World.{World}
+use Rattle.node_turn_laws.specs.World.{World}
 use Rattle.step_board.proofs.scanning.give_turns.Given as goal
 
 abbrev pub invariant-loop-slot : goal.invariant-loop-slot

@@ -1,6 +1,6 @@
 use Rattle.std.proofs.Common.{◌∙◌, ◌+◌, ap, sym}
 use Rattle.std.specs.Prelude.{◌&&◌}
-use Rattle.gate_records.specs.Looks.{ended_in_word}
+use Rattle.txn_records.specs.Looks.{ended_in_word}
 use Rattle.change_board.specs.Scans.{Found, is_idle_if_live}
 use Rattle.step_board.specs.Seeing.{found_at}
 use Rattle.step_board.proofs.LookLemmas.{all_more, sum_more}

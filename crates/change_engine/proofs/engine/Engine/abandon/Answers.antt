@@ -1,6 +1,6 @@
 use Rattle.std.proofs.Common.{◌≡◌, ◌∷◌, [], Some, sym, ◌∙◌}
 use Rattle.change_board.specs.Transcripts.{entries}
-use Rattle.change_script.specs.declared.report.HistoryLine.TheVariants as to
+use Rattle.report_types.specs.declared.report.HistoryLine.TheVariants as to
 use Rattle.change_engine.proofs.ChangeLemmas.{abandon_fits, abandon_may, abandoned, reopen_lines_for}
 use Rattle.change_engine.proofs.engine.Engine.abandon.Goals as goal
 

@@ -1,6 +1,6 @@
 use Rattle.std.proofs.Common.{◌≡◌, ◌∷◌, [], Some, sym, ◌∙◌}
 use Rattle.change_board.specs.Transcripts.{entries}
-use Rattle.change_script.specs.declared.report.HistoryLine.TheVariants as to
+use Rattle.report_types.specs.declared.report.HistoryLine.TheVariants as to
 use Rattle.change_engine.proofs.ChangeLemmas.{commit_may, committed, lines_for}
 use Rattle.change_engine.proofs.engine.Engine.commit.Goals as goal
 

@@ -1,5 +1,5 @@
 use Rattle.std.proofs.Common.{◌≡◌, ◌<◌, [], length, Some, sym, ap, ◌∙◌, subst, arith}
-use Rattle.gate_records.specs.Entries.{config_of}
+use Rattle.txn_records.specs.Entries.{config_of}
 use Rattle.change_board.specs.Transcripts.{entries}
 use Rattle.change_engine.specs.Breaking.{BrokeInRound}
 use Rattle.change_engine.specs.Calls.{HasBrokenOff, HasLeft, HasPassivated}

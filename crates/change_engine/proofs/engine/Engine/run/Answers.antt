@@ -1,5 +1,5 @@
 use Rattle.std.proofs.Common.{refl, ◌∙◌, arith}
-use Rattle.gate_records.specs.Entries.{config_of}
+use Rattle.txn_records.specs.Entries.{config_of}
 use Rattle.change_board.specs.Transcripts.{entries}
 use Rattle.change_engine.specs.declared.engine.Engine.{Engine}
 use Rattle.change_engine.proofs.EngineLemmas.{as_many, few_ports, has_run}

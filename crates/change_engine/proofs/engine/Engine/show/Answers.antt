@@ -1,5 +1,5 @@
 use Rattle.std.proofs.Common.{◌++◌, ◌∷◌, [], refl, ap, ◌∙◌}
-use Rattle.change_script.specs.declared.report.HistoryLine.TheVariants as to
+use Rattle.report_types.specs.declared.report.HistoryLine.TheVariants as to
 use Rattle.change_engine.specs.declared.engine.Engine.{Engine}
 use Rattle.change_engine.proofs.EngineLemmas.{continues, said_alone}
 use Rattle.change_engine.proofs.engine.Engine.show.Goals as goal

@@ -1,8 +1,8 @@
 use Rattle.std.proofs.Common.{◌≡◌, ◌∙◌, ℕ, ◌∷◌, [], ◌++◌, List, map, Some, None, refl, ap, sym, subst}
 use Rattle.std.specs.List.{AllByRecursion}
-use Rattle.gate_records.specs.Entries.{config_of}
-use Rattle.gate_rule.specs.Views.{node_at}
-use Rattle.gate_rule.specs.declared.view.ChangeView.{ChangeView}
+use Rattle.txn_records.specs.Entries.{config_of}
+use Rattle.txn_law.specs.Views.{node_at}
+use Rattle.txn_law.specs.declared.view.ChangeView.{ChangeView}
 use Rattle.live_hall.specs.Lines.{LinePlace, line_words, seen_word}
 use Rattle.live_hall.specs.Sighting.{IsMadeIn, PastSeen, past_seen}
 use Rattle.live_hall.proofs.LineLaws.{line_with}

@@ -1,7 +1,7 @@
 use Rattle.std.proofs.Common.{◌≡◌, ◌∙◌, Some, refl, sym, ap}
 use Rattle.std.specs.Prelude.{◌&&◌, is_none}
 use Rattle.quiesce_core.specs.State.{service}
-use Rattle.turns.specs.Turn.{serves}
+use Rattle.node_turn_laws.specs.Turn.{serves}
 use Rattle.node_host.specs.Acts.{gate_seen, state_of}
 use Rattle.node_host.proofs.ActLaws.{as_before}
 use Rattle.node_host.proofs.Hinting.{without_hint}

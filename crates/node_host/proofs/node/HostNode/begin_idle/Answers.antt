@@ -5,8 +5,8 @@ use Rattle.config_graph.proofs.KindLaws.{two_requires}
 use Rattle.component_trait.specs.declared.next.Ask.{Ask}
 use Rattle.quiesce_core.specs.Knowledge.{port_at_start}
 use Rattle.quiesce_core.specs.declared.event.Event.TheVariants as event
-use Rattle.port_gate.specs.Loads.{IsLoaded, TellsLoads, is_begun}
-use Rattle.port_gate.specs.Seats.{MayBegin}
+use Rattle.node_gate.specs.Loads.{IsLoaded, TellsLoads, is_begun}
+use Rattle.node_gate.specs.Seats.{MayBegin}
 use Rattle.node_host.proofs.EventLaws.{GoesOn, did_by, goes_on}
 use Rattle.node_host.proofs.Exactly.{begins_begun, begins_refused}
 use Rattle.node_host.proofs.Growing.{hosted_waiting, idle_at}

@@ -2,8 +2,8 @@ use Rattle.std.proofs.Common.{rules, ◌∙◌, ◌+◌, Some, refl, sym, ap, su
 use Rattle.std.specs.Prelude.{◌&&◌, not, slice_index_or}
 use Rattle.quiesce_core.specs.Knowledge.{port_at_start}
 use Rattle.quiesce_core.specs.declared.event.Event.TheVariants as event
-use Rattle.port_gate.specs.Loads.{is_next, is_word, leads_to}
-use Rattle.port_gate.specs.Seats.{MayCall}
+use Rattle.node_gate.specs.Loads.{is_next, is_word, leads_to}
+use Rattle.node_gate.specs.Seats.{MayCallAt}
 use Rattle.node_host.proofs.EventLaws.{GoesOn, did_by, goes_on}
 use Rattle.node_host.proofs.Exactly.{calls_called, calls_missed}
 use Rattle.node_host.proofs.Growing.{hosted_waiting}
@@ -19,7 +19,7 @@ use Rattle.node_host.proofs.node.HostNode.call.Goals.{After-keep, After-keep-eve
 pub call-requires-clause-may : goal.call-requires-clause-may
 call-requires-clause-may g c =
     let h = c.args.self.now in
-    subst (λ m. MayCall m (g.S.GateSeat.known h.seat) (h.first_port + c.args.ask.require) c.args.ask.value) (sym c.requires.can.node)
+    subst (λ m. MayCallAt m (g.S.GateSeat.known h.seat) (h.first_port + c.args.ask.require) c.args.ask.value) (sym c.requires.can.node)
     (may_call h.hosted c.args.served c.requires.served c.requires.heard c.requires.ended c.args.ask (slice_index_or h.known.ports c.args.ask.require port_at_start) c.requires.asks c.requires.fits_ask c.requires.depends refl (idle_to_call h.hosted c.args.ask c.requires.fits_ask c.requires.ended c.requires.asks))
 
 pub answered-requires-clause-asked : goal.answered-requires-clause-asked

@@ -4,8 +4,8 @@ use Rattle.config_graph.proofs.KindLaws.{two_requires}
 use Rattle.quiesce_core.specs.Knowledge.{port_at_start}
 use Rattle.quiesce_core.specs.declared.event.Event.TheVariants as event
 use Rattle.quiesce_core.specs.declared.known.PortKnown.{PortKnown}
-use Rattle.port_gate.specs.Moves.{with_seen}
-use Rattle.port_gate.specs.declared.answers.SeeAnswer.TheVariants as see
+use Rattle.node_gate.specs.Moves.{with_seen}
+use Rattle.node_gate.specs.declared.answers.SeeAnswer.TheVariants as see
 use Rattle.node_host.proofs.EventLaws.{GoesOn, goes_on}
 use Rattle.node_host.proofs.Growing.{busy_at, expected_at, seat_two}
 use Rattle.node_host.proofs.Replying.{ask_folds, asked, ended, not_yet}

@@ -1,5 +1,5 @@
 use Rattle.std.proofs.Common.{rules, ◌≡◌, ◌∙◌, ◌+◌, true, refl}
-use Rattle.port_gate.specs.Loads.{TellsLoads}
+use Rattle.node_gate.specs.Loads.{TellsLoads}
 use Rattle.node_host.specs.Acts.{node_at, state_of}
 use Rattle.node_host.specs.Told.{reply_at}
 use Rattle.node_host.specs.Tried.{HasNoReply, LoadsPort, is_reply_at}

@@ -1,6 +1,6 @@
 use Rattle.std.proofs.Common.{rules, ◌∙◌, [], ◌∷◌, Some, sym, ap, subst}
 use Rattle.quiesce_core.specs.declared.event.Event.TheVariants as event
-use Rattle.port_gate.specs.Seats.{MaySendMore}
+use Rattle.node_gate.specs.Seats.{MaySendMore}
 use Rattle.node_host.proofs.EventLaws.{GoesOn, did_by, goes_on}
 use Rattle.node_host.proofs.Exactly.{sends_next}
 use Rattle.node_host.proofs.InService.{no_call}

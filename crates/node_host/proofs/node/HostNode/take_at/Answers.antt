@@ -2,8 +2,8 @@ use Rattle.std.proofs.Common.{rules, ◌∙◌, ◌<◌, Some, refl, sym, ap, su
 use Rattle.std.specs.Prelude.{length}
 use Rattle.config_graph.specs.Kinds.{row}
 use Rattle.quiesce_core.specs.declared.event.Event.TheVariants as event
-use Rattle.port_gate.specs.Answers.{TakeSays}
-use Rattle.port_gate.specs.declared.answers.TakeAnswer.TheVariants as take
+use Rattle.node_gate.specs.Answers.{TakeSays}
+use Rattle.node_gate.specs.declared.answers.TakeAnswer.TheVariants as take
 use Rattle.node_host.proofs.EventLaws.{GoesOn, GoesStill, did_by, goes_on, goes_still}
 use Rattle.node_host.proofs.Exactly.{takes_stale, takes_taken}
 use Rattle.node_host.proofs.InService.{free_known}

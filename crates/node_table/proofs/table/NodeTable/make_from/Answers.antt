@@ -1,6 +1,6 @@
 use Rattle.std.proofs.Common.{◌∙◌, ◌≤◌, ◌++◌, ◌∷◌, [], Some, ap, length, map, refl, set, subst, sym}
 use Rattle.std.proofs.lemmas.List.{length-map}
-use Rattle.port_gate.specs.Seats.{IsWithinLimits}
+use Rattle.node_gate.specs.Seats.{IsWithinLimits}
 use Rattle.port_queue.specs.Plain.{box_of}
 use Rattle.quiesce_core.specs.Runs.{Step}
 use Rattle.quiesce_core.specs.declared.event.Event.TheVariants.{Make}

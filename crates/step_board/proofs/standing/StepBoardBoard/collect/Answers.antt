@@ -2,8 +2,8 @@ use Rattle.std.proofs.Common.{◌∙◌, [], length, map, ap, sym, subst}
 use Rattle.std.specs.Prelude.{All}
 use Rattle.std.specs.List.{range_with_len}
 use Rattle.change_board.specs.Collecting.{IsEndOf}
-use Rattle.gate_records.specs.Entries.{config_of}
-use Rattle.change_script.specs.declared.report.NodeLog.{NodeLog}
+use Rattle.txn_records.specs.Entries.{config_of}
+use Rattle.report_types.specs.declared.report.NodeLog.{NodeLog}
 use Rattle.step_board.specs.Agreeing.{config_at}
 use Rattle.step_board.proofs.BoardLemmas.{ends_so, undone_so}
 use Rattle.step_board.proofs.StandingLemmas.{adds_none}

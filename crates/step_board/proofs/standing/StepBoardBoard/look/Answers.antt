@@ -1,5 +1,5 @@
 use Rattle.std.proofs.Common.{◌<◌, ◌∙◌, length, ap, subst}
-use Rattle.gate_records.specs.Looks.{look_of}
+use Rattle.txn_records.specs.Looks.{look_of}
 use Rattle.quiesce_core.specs.Words.{word_of}
 use Rattle.step_board.specs.Agreeing.{config_at}
 use Rattle.step_board.proofs.StandingLemmas.{look_adds}

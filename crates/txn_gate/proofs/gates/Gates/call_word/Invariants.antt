@@ -1,5 +1,5 @@
 use Rattle.std.proofs.Common.{◌+◌}
-use Rattle.gate_word.specs.Words.{unpack}
+use Rattle.quiesce_word.specs.Words.{unpack}
 use Rattle.quiesce_core.specs.declared.event.Event.TheVariants.{Call}
 use Rattle.txn_gate.proofs.gates.Gates.call_word.Given as goal
 

@@ -1,5 +1,5 @@
-use Rattle.gate_rule.specs.Views.{node_at, node_of}
-use Rattle.port_gate.specs.Seats.{port_known, value_seen}
+use Rattle.txn_law.specs.Views.{node_at, node_of}
+use Rattle.node_gate.specs.Seats.{port_known, value_seen}
 use Rattle.quiesce_core.specs.declared.event.Event.TheVariants.{End}
 use Rattle.txn_gate.proofs.gates.Gates.end.Given as goal
 

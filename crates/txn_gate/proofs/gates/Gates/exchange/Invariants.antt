@@ -1,5 +1,5 @@
 use Rattle.std.proofs.Common.{◌+◌}
-use Rattle.gate_word.specs.Words.{unpack}
+use Rattle.quiesce_word.specs.Words.{unpack}
 use Rattle.quiesce_core.specs.declared.event.Event.TheVariants.{Begin}
 use Rattle.txn_gate.proofs.gates.Gates.exchange.Given as goal
 

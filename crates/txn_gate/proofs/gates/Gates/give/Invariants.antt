@@ -1,5 +1,5 @@
-use Rattle.gate_rule.specs.Views.{node_of}
-use Rattle.port_gate.specs.Seats.{serial_served}
+use Rattle.txn_law.specs.Views.{node_of}
+use Rattle.node_gate.specs.Seats.{serial_served}
 use Rattle.quiesce_core.specs.declared.event.Event.TheVariants.{Give}
 use Rattle.txn_gate.proofs.gates.Gates.give.Given as goal
 

@@ -1,7 +1,7 @@
 use Rattle.std.proofs.Common.{subst, sym, None}
-use Rattle.gate_rule.specs.Views.{node_of}
-use Rattle.port_gate.specs.Answers.{HearSays}
-use Rattle.port_gate.specs.Seats.{MayHear}
+use Rattle.txn_law.specs.Views.{node_of}
+use Rattle.node_gate.specs.Answers.{HearSays}
+use Rattle.node_gate.specs.Seats.{MayHear}
 use Rattle.txn_gate.proofs.Saying.{hear_says}
 use Rattle.txn_gate.proofs.gates.Gates.hear.Goals as goal
 

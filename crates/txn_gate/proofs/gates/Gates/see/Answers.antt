@@ -1,7 +1,7 @@
 use Rattle.std.proofs.Common.{subst, sym, None}
-use Rattle.gate_rule.specs.Views.{node_at, node_of}
-use Rattle.port_gate.specs.Answers.{SeeSays}
-use Rattle.port_gate.specs.Seats.{MaySee}
+use Rattle.txn_law.specs.Views.{node_at, node_of}
+use Rattle.node_gate.specs.Answers.{SeeSays}
+use Rattle.node_gate.specs.Seats.{MaySee}
 use Rattle.txn_gate.proofs.Saying.{see_says}
 use Rattle.txn_gate.proofs.gates.Gates.see.Goals as goal
 

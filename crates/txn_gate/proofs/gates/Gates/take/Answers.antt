@@ -1,6 +1,6 @@
 use Rattle.std.proofs.Common.{◌∙◌, ap, subst, sym, None}
-use Rattle.gate_rule.specs.Views.{node_at, node_of}
-use Rattle.port_gate.specs.Answers.{TakeSays}
+use Rattle.txn_law.specs.Views.{node_at, node_of}
+use Rattle.node_gate.specs.Answers.{TakeSays}
 use Rattle.txn_gate.specs.Calls.{taken_in}
 use Rattle.txn_gate.proofs.Saying.{take_says}
 use Rattle.txn_gate.proofs.gates.Gates.take.Goals as goal

@@ -1,5 +1,5 @@
 use Rattle.std.proofs.Common.{◌≡◌, ◌∙◌, true, Some, refl, sym, ap, subst}
-use Rattle.gate_records.specs.Entries.{config_of}
+use Rattle.txn_records.specs.Entries.{config_of}
 use Rattle.quiesce_core.specs.Effect.{with_target}
 use Rattle.quiesce_core.specs.Reach.{has_no_cycle}
 use Rattle.quiesce_core.specs.WellFormed.{IsSound, LeadsToProvision}

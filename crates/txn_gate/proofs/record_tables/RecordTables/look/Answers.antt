@@ -1,10 +1,10 @@
 use Rattle.std.proofs.Common.{◌≡◌, ◌∙◌, ◌<◌, ◌||◌, length, sym, ap, subst, arith}
-use Rattle.gate_records.specs.Looks.{is_drained_word}
-use Rattle.gate_word.specs.Words as words
+use Rattle.txn_records.specs.Looks.{is_drained_word}
+use Rattle.quiesce_word.specs.Words as words
 use Rattle.txn_gate.specs.TablesInside.{tabled}
 use Rattle.txn_gate.specs.PortNotes.{note_in}
 use Rattle.txn_gate.specs.TablesOf.{IsTableOf, bare}
-use Rattle.gate_records.proofs.EntryLaws.{config_looked}
+use Rattle.txn_records.proofs.EntryLaws.{config_looked}
 use Rattle.txn_gate.proofs.NotingTables.{noted_looked}
 use Rattle.txn_gate.proofs.record_tables.RecordTables.look.Goals as goal
 

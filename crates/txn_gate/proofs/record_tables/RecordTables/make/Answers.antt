@@ -1,5 +1,5 @@
 use Rattle.std.proofs.Common.{◌∙◌, None, ap, sym, subst, arith}
-use Rattle.gate_records.specs.Entries.{config_of}
+use Rattle.txn_records.specs.Entries.{config_of}
 use Rattle.quiesce_core.specs.Effect.{with_node}
 use Rattle.quiesce_core.specs.Links.{config_in}
 use Rattle.quiesce_core.specs.WellFormed.{IsSound}

@@ -1,7 +1,7 @@
 use Rattle.std.proofs.Common.{◌≡◌, ◌∙◌, ℕ, Some, sym, ap, subst}
 use Rattle.base.proofs.OptionLaws.{map_or_true}
 use Rattle.config_graph.specs.declared.node.Target.{Target}
-use Rattle.gate_records.specs.Entries.{config_of}
+use Rattle.txn_records.specs.Entries.{config_of}
 use Rattle.quiesce_core.specs.Effect.{with_removed}
 use Rattle.quiesce_core.specs.State.{Configuration, empty, is_live, slot, target}
 use Rattle.quiesce_core.specs.WellFormed.{IsSound}

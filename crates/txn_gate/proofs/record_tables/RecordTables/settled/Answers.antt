@@ -1,6 +1,6 @@
 use Rattle.std.proofs.Common.{◌∙◌, ap, sym, subst}
-use Rattle.gate_records.specs.Entries.{config_of}
-use Rattle.gate_records.specs.Notes as records
+use Rattle.txn_records.specs.Entries.{config_of}
+use Rattle.txn_records.specs.Notes as records
 use Rattle.quiesce_core.specs.WellFormed.{IsSound}
 use Rattle.txn_gate.specs.TablesInside.{tabled}
 use Rattle.txn_gate.specs.PortNotes.{is_noted, noted_in}

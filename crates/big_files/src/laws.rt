@@ -1,9 +1,0 @@
-//! A law of the files, as the contract of a function that does nothing.
-
-ghost use Rattle.std.specs.Prelude.{◌≡◌};
-ghost use Rattle.big_files.specs.declared.texts.TheConstants.{MAX_LANES};
-
-/// How many lanes a system has at most.
-pub fn limit_of_lanes()
-    ensures { MAX_LANES ≡ 40 }
-{}

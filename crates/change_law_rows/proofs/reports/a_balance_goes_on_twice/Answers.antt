@@ -1,5 +1,0 @@
-use Rattle.change_law_rows.proofs.MovedTwiceLemmas.{lawful}
-use Rattle.change_law_rows.proofs.reports.a_balance_goes_on_twice.Goals as goal
-
-pub returns : goal.returns
-returns c = record { lawful = lawful }

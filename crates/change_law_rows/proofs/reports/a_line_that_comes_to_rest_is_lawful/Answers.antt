@@ -1,6 +1,0 @@
-use Rattle.change_law_rows.proofs.SerialLemmas.{ran_is_serial}
-use Rattle.change_law_rows.proofs.RanLemmas.{lawful}
-use Rattle.change_law_rows.proofs.reports.a_line_that_comes_to_rest_is_lawful.Goals as goal
-
-pub returns : goal.returns
-returns c = record { lawful = lawful; serial = ran_is_serial }

@@ -1,5 +1,0 @@
-use Rattle.change_law_rows.proofs.EndedEarlyLemmas.{lawful}
-use Rattle.change_law_rows.proofs.reports.a_root_may_end_before_it_is_said_to_be_open.Goals as goal
-
-pub returns : goal.returns
-returns c = record { lawful = lawful }

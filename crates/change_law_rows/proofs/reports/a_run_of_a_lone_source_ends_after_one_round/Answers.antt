@@ -1,5 +1,0 @@
-use Rattle.change_law_rows.proofs.StuckLemmas.{lawful}
-use Rattle.change_law_rows.proofs.reports.a_run_of_a_lone_source_ends_after_one_round.Goals as goal
-
-pub returns : goal.returns
-returns c = record { lawful = lawful }

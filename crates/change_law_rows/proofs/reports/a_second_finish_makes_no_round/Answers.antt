@@ -1,5 +1,0 @@
-use Rattle.change_law_rows.proofs.FinishedTwiceLemmas.{finished_twice}
-use Rattle.change_law_rows.proofs.reports.a_second_finish_makes_no_round.Goals as goal
-
-pub returns : goal.returns
-returns c = record { serial = finished_twice }

@@ -1,5 +1,0 @@
-use Rattle.change_law_rows.proofs.LaterSerialLemmas.{twice_is_serial}
-use Rattle.change_law_rows.proofs.reports.a_second_run_counts_anew.Goals as goal
-
-pub returns : goal.returns
-returns c = record { serial = twice_is_serial }

@@ -1,6 +1,0 @@
-use Rattle.change_law_rows.proofs.SerialLemmas.{summed_is_serial}
-use Rattle.change_law_rows.proofs.SummedLemmas.{lawful}
-use Rattle.change_law_rows.proofs.reports.a_sum_with_a_further_message_is_lawful.Goals as goal
-
-pub returns : goal.returns
-returns c = record { lawful = lawful; serial = summed_is_serial }

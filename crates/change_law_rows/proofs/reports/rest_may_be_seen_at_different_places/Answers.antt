@@ -1,6 +1,0 @@
-use Rattle.change_law_rows.proofs.FilledLemmas.{lawful}
-use Rattle.change_law_rows.proofs.ThreadsAloneLemmas.{not_in_rounds}
-use Rattle.change_law_rows.proofs.reports.rest_may_be_seen_at_different_places.Goals as goal
-
-pub returns : goal.returns
-returns c = record { lawful = lawful; not_in_rounds = not_in_rounds }

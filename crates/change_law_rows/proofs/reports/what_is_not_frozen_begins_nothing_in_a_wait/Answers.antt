@@ -1,5 +1,0 @@
-use Rattle.change_law_rows.proofs.AsideLemmas.{aside_is_serial}
-use Rattle.change_law_rows.proofs.reports.what_is_not_frozen_begins_nothing_in_a_wait.Goals as goal
-
-pub returns : goal.returns
-returns c = record { serial = aside_is_serial }

@@ -1,5 +1,0 @@
-use Rattle.change_law_rows.proofs.OpenUnorderedLemmas.{lawful}
-use Rattle.change_law_rows.proofs.reports.what_is_open_may_be_named_in_any_order.Goals as goal
-
-pub returns : goal.returns
-returns c = record { lawful = lawful }

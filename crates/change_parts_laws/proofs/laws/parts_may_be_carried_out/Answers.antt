@@ -1,0 +1,5 @@
+use Rattle.change_parts_laws.proofs.RoomLemmas.{parts_can_carry_out}
+use Rattle.change_parts_laws.proofs.laws.parts_may_be_carried_out.Goals as goal
+
+pub returns : goal.returns
+returns c = λ old new moves made ps old_graph new_graph old_sound new_sound can parts graphs. parts_can_carry_out old new old_graph new_graph old_sound new_sound moves made can ps parts graphs

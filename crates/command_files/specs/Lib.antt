@@ -1,0 +1,9 @@
+pub mod Fetching
+pub mod Planning
+pub mod Reading
+pub mod Refusals
+pub mod Calls
+pub mod Fitting
+pub mod Leading
+pub mod Preparing
+pub mod Ways

@@ -1,0 +1,28 @@
+-- The words of a fault of an elaboration, and the line that refuses a description.
+use Rattle.std.specs.Prelude.{◌≡◌, false, ℕ, ℤ, List}
+use Rattle.darwin_parser.specs.Tree.{Name, Tree}
+use Rattle.elaborator.specs.Faults.{Faults}
+use Rattle.elaborator.specs.declared.error.ElabError.{ElabError}
+use Rattle.command_answers.specs.DescriptionFaults.{fault_words, is_no_memory}
+use Rattle.command_answers.specs.RefusalLines.{description_line, elaborate_words}
+use Rattle.command_answers.specs.declared.error.DescriptionFault.{DescriptionFault}
+use Rattle.command_answers.specs.declared.status.Status.{Status}
+use Rattle.command_answers.specs.declared.status.Status.TheVariants as status
+use Rattle.command_files.specs.declared.answer.Answer.{Answer}
+
+-- these words name a fault of the component with these arguments
+pub record NamesFault (tree : Tree) (name : Name) (args : List ℤ) (words : List (List ℕ)) : Type 0 where
+  pub fault : ElabError
+  pub holds : Faults tree name args fault
+  pub are : words ≡ elaborate_words fault
+
+-- the answer is this line, with this status
+pub record IsLine (own : Status) (line : List ℕ) (answer : Answer) : Type 0 where
+  pub status_is : answer.status ≡ own
+  pub text_is : answer.text.items ≡ line
+
+-- the answer is the line that names the fault, which is none of memory
+pub record IsRefusalFor (file : List ℕ) (fault : DescriptionFault) (answer : Answer) : Type 0 where
+  pub plain : is_no_memory fault ≡ false
+  pub status_is : answer.status ≡ status.Description
+  pub text_is : answer.text.items ≡ description_line file (fault_words fault)

@@ -1,0 +1,46 @@
+//! What a run answers.
+
+ghost use Rattle.std.specs.Prelude.{◌∷◌, [], codes, IfOk};
+ghost use Rattle.command_answers.specs.RefusalLines as lines;
+ghost use Rattle.command_files.specs.Refusals.{IsLine};
+
+use command_answers::{Status, description_too_long_line, read_fault_line, script_too_long_line};
+use config_graph::NoMemory;
+use std::alloc::Global;
+
+/// A text, and the status with which the run ends where the text is written.
+#[derive(Debug, Drop)]
+pub struct Answer {
+    pub status: Status,
+    pub text: Vec<u8>,
+}
+
+/// The line of a file that can't be read.
+pub fn unreadable(alloc: Global, file: &str) -> Result<Answer, NoMemory>
+    ensures { IfOk result (IsLine Status.ReadFault (lines.read_fault_line file.now)) }
+{
+    Ok(Answer {
+        status: Status::ReadFault,
+        text: read_fault_line(alloc, file)?,
+    })
+}
+
+/// The line of a description that is too long.
+pub fn description_too_long(alloc: Global, file: &str) -> Result<Answer, NoMemory>
+    ensures { IfOk result (IsLine Status.Description (lines.description_line file.now (codes "TooLong" ∷ []))) }
+{
+    Ok(Answer {
+        status: Status::Description,
+        text: description_too_long_line(alloc, file)?,
+    })
+}
+
+/// The line of a script, a file of events or a report that is too long.
+pub fn script_too_long(alloc: Global, name: &str) -> Result<Answer, NoMemory>
+    ensures { IfOk result (IsLine Status.Script (lines.script_line name.now (codes "TooLong" ∷ []))) }
+{
+    Ok(Answer {
+        status: Status::Script,
+        text: script_too_long_line(alloc, name)?,
+    })
+}

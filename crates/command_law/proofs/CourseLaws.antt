@@ -1,0 +1,253 @@
+-- Courses from what the parts of the program say: of a description that was fetched, of a file of events, of a script, and where
+-- memory ran out.
+use Rattle.std.proofs.Common.{◌≡◌, ℕ, ℤ, List, [], ◌∷◌, Some, codes, refl, sym, subst}
+use Rattle.config_graph.specs.Graph.{Graph}
+use Rattle.config_graph.specs.declared.node.Made.{Made}
+use Rattle.darwin_parser.specs.Tree.{Tree}
+use Rattle.change_script.specs.declared.event_files.EventFile.{EventFile}
+use Rattle.change_script.specs.EventFiles.{IsEventFile}
+use Rattle.change_script.specs.ScriptFiles.{IsScript}
+use Rattle.report_types.specs.declared.script.Script.{Script}
+use Rattle.command_answers.specs.Answers.{Answer, ShowsAnswer, description, graph, no_memory, plan, read_fault, refusal, report, script}
+use Rattle.command_answers.specs.RefusalLines.{elaborate_words, plan_words, script_words, report_words}
+use Rattle.command_answers.specs.declared.status.Status.{Status}
+use Rattle.command_words.specs.declared.words.Command.TheVariants as commands
+use Rattle.command_words.specs.declared.words.TopCall.{TopCall}
+use Rattle.command_law.specs.declared.fetched.Fetched.{Fetched}
+use Rattle.command_law.specs.declared.fetched.Fetched.TheVariants.{Held}
+use Rattle.command_law.specs.declared.query.Query.{Query}
+use Rattle.command_law.specs.declared.query.Query.TheVariants as queries
+use Rattle.command_law.specs.Commands.{aim_of, calls_of, course_of_query, course_of_script, course_of}
+use Rattle.command_law.specs.Courses.{FetchCourse, not_fetched, fetched_alone, failed, too_long, leads_on, refused, gives, makes}
+use Rattle.command_law.specs.Descriptions.{IsChecked, IsGraphOfCall, IsDescriptionRefusal, by_text}
+use Rattle.command_law.specs.Descriptions as descriptions
+use Rattle.command_law.specs.Fetches.{Fetch, fetch_of, report_fetch}
+use Rattle.command_law.specs.Lines.{RunLine, calls, GraphUse, draws, starts, changes, Progress, begun, with_description, with_called_graph, Allows, by_elaboration, by_deed, CallLeads, Aim, drawing, planning, replaying, Concludes, behind, FollowsLines, uses}
+use Rattle.command_law.specs.Plans.{Starts, RefusesStart, has_no_graph, is_full, HasPlan, RefusesPlan, starts_not, leads_nowhere, gets_full, made_of_graph}
+use Rattle.command_law.specs.Queries.{IsRefused, AnswersQuery}
+use Rattle.command_law.specs.OneFile.{DescriptionAnswers, cannot_read, is_too_long, answered, EventsAnswers, cannot_read_events, events_file_too_long, events_file_at_fault, ScriptAnswers, cannot_read_script, script_file_too_long, script_file_at_fault, ReportAnswers, cannot_read_report, report_too_long, report_at_fault, upgraded}
+use Rattle.command_law.specs.OneFile as files
+use Rattle.command_law.specs.Scripts.{lines_of_script}
+use Rattle.command_law.proofs.Courses.{first_made}
+use Rattle.command_law.proofs.Readings as readings
+
+-- a call that leads on
+leads_to :
+    (p : Progress) (tree : Tree) (deed : GraphUse) (name : List ℕ) (args : List ℤ) (g : Graph) (made : Made) → p.used ≡ Some tree
+    → IsGraphOfCall tree name args g → Allows p deed g made → CallLeads p deed name args (with_called_graph p deed name args g made)
+leads_to p tree deed name args g made used is allowed = record {
+  tree = tree;
+  is_used = used;
+  graph = g;
+  is_graph = is;
+  made = made;
+  allowed = allowed;
+  is_next = refl;
+}
+
+-- the end of lines
+concluded : (aim : Aim) (p : Progress) (answer : Answer) → Concludes aim p answer → behind aim p [] answer
+concluded aim p answer is = makes answer [] answer is (refl, refl)
+
+module _ (file text : List ℕ) where
+  -- what the lines behind a file give
+  read :
+      (query : Query) (tree : Tree) (answer : Answer) → IsChecked text tree → FollowsLines (behind (aim_of query)) (with_description begun file tree) (calls_of query) [] answer
+      → course_of_query file query (fetch_of file (Held text) ∷ []) answer
+  read query tree answer checked follows = leads_on text [] answer (gives tree [] answer checked follows)
+
+  -- a first call that has no graph
+  call_refused :
+      (aim : Aim) (deed : GraphUse) (name : List ℕ) (args : List ℤ) (lines : List RunLine) (words : List (List ℕ)) → IsDescriptionRefusal text name args words
+      → FollowsLines (behind aim) begun (uses file ∷ calls deed name args ∷ lines) (fetch_of file (Held text) ∷ []) (refusal (description file words))
+  call_refused aim deed name args lines _ (by_text words is) = leads_on text [] (refusal (description file words)) (refused words is)
+  call_refused aim deed name args lines _ (descriptions.by_elaboration tree e checked faults) =
+      let words = elaborate_words e in
+      leads_on text [] (refusal (description file words))
+      (gives tree [] (refusal (description file words)) checked (refused words (by_elaboration tree e refl faults)))
+
+  -- a first start for which there is no graph, or no room
+  start_refused :
+      (aim : Aim) (name : List ℕ) (args : List ℤ) (lines : List RunLine) (words : List (List ℕ)) → RefusesStart text name args words
+      → FollowsLines (behind aim) begun (uses file ∷ calls starts name args ∷ lines) (fetch_of file (Held text) ∷ []) (refusal (description file words))
+  start_refused aim name args lines _ (has_no_graph words is) = call_refused aim starts name args lines words is
+  start_refused aim name args lines _ (is_full g e has lacks) =
+      let words = plan_words e in
+      leads_on text [] (refusal (description file words))
+      (gives has.tree [] (refusal (description file words)) has.checked (refused words (by_deed has.tree g words refl has.is (e, lacks, refl))))
+
+  -- a start that goes on
+  start_leads :
+      (tree : Tree) (name : List ℕ) (args : List ℤ) (old : Graph) (start : Starts text name args old) → IsChecked text tree
+      → CallLeads (with_description begun file tree) starts name args (with_called_graph (with_description begun file tree) starts name args old (made_of_graph old))
+  start_leads tree name args old start checked =
+      leads_to (with_description begun file tree) tree starts name args old (made_of_graph old) refl
+      (subst (λ t. IsGraphOfCall t name args old) (readings.one_tree text start.has_graph.tree tree start.has_graph.checked.is_tree checked.is_tree) start.has_graph.is)
+      (start.has_room, sym (first_made old))
+
+  plan_refused :
+      (call target : TopCall) (words : List (List ℕ)) → RefusesPlan text call target words
+      → course_of_query file (queries.Plan call target) (fetch_of file (Held text) ∷ []) (refusal (description file words))
+  plan_refused call target _ (starts_not words is) = start_refused planning call.top call.args (calls (changes 0 []) target.top target.args ∷ []) words is
+  plan_refused call target _ (leads_nowhere old _ start (by_text words is)) =
+      absurd (readings.never_both text call.top call.args old words start.has_graph (by_text words is))
+  plan_refused call target _ (leads_nowhere old _ start (descriptions.by_elaboration tree e checked faults)) =
+      let words = elaborate_words e in
+      let what = refusal (description file words) in
+      let p = with_description begun file tree in
+      read (queries.Plan call target) tree what checked
+      (gives (with_called_graph p starts call.top call.args old (made_of_graph old)) [] what (start_leads tree call.top call.args old start checked) (refused words (by_elaboration tree e refl faults)))
+  plan_refused call target _ (gets_full old new e start has full) =
+      let words = plan_words e in
+      let what = refusal (description file words) in
+      let p = with_description begun file has.tree in
+      read (queries.Plan call target) has.tree what has.checked
+      (gives (with_called_graph p starts call.top call.args old (made_of_graph old)) [] what (start_leads has.tree call.top call.args old start has.checked)
+      (refused words (by_deed has.tree new words refl has.is (old, [], refl, (e, full, refl)))))
+
+  pub query_refused :
+      (query : Query) (words : List (List ℕ)) → IsRefused query text words
+      → course_of_query file query (fetch_of file (Held text) ∷ []) (refusal (description file words))
+  query_refused (queries.Graph call) words is = call_refused drawing draws call.top call.args [] words is
+  query_refused (queries.Plan call target) words is = plan_refused call target words is
+  query_refused (queries.Replay events) words is = start_refused (replaying events.events) events.name events.args [] words is
+
+  plan_given :
+      (call target : TopCall) (written : List ℕ) (has : HasPlan text call target written)
+      → course_of_query file (queries.Plan call target) (fetch_of file (Held text) ∷ []) (plan has.old has.new has.has_steps.steps)
+  plan_given call target written has =
+      let tree = has.has_graph.tree in
+      let checked = has.has_graph.checked in
+      let steps = has.has_steps.steps in
+      let can = has.has_steps.has_room in
+      let what = plan has.old has.new steps in
+      let p = with_called_graph (with_description begun file tree) starts call.top call.args has.old (made_of_graph has.old) in
+      let made = Rattle.change_law.specs.Scripts.more_made (made_of_graph has.old) can.nodes can.ports in
+      read (queries.Plan call target) tree what checked
+      (gives p [] what (start_leads tree call.top call.args has.old has.starts checked)
+      (gives (with_called_graph p (changes 0 []) target.top target.args has.new made) [] what (leads_to p tree (changes 0 []) target.top target.args has.new made refl has.has_graph.is (has.old, [], refl, (can, refl)))
+      (concluded planning (with_called_graph p (changes 0 []) target.top target.args has.new made) what (has.old, has.new, [], refl, (steps, has.has_steps.is_plan, refl)))))
+
+  pub query_given :
+      (query : Query) (own : Status) (written : List ℕ) → AnswersQuery query text own written
+      → ShowsAnswer (course_of_query file query (fetch_of file (Held text) ∷ [])) own written
+  query_given (queries.Graph call) own written is =
+      let has = is.1.1 in
+      let g = is.1.0 in
+      let p = with_description begun file has.tree in
+      record {
+        answer = graph g;
+        is = read (queries.Graph call) has.tree (graph g) has.checked
+            (gives (with_called_graph p draws call.top call.args g p.made) [] (graph g) (leads_to p has.tree draws call.top call.args g p.made refl has.is refl)
+            (concluded drawing (with_called_graph p draws call.top call.args g p.made) (graph g) (g, [], refl, refl)));
+        has_status = is.0;
+        has_text = is.1.2;
+      }
+  query_given (queries.Plan call target) own written is = record {
+    answer = plan is.1.old is.1.new is.1.has_steps.steps;
+    is = plan_given call target written is.1;
+    has_status = is.0;
+    has_text = is.1.has_steps.is_text;
+  }
+  query_given (queries.Replay events) own written is =
+      let tree = is.starts.has_graph.tree in
+      let checked = is.starts.has_graph.checked in
+      let p = with_called_graph (with_description begun file tree) starts events.name events.args is.graph (made_of_graph is.graph) in
+      record {
+        answer = is.replays.answer;
+        is = read (queries.Replay events) tree is.replays.answer checked
+            (gives p [] is.replays.answer (start_leads tree events.name events.args is.graph is.starts checked)
+            (concluded (replaying events.events) p is.replays.answer (is.graph, [], refl, is.replays.is)));
+        has_status = is.replays.has_status;
+        has_text = is.replays.has_text;
+      }
+
+-- what is answered of a description, by its fetch
+pub describes :
+    (file : List ℕ) (query : Query) (what : Fetched) (own : Status) (text : List ℕ) → DescriptionAnswers file query what own text
+    → ShowsAnswer (course_of_query file query (fetch_of file what ∷ [])) own text
+describes file query _ _ _ cannot_read = record { answer = refusal (read_fault file); is = failed; has_status = refl; has_text = refl }
+describes file query _ _ _ is_too_long =
+    record { answer = refusal (description file (codes "TooLong" ∷ [])); is = too_long; has_status = refl; has_text = refl }
+describes file query _ _ _ (files.refused text words is) =
+    record { answer = refusal (description file words); is = query_refused file text query words is; has_status = refl; has_text = refl }
+describes file query _ _ _ (answered text own written is) = query_given file text query own written is
+
+-- memory ran out, before the fetch or behind it
+pub undescribed : (file : List ℕ) (query : Query) → course_of_query file query [] (refusal no_memory)
+undescribed file query = not_fetched
+
+pub described_in_part : (file : List ℕ) (query : Query) (what : Fetched) → course_of_query file query (fetch_of file what ∷ []) (refusal no_memory)
+described_in_part file query what = fetched_alone what
+
+-- what is answered of a file of events that isn't one
+pub events_refused :
+    (file name : List ℕ) (what : Fetched) (own : Status) (text : List ℕ) → EventsAnswers name what own text
+    → ShowsAnswer (course_of (commands.Replay file name) (fetch_of name what ∷ [])) own text
+events_refused file name _ _ _ cannot_read_events = record { answer = refusal (read_fault name); is = failed; has_status = refl; has_text = refl }
+events_refused file name _ _ _ events_file_too_long =
+    record { answer = refusal (script name (codes "TooLong" ∷ [])); is = too_long; has_status = refl; has_text = refl }
+events_refused file name _ _ _ (events_file_at_fault bytes fault first) =
+    let words = script_words fault in
+    let what = refusal (script name words) in
+    record { answer = what; is = leads_on bytes [] what (refused words (fault, first, refl)); has_status = refl; has_text = refl }
+
+-- what a file of events leads to
+pub script_read :
+    (file name bytes : List ℕ) (events : EventFile) (fetches : List Fetch) (answer : Answer) → IsEventFile bytes events
+    → course_of_query file (queries.Replay events) fetches answer
+    → course_of (commands.Replay file name) (fetch_of name (Held bytes) ∷ fetches) answer
+script_read file name bytes events fetches answer is course = leads_on bytes fetches answer (gives events fetches answer is course)
+
+pub script_unfetched : (file name : List ℕ) → course_of (commands.Replay file name) [] (refusal no_memory)
+script_unfetched file name = not_fetched
+
+pub script_unread : (file name : List ℕ) (what : Fetched) → course_of (commands.Replay file name) (fetch_of name what ∷ []) (refusal no_memory)
+script_unread file name what = fetched_alone what
+
+-- whatever the lines of a script are followed for
+module _ (Then : Progress → FetchCourse) (name : List ℕ) where
+  -- what is answered of a script that isn't one
+  pub script_refused :
+      (what : Fetched) (own : Status) (text : List ℕ) → ScriptAnswers name what own text
+      → ShowsAnswer (course_of_script Then name (fetch_of name what ∷ [])) own text
+  script_refused _ _ _ cannot_read_script = record { answer = refusal (read_fault name); is = failed; has_status = refl; has_text = refl }
+  script_refused _ _ _ script_file_too_long =
+      record { answer = refusal (script name (codes "TooLong" ∷ [])); is = too_long; has_status = refl; has_text = refl }
+  script_refused _ _ _ (script_file_at_fault bytes fault first) =
+      let words = script_words fault in
+      let what = refusal (script name words) in
+      record { answer = what; is = leads_on bytes [] what (refused words (fault, first, refl)); has_status = refl; has_text = refl }
+
+  -- what a script leads to
+  pub statements_read :
+      (bytes : List ℕ) (parsed : Script) (fetches : List Fetch) (answer : Answer) → IsScript bytes parsed
+      → FollowsLines Then begun (lines_of_script parsed.lines) fetches answer
+      → course_of_script Then name (fetch_of name (Held bytes) ∷ fetches) answer
+  statements_read bytes parsed fetches answer is follows = leads_on bytes fetches answer (gives parsed fetches answer is follows)
+
+  pub statements_unfetched : course_of_script Then name [] (refusal no_memory)
+  statements_unfetched = not_fetched
+
+  pub statements_unread : (what : Fetched) → course_of_script Then name (fetch_of name what ∷ []) (refusal no_memory)
+  statements_unread what = fetched_alone what
+
+-- what is answered of a report
+pub upgrades :
+    (file : List ℕ) (what : Fetched) (own : Status) (text : List ℕ) → ReportAnswers file what own text
+    → ShowsAnswer (course_of (commands.Upgrade file) (report_fetch file what ∷ [])) own text
+upgrades file _ _ _ cannot_read_report = record { answer = refusal (read_fault file); is = failed; has_status = refl; has_text = refl }
+upgrades file _ _ _ report_too_long =
+    record { answer = refusal (script file (codes "TooLong" ∷ [])); is = too_long; has_status = refl; has_text = refl }
+upgrades file _ _ _ (report_at_fault bytes fault first) =
+    let words = report_words fault in
+    let what = refusal (script file words) in
+    record { answer = what; is = leads_on bytes [] what (refused words (fault, first, refl)); has_status = refl; has_text = refl }
+upgrades file _ _ _ (upgraded bytes r is) =
+    record { answer = report r; is = leads_on bytes [] (report r) (gives r [] (report r) is (refl, refl)); has_status = refl; has_text = refl }
+
+pub report_unfetched : (file : List ℕ) → course_of (commands.Upgrade file) [] (refusal no_memory)
+report_unfetched file = not_fetched
+
+pub report_unread : (file : List ℕ) (what : Fetched) → course_of (commands.Upgrade file) (report_fetch file what ∷ []) (refusal no_memory)
+report_unread file what = fetched_alone what

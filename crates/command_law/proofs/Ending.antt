@@ -1,0 +1,281 @@
+-- What each status of a run says of its words and fetches, from the one relation of runs.
+use Rattle.std.proofs.Common.{◌≡◌, ◌≢◌, ◌∙◌, ◌⊎◌, inl, inr, ℕ, Bool, List, [], ◌∷◌, ◌++◌, Option, Some, append-nil, refl, sym, ap}
+use Rattle.std.specs.Prelude.{codes}
+use Rattle.std.specs.List.{AllByRecursion}
+use Rattle.base.specs.Count.{Rose}
+use Rattle.cfg_io.specs.Shelf.{Files}
+use Rattle.cfg_io.specs.Sink.{with_bytes}
+use Rattle.command_answers.specs.declared.status.Status.{Status}
+use Rattle.command_answers.specs.declared.status.Status.TheVariants as status
+use Rattle.command_answers.specs.RefusalLines.{read_fault_line}
+use Rattle.command_answers.specs.Summaries.{summary_text}
+use Rattle.command_words.specs.BigFiles.{made_files, script_name}
+use Rattle.report_writing.specs.Reports.{report_text}
+use Rattle.command_words.specs.declared.words.Command.{Command}
+use Rattle.command_words.specs.declared.words.Command.TheVariants as commands
+use Rattle.command_law.specs.Known.{AsksOf, HasNoForm}
+use Rattle.command_law.specs.Schedules.{rounds}
+use Rattle.command_law.specs.declared.query.Query.{Query}
+use Rattle.command_law.specs.declared.query.Query.TheVariants as queries
+use Rattle.command_law.specs.declared.fetched.Fetched.{Fetched}
+use Rattle.command_law.specs.declared.fetched.Fetched.TheVariants.{Held}
+use Rattle.command_answers.specs.Answers.{status_of, text_of, help_text, version_text}
+use Rattle.command_law.specs.Fetches.{Fetch, Gave, failed_names, fetch_of, report_fetch}
+use Rattle.command_law.specs.OneFile.{DescriptionAnswers, cannot_read, is_too_long, refused, answered, EventsAnswers, cannot_read_events, events_file_too_long, events_file_at_fault, ReportAnswers, cannot_read_report, report_too_long, report_at_fault, upgraded}
+use Rattle.command_law.specs.Runs.{Written, whole, stopped, Run, Runs}
+use Rattle.command_law.specs.Outcomes.{NamesFile, MentionsFile, HoldsFile, Ends, WroteFront}
+use Rattle.command_law.proofs.Inverting.{Answer, of_words, AnswersCommand, no_form, answered_to, no_memory, Ran, from_words, Own, command_status, not_usage, not_write_fault, not_no_memory, not_unlawful}
+use Rattle.command_law.proofs.Statuses.{not_two, ok_read_fault, denied_read_fault, memory_ok, write_fault_ok, usage_unlawful, memory_unlawful, write_fault_unlawful}
+use Rattle.command_law.proofs.ScriptEnds.{script_ends}
+use Rattle.command_law.proofs.ScriptEnds as scripts
+use Rattle.command_law.proofs.Wanting.{gives_status}
+
+-- ---- statuses of answers
+
+own_no_write_fault :
+    (knows : Command → Bool) (words : List (List ℕ)) (fetches : List Fetch) (own : Status) (text : List ℕ) → AnswersCommand knows words fetches own text
+    → own ≢ status.WriteFault
+own_no_write_fault knows words _ _ _ (no_form none) is = cc
+own_no_write_fault knows words _ _ _ (answered_to command fetches own text asks to) is =
+    not_write_fault own (command_status command fetches own text to) is
+own_no_write_fault knows words _ _ _ (no_memory fetches) is = cc
+
+-- ---- what a status says of a fetch
+
+description_fault :
+    (file : List ℕ) (query : Query) (given : Fetched) (own : Status) (text : List ℕ) → DescriptionAnswers file query given own text
+    → own ≡ status.ReadFault → (failed_names (fetch_of file given ∷ []) ≡ file ∷ []) × (text ≡ read_fault_line file)
+description_fault file query _ _ _ cannot_read is = (refl, refl)
+description_fault file query _ _ _ is_too_long is = cc
+description_fault file query _ _ _ (refused text why refuses) is = cc
+description_fault file query _ _ _ (answered text own written gives) is = by (gives_status query text own written gives)
+  where
+    by : (own ≡ status.Ok) ⊎ (own ≡ status.Denied) → (failed_names (fetch_of file (Held text) ∷ []) ≡ file ∷ []) × (written ≡ read_fault_line file)
+    by (inl well) = absurd (not_two own status.Ok status.ReadFault well is ok_read_fault)
+    by (inr denied) = absurd (not_two own status.Denied status.ReadFault denied is denied_read_fault)
+
+description_failed :
+    (file : List ℕ) (query : Query) (given : Fetched) (own : Status) (text : List ℕ) → DescriptionAnswers file query given own text
+    → failed_names (fetch_of file given ∷ []) ≢ [] → own ≡ status.ReadFault
+description_failed file query _ _ _ cannot_read some = refl
+description_failed file query _ _ _ is_too_long some = absurd (some refl)
+description_failed file query _ _ _ (refused text why refuses) some = absurd (some refl)
+description_failed file query _ _ _ (answered text own written gives) some = absurd (some refl)
+
+script_fault :
+    (name : List ℕ) (given : Fetched) (own : Status) (text : List ℕ) → EventsAnswers name given own text
+    → own ≡ status.ReadFault → (failed_names (fetch_of name given ∷ []) ≡ name ∷ []) × (text ≡ read_fault_line name)
+script_fault name _ _ _ cannot_read_events is = (refl, refl)
+script_fault name _ _ _ events_file_too_long is = cc
+script_fault name _ _ _ (events_file_at_fault bytes fault first) is = cc
+
+events_failed :
+    (name : List ℕ) (given : Fetched) (own : Status) (text : List ℕ) → EventsAnswers name given own text
+    → failed_names (fetch_of name given ∷ []) ≢ [] → own ≡ status.ReadFault
+events_failed name _ _ _ cannot_read_events some = refl
+events_failed name _ _ _ events_file_too_long some = absurd (some refl)
+events_failed name _ _ _ (events_file_at_fault bytes fault first) some = absurd (some refl)
+
+report_fault :
+    (name : List ℕ) (given : Fetched) (own : Status) (text : List ℕ) → ReportAnswers name given own text
+    → own ≡ status.ReadFault → (failed_names (report_fetch name given ∷ []) ≡ name ∷ []) × (text ≡ read_fault_line name)
+report_fault name _ _ _ cannot_read_report is = (refl, refl)
+report_fault name _ _ _ report_too_long is = cc
+report_fault name _ _ _ (report_at_fault bytes fault first) is = cc
+report_fault name _ _ _ (upgraded bytes r reads) is = cc
+
+report_failed :
+    (name : List ℕ) (given : Fetched) (own : Status) (text : List ℕ) → ReportAnswers name given own text
+    → failed_names (report_fetch name given ∷ []) ≢ [] → own ≡ status.ReadFault
+report_failed name _ _ _ cannot_read_report some = refl
+report_failed name _ _ _ report_too_long some = absurd (some refl)
+report_failed name _ _ _ (report_at_fault bytes fault first) some = absurd (some refl)
+report_failed name _ _ _ (upgraded bytes r reads) some = absurd (some refl)
+
+-- the file of which a fetch failed
+failed_file :
+    (files : Option Files) (command : Command) (fetches : List Fetch) (own : Status) (text : List ℕ) → Answer command fetches own text
+    → AllByRecursion (Gave files) fetches → own ≡ status.ReadFault
+    → (file : List ℕ) × MentionsFile (HoldsFile files) command file × (failed_names fetches ≡ file ∷ []) × (text ≡ read_fault_line file)
+failed_file files commands.Help fetches own text answer told is = cc (answer.0, is)
+failed_file files commands.Version fetches own text answer told is = cc (answer.0, is)
+failed_file files (commands.Flat file call) fetches own text answer told is =
+    let fault = description_fault file (queries.Graph call) answer.given own text answer.answer is in
+    (file, refl, ap failed_names answer.is ∙ fault.0, fault.1)
+failed_file files (commands.Plan file call target) fetches own text answer told is =
+    let fault = description_fault file (queries.Plan call target) answer.given own text answer.answer is in
+    (file, refl, ap failed_names answer.is ∙ fault.0, fault.1)
+failed_file files (commands.Replay file name) fetches own text (inl answer) told is =
+    let fault = script_fault name answer.given own text answer.answer is in
+    (name, inr refl, ap failed_names answer.is ∙ fault.0, fault.1)
+failed_file files (commands.Replay file name) fetches own text (inr answer) told is =
+    let fault = description_fault file (queries.Replay answer.events_file) answer.given own text answer.answer is in
+    (file, inl refl, ap failed_names answer.is ∙ fault.0, fault.1)
+failed_file files (commands.Upgrade file) fetches own text answer told is =
+    let fault = report_fault file answer.given own text answer.answer is in
+    (file, refl, ap failed_names answer.is ∙ fault.0, fault.1)
+failed_file files (commands.Step name) fetches own text answer told is =
+    scripts.failed_file rounds report_text files name fetches own text (script_ends rounds report_text files name fetches own text answer told) is
+failed_file files (commands.Big lanes) fetches own text answer told is =
+    let show = summary_text lanes in
+    let made = Some (made_files lanes) in
+    let found = scripts.failed_file rounds show made script_name answer.within own text (script_ends rounds show made script_name answer.within own text answer.answer answer.told) is in
+    absurd (no_name found.0 (sym answer.none_failed ∙ found.2))
+  where
+    no_name : (name : List ℕ) → [] ≡ name ∷ [] → ⊥
+    no_name name is = cc
+
+any_failed :
+    (files : Option Files) (command : Command) (fetches : List Fetch) (own : Status) (text : List ℕ) → Answer command fetches own text
+    → AllByRecursion (Gave files) fetches → failed_names fetches ≢ [] → own ≡ status.ReadFault
+any_failed files commands.Help fetches own text answer told some = absurd (some (ap failed_names answer.1))
+any_failed files commands.Version fetches own text answer told some = absurd (some (ap failed_names answer.1))
+any_failed files (commands.Flat file call) fetches own text answer told some =
+    description_failed file (queries.Graph call) answer.given own text answer.answer (λ none. some (ap failed_names answer.is ∙ none))
+any_failed files (commands.Plan file call target) fetches own text answer told some =
+    description_failed file (queries.Plan call target) answer.given own text answer.answer (λ none. some (ap failed_names answer.is ∙ none))
+any_failed files (commands.Replay file name) fetches own text (inl answer) told some =
+    events_failed name answer.given own text answer.answer (λ none. some (ap failed_names answer.is ∙ none))
+any_failed files (commands.Replay file name) fetches own text (inr answer) told some =
+    description_failed file (queries.Replay answer.events_file) answer.given own text answer.answer (λ none. some (ap failed_names answer.is ∙ none))
+any_failed files (commands.Upgrade file) fetches own text answer told some =
+    report_failed file answer.given own text answer.answer (λ none. some (ap failed_names answer.is ∙ none))
+any_failed files (commands.Step name) fetches own text answer told some =
+    scripts.any_failed rounds report_text files name fetches own text (script_ends rounds report_text files name fetches own text answer told) some
+any_failed files (commands.Big lanes) fetches own text answer told some = absurd (some (ap failed_names answer.is))
+
+-- ---- the clauses
+
+module _ (knows : Command → Bool) (seen : Run) (run : Ran knows seen) where
+  pub usage : seen.status ≡ status.Usage → HasNoForm knows seen.words × (seen.taken' ≡ with_bytes seen.taken (codes "usage" ++ 10 ∷ []))
+  usage is = by seen.status run.written is
+    where
+      own : (fetches : List Fetch) (s : Status) (text : List ℕ) → AnswersCommand knows seen.words fetches s text → s ≡ status.Usage → seen.taken' ≡ with_bytes seen.taken text
+          → HasNoForm knows seen.words × (seen.taken' ≡ with_bytes seen.taken (codes "usage" ++ 10 ∷ []))
+      own _ _ _ (no_form none) is took = (none, took)
+      own _ _ _ (answered_to command fetches s text asks to) is took =
+          absurd (not_usage s (command_status command fetches s text to) is)
+      own _ _ _ (no_memory fetches) is took = cc
+
+      by : (r : Status) → Written run.own run.text seen.taken seen.taken' seen.faults seen.faults' r → r ≡ status.Usage → HasNoForm knows seen.words × (seen.taken' ≡ with_bytes seen.taken (codes "usage" ++ 10 ∷ []))
+      by _ (whole took same) is = own run.fetches run.own run.text run.answers is took
+      by _ (stopped n short took rose) is = cc
+
+  pub every_usage : HasNoForm knows seen.words → Ends seen.status status.Usage
+  every_usage none = by seen.status run.written
+    where
+      own : (fetches : List Fetch) (s : Status) (text : List ℕ) → AnswersCommand knows seen.words fetches s text → Ends s status.Usage
+      own _ _ _ (no_form other) = inl refl
+      own _ _ _ (answered_to command fetches s text asks to) = absurd (none command asks)
+      own _ _ _ (no_memory fetches) = inr (inl refl)
+
+      by : (r : Status) → Written run.own run.text seen.taken seen.taken' seen.faults seen.faults' r → Ends r status.Usage
+      by _ (whole took same) = own run.fetches run.own run.text run.answers
+      by _ (stopped n short took rose) = inr (inr refl)
+
+  pub read_fault : seen.status ≡ status.ReadFault → (file : List ℕ) × NamesFile knows (HoldsFile seen.files) seen.words file × (seen.failures' ≡ seen.failures ++ file ∷ []) × (seen.taken' ≡ with_bytes seen.taken (read_fault_line file))
+  read_fault is = by seen.status run.written is
+    where
+      own : (fetches : List Fetch) (s : Status) (text : List ℕ) → AnswersCommand knows seen.words fetches s text → AllByRecursion (Gave seen.files) fetches → s ≡ status.ReadFault → seen.failures' ≡ seen.failures ++ failed_names fetches → seen.taken' ≡ with_bytes seen.taken text
+          → (file : List ℕ) × NamesFile knows (HoldsFile seen.files) seen.words file × (seen.failures' ≡ seen.failures ++ file ∷ []) × (seen.taken' ≡ with_bytes seen.taken (read_fault_line file))
+      own _ _ _ (no_form none) told is noted took = cc
+      own _ _ _ (answered_to command fetches s text asks to) told is noted took =
+          let found = failed_file seen.files command fetches s text to told is in
+          (found.0, (command, asks, found.1), noted ∙ ap (λ names. seen.failures ++ names) found.2, took ∙ ap (with_bytes seen.taken) found.3)
+      own _ _ _ (no_memory fetches) told is noted took = cc
+
+      by : (r : Status) → Written run.own run.text seen.taken seen.taken' seen.faults seen.faults' r → r ≡ status.ReadFault
+          → (file : List ℕ) × NamesFile knows (HoldsFile seen.files) seen.words file × (seen.failures' ≡ seen.failures ++ file ∷ []) × (seen.taken' ≡ with_bytes seen.taken (read_fault_line file))
+      by _ (whole took same) is = own run.fetches run.own run.text run.answers run.told is run.noted took
+      by _ (stopped n short took rose) is = cc
+
+  pub every_read_fault : seen.failures' ≢ seen.failures → Ends seen.status status.ReadFault
+  every_read_fault changed = by seen.status run.written
+    where
+      no_names : (names : List (List ℕ)) → seen.failures' ≡ seen.failures ++ names → names ≢ []
+      no_names names noted is = changed (noted ∙ ap (λ ns. seen.failures ++ ns) is ∙ append-nil seen.failures)
+
+      own : (fetches : List Fetch) (s : Status) (text : List ℕ) → AnswersCommand knows seen.words fetches s text → AllByRecursion (Gave seen.files) fetches → seen.failures' ≡ seen.failures ++ failed_names fetches → Ends s status.ReadFault
+      own _ _ _ (no_form none) told noted = absurd (no_names [] noted refl)
+      own _ _ _ (answered_to command fetches s text asks to) told noted =
+          inl (any_failed seen.files command fetches s text to told (no_names (failed_names fetches) noted))
+      own _ _ _ (no_memory fetches) told noted = inr (inl refl)
+
+      by : (r : Status) → Written run.own run.text seen.taken seen.taken' seen.faults seen.faults' r → Ends r status.ReadFault
+      by _ (whole took same) = own run.fetches run.own run.text run.answers run.told run.noted
+      by _ (stopped n short took rose) = inr (inr refl)
+
+  pub every_write_fault : seen.status ≢ status.WriteFault → seen.faults' ≡ seen.faults
+  every_write_fault other = by seen.status run.written other
+    where
+      by : (r : Status) → Written run.own run.text seen.taken seen.taken' seen.faults seen.faults' r → r ≢ status.WriteFault → seen.faults' ≡ seen.faults
+      by _ (whole took same) other = same
+      by _ (stopped n short took rose) other = absurd (other refl)
+
+  pub no_memory_written : seen.status ≡ status.NoMemory → seen.taken' ≡ with_bytes seen.taken (codes "no memory" ++ 10 ∷ [])
+  no_memory_written is = by seen.status run.written is
+    where
+      own : (fetches : List Fetch) (s : Status) (text : List ℕ) → AnswersCommand knows seen.words fetches s text → s ≡ status.NoMemory → seen.taken' ≡ with_bytes seen.taken text
+          → seen.taken' ≡ with_bytes seen.taken (codes "no memory" ++ 10 ∷ [])
+      own _ _ _ (no_form none) is took = cc
+      own _ _ _ (answered_to command fetches s text asks to) is took =
+          absurd (not_no_memory s (command_status command fetches s text to) is)
+      own _ _ _ (no_memory fetches) is took = took
+
+      by : (r : Status) → Written run.own run.text seen.taken seen.taken' seen.faults seen.faults' r → r ≡ status.NoMemory → seen.taken' ≡ with_bytes seen.taken (codes "no memory" ++ 10 ∷ [])
+      by _ (whole took same) is = own run.fetches run.own run.text run.answers is took
+      by _ (stopped n short took rose) is = cc
+
+  -- what words give that ask for a text of the program's own
+  its_text : (command : Command) (own_text : List ℕ) → AsksOf knows seen.words command
+      → ((fetches : List Fetch) (s : Status) (text : List ℕ) → Answer command fetches s text → (s ≡ status.Ok) × (text ≡ own_text))
+      → Ends seen.status status.Ok × (seen.status ≡ status.Ok → seen.taken' ≡ with_bytes seen.taken own_text)
+  its_text command own_text asks says = by seen.status run.written
+    where
+      own : Answer command run.fetches run.own run.text ⊎ (run.own ≡ status.NoMemory) → seen.taken' ≡ with_bytes seen.taken run.text
+          → Ends run.own status.Ok × (run.own ≡ status.Ok → seen.taken' ≡ with_bytes seen.taken own_text)
+      own (inl answer) took =
+          let told = says run.fetches run.own run.text answer in
+          (inl told.0, λ well. took ∙ ap (with_bytes seen.taken) told.1)
+      own (inr memory) took = (inr (inl memory), λ well. absurd (not_two run.own status.NoMemory status.Ok memory well memory_ok))
+
+      by : (r : Status) → Written run.own run.text seen.taken seen.taken' seen.faults seen.faults' r → Ends r status.Ok × (r ≡ status.Ok → seen.taken' ≡ with_bytes seen.taken own_text)
+      by _ (whole took same) = own (of_words knows seen.words command run.fetches run.own run.text asks run.answers) took
+      by _ (stopped n short took rose) = (inr (inr refl), λ well. absurd (write_fault_ok well))
+
+  pub helped : AsksOf knows seen.words commands.Help → Ends seen.status status.Ok × (seen.status ≡ status.Ok → seen.taken' ≡ with_bytes seen.taken help_text)
+  helped asks = its_text commands.Help help_text asks (λ fetches s text answer. (answer.0, answer.2))
+
+  pub versioned : AsksOf knows seen.words commands.Version → Ends seen.status status.Ok × (seen.status ≡ status.Ok → seen.taken' ≡ with_bytes seen.taken version_text)
+  versioned asks = its_text commands.Version version_text asks (λ fetches s text answer. (answer.0, answer.2))
+
+  -- no answer of words has this status, and no failing sink gives it
+  never : (other : Status) → ((s : Status) → Own s → s ≢ other) → status.Usage ≢ other → status.NoMemory ≢ other → status.WriteFault ≢ other → seen.status ≢ other
+  never other plain not_used not_short not_failed = by seen.status run.written
+    where
+      own : (fetches : List Fetch) (s : Status) (text : List ℕ) → AnswersCommand knows seen.words fetches s text → s ≢ other
+      own _ _ _ (no_form none) = not_used
+      own _ _ _ (answered_to command fetches s text asks to) = plain s (command_status command fetches s text to)
+      own _ _ _ (no_memory fetches) = not_short
+
+      by : (r : Status) → Written run.own run.text seen.taken seen.taken' seen.faults seen.faults' r → r ≢ other
+      by _ (whole took same) = own run.fetches run.own run.text run.answers
+      by _ (stopped n short took rose) = not_failed
+
+  pub no_other : seen.status ≢ status.Unlawful
+  no_other = never status.Unlawful not_unlawful usage_unlawful memory_unlawful write_fault_unlawful
+
+-- what a failing sink took
+pub write_fault : (knows : Command → Bool) (seen : Run) → Runs knows seen → seen.status ≡ status.WriteFault → Rose seen.faults seen.faults' × WroteFront knows seen
+write_fault knows seen run is = by seen.status run.written is
+  where
+    other : status_of run.answer ≢ status.WriteFault
+    other =
+        own_no_write_fault knows seen.words run.fetches (status_of run.answer) (text_of run.answer)
+        (from_words knows seen.words run.fetches run.answer run.answers)
+
+    by : (r : Status) → Written (status_of run.answer) (text_of run.answer) seen.taken seen.taken' seen.faults seen.faults' r → r ≡ status.WriteFault
+        → Rose seen.faults seen.faults' × WroteFront knows seen
+    by _ (whole took same) is = absurd (other is)
+    by _ (stopped n short took rose) is =
+        (rose, record { fetches = run.fetches; answer = run.answer; answers = run.answers; noted = run.noted; told = run.told; other = other; count = n; short = short; front = took })

@@ -1,0 +1,460 @@
+-- What an answer of words says, by the command that they ask for.
+use Rattle.std.proofs.Common.{◌≡◌, ◌≢◌, ◌∙◌, ◌⊎◌, inl, inr, ℕ, Bool, true, false, if◌then◌else◌, List, [], ◌∷◌, ◌++◌, Some, codes, refl, sym, ap, subst}
+use Rattle.std.specs.Prelude.{◌==◌}
+use Rattle.std.specs.List.{AllByRecursion}
+use Rattle.change_script.specs.declared.event_files.EventFile.{EventFile}
+use Rattle.change_script.specs.EventFiles.{IsEventFile}
+use Rattle.change_script.specs.ScriptFiles.{IsScript}
+use Rattle.report_types.specs.declared.script.Script.{Script}
+use Rattle.command_answers.specs.declared.status.Status.{Status}
+use Rattle.command_answers.specs.declared.status.Status.TheVariants as status
+use Rattle.command_words.specs.declared.words.Command.{Command}
+use Rattle.command_words.specs.declared.words.Command.TheVariants as commands
+use Rattle.command_law.specs.Known.{AsksOf, HasNoForm}
+use Rattle.command_law.specs.declared.query.Query.{Query}
+use Rattle.command_law.specs.declared.query.Query.TheVariants as queries
+use Rattle.command_law.specs.declared.fetched.Fetched.{Fetched}
+use Rattle.command_law.specs.declared.fetched.Fetched.TheVariants.{Held, TooLong, Failed}
+use Rattle.command_answers.specs.Answers as values
+use Rattle.command_answers.specs.Answers.{refusal, run_status, status_of, text_of, usage_line, no_memory_line, help_text, version_text}
+use Rattle.command_answers.specs.RefusalLines.{read_fault_line, script_line}
+use Rattle.command_words.specs.BigFiles.{made_files, script_name}
+use Rattle.report_writing.specs.Reports.{report_text}
+use Rattle.report_types.specs.declared.report.Report.{Report}
+use Rattle.command_answers.specs.Summaries.{summary_text}
+use Rattle.command_law.specs.Commands.{course_of, course_of_script, in_summary, OfMadeFiles}
+use Rattle.command_law.specs.Courses.{FetchCourse, not_fetched, fetched_alone, failed, too_long, leads_on, not_judged}
+use Rattle.command_law.specs.Courses as courses
+use Rattle.command_law.specs.Fetches.{Fetch, fetch_of, failed_names, Gave, report_fetch}
+use Rattle.command_law.specs.Lines.{RunLine, uses, calls, does, Progress, begun, with_description, with_statement, running, behind, FollowsLines}
+use Rattle.command_law.specs.OneFile.{DescriptionAnswers, cannot_read, is_too_long, refused, answered, EventsAnswers, cannot_read_events, events_file_too_long, events_file_at_fault, ScriptAnswers, cannot_read_script, script_file_too_long, script_file_at_fault, ReportAnswers, cannot_read_report, report_too_long, report_at_fault, upgraded}
+use Rattle.command_law.specs.Runs.{Written, AnswersWords, asked, Run, Runs}
+use Rattle.command_law.specs.Runs as runs
+use Rattle.command_law.specs.Schedules.{Schedule, rounds}
+use Rattle.command_law.specs.Scripts.{lines_of_script}
+use Rattle.command_words.proofs.WordsLaws.{one_command}
+use Rattle.command_law.proofs.Courses.{OfQuery, out_of_memory, of_description, from_query}
+use Rattle.command_law.proofs.Wanting.{gives_status}
+
+-- ---- the statuses that answers have
+
+-- a status that an answer of one file may have
+pub data Plain : Status → Type 0 where
+  well : Plain status.Ok
+  description : Plain status.Description
+  script : Plain status.Script
+  read_fault : Plain status.ReadFault
+  denied : Plain status.Denied
+
+-- a status that a command may have of itself
+pub data Own : Status → Type 0 where
+  plain : (s : Status) → Plain s → Own s
+  pending : Own status.Pending
+  unfinished : Own status.Unfinished
+
+-- of a run, by its report
+run_own_with : (waits undone : Bool) → Own (if waits then status.Pending else if undone then status.Unfinished else status.Ok)
+run_own_with true undone = pending
+run_own_with false true = unfinished
+run_own_with false false = plain status.Ok well
+
+run_own : (n : ℕ) → Own (run_status n)
+run_own n = run_own_with (n == 7) (n == 8)
+
+-- of lines, behind which a status comes that a command may have, or memory runs out
+module _
+    (Then : Progress → FetchCourse)
+    (of_end : (p : Progress) (fetches : List Fetch) (answer : values.Answer) → Then p fetches answer → Own (status_of answer) ⊎ (answer ≡ refusal values.no_memory))
+  where
+    follows_status :
+        (p : Progress) (lines : List RunLine) (fetches : List Fetch) (answer : values.Answer) → FollowsLines Then p lines fetches answer
+        → Own (status_of answer) ⊎ (answer ≡ refusal values.no_memory)
+    follows_status p [] fetches answer then_ = of_end p fetches answer then_
+    follows_status p (uses file ∷ lines) _ _ not_fetched = inr refl
+    follows_status p (uses file ∷ lines) _ _ (fetched_alone what) = inr refl
+    follows_status p (uses file ∷ lines) _ _ failed = inl (plain status.ReadFault read_fault)
+    follows_status p (uses file ∷ lines) _ _ too_long = inl (plain status.Description description)
+    follows_status p (uses file ∷ lines) _ _ (leads_on bytes _ _ not_judged) = inr refl
+    follows_status p (uses file ∷ lines) _ _ (leads_on bytes _ _ (courses.refused words why)) = inl (plain status.Description description)
+    follows_status p (uses file ∷ lines) _ _ (leads_on bytes _ _ (courses.gives tree fetches answer checked follows)) =
+        follows_status (with_description p file tree) lines fetches answer follows
+    follows_status p (calls deed name args ∷ lines) _ _ not_judged = inr refl
+    follows_status p (calls deed name args ∷ lines) _ _ (courses.refused words why) = inl (plain status.Description description)
+    follows_status p (calls deed name args ∷ lines) _ _ (courses.gives next fetches answer leads follows) = follows_status next lines fetches answer follows
+    follows_status p (does what ∷ lines) fetches answer follows = follows_status (with_statement p what) lines fetches answer follows
+
+-- of a run that is behind them
+run_status_behind :
+    (schedule : Schedule) (p : Progress) (fetches : List Fetch) (answer : values.Answer) → behind (running schedule) p fetches answer
+    → Own (status_of answer) ⊎ (answer ≡ refusal values.no_memory)
+run_status_behind schedule p _ _ courses.not_made = inr refl
+run_status_behind schedule p _ _ (courses.makes what fetches answer concludes says) =
+    inl (subst (λ a. Own (status_of a)) (sym (says.1 ∙ concludes.2)) (run_own concludes.0.status))
+
+-- ---- what is answered, by what was fetched
+
+-- an answer of one description
+pub record OfDescription (file : List ℕ) (query : Query) (fetches : List Fetch) (own : Status) (text : List ℕ) : Type 0 where
+  pub given : Fetched
+  pub is : fetches ≡ fetch_of file given ∷ []
+  pub answer : DescriptionAnswers file query given own text
+
+pub record OfScript (name : List ℕ) (fetches : List Fetch) (own : Status) (text : List ℕ) : Type 0 where
+  pub given : Fetched
+  pub is : fetches ≡ fetch_of name given ∷ []
+  pub answer : EventsAnswers name given own text
+
+pub record OfReplay (file name : List ℕ) (fetches : List Fetch) (own : Status) (text : List ℕ) : Type 0 where
+  pub bytes : List ℕ
+  pub events_file : EventFile
+  pub given : Fetched
+  pub is : fetches ≡ fetch_of name (Held bytes) ∷ fetch_of file given ∷ []
+  pub is_event_file : IsEventFile bytes events_file
+  pub answer : DescriptionAnswers file (queries.Replay events_file) given own text
+
+pub record OfReport (name : List ℕ) (fetches : List Fetch) (own : Status) (text : List ℕ) : Type 0 where
+  pub given : Fetched
+  pub is : fetches ≡ report_fetch name given ∷ []
+  pub answer : ReportAnswers name given own text
+
+-- the text of an answer, where this is shown of the report of a run
+abbrev pub shown_text : (Report → List ℕ) → values.Answer → List ℕ
+shown_text show (values.refusal why) = text_of (values.refusal why)
+shown_text show values.help = help_text
+shown_text show values.version = version_text
+shown_text show (values.graph g) = text_of (values.graph g)
+shown_text show (values.plan old new steps) = text_of (values.plan old new steps)
+shown_text show (values.denied number rule) = text_of (values.denied number rule)
+shown_text show (values.replay count s settled) = text_of (values.replay count s settled)
+shown_text show (values.report r) = text_of (values.report r)
+shown_text show (values.ran r) = show r
+shown_text show (values.summary lanes r) = text_of (values.summary lanes r)
+
+-- an answer of a script: it isn't one, or its lines have an answer that isn't for want of memory
+pub data OfStep (schedule : Schedule) (show : Report → List ℕ) (name : List ℕ) : List Fetch → Status → List ℕ → Type 0 where
+  of_script :
+      (given : Fetched) (own : Status) (text : List ℕ) → ScriptAnswers name given own text → OfStep schedule show name (fetch_of name given ∷ []) own text
+  of_lines :
+      (bytes : List ℕ) (parsed : Script) (fetches : List Fetch) (answer : values.Answer) → IsScript bytes parsed
+      → FollowsLines (behind (running schedule)) begun (lines_of_script parsed.lines) fetches answer → Own (status_of answer)
+      → OfStep schedule show name (fetch_of name (Held bytes) ∷ fetches) (status_of answer) (shown_text show answer)
+
+-- an answer of a script that was made, by its own fetches
+pub record OfBig (lanes : ℕ) (fetches : List Fetch) (own : Status) (text : List ℕ) : Type 0 where
+  pub is : fetches ≡ []
+  pub within : List Fetch
+  pub told : AllByRecursion (Gave (Some (made_files lanes))) within
+  pub none_failed : failed_names within ≡ []
+  pub answer : OfStep rounds (summary_text lanes) script_name within own text
+
+-- what is answered to a command
+abbrev pub Answer : Command → List Fetch → Status → List ℕ → Type 0
+Answer commands.Help fetches own text = (own ≡ status.Ok) × (fetches ≡ []) × (text ≡ help_text)
+Answer commands.Version fetches own text = (own ≡ status.Ok) × (fetches ≡ []) × (text ≡ version_text)
+Answer (commands.Flat file call) fetches own text = OfDescription file (queries.Graph call) fetches own text
+Answer (commands.Plan file call target) fetches own text = OfDescription file (queries.Plan call target) fetches own text
+Answer (commands.Replay file name) fetches own text = OfScript name fetches own text ⊎ OfReplay file name fetches own text
+Answer (commands.Upgrade file) fetches own text = OfReport file fetches own text
+Answer (commands.Step name) fetches own text = OfStep rounds report_text name fetches own text
+Answer (commands.Big lanes) fetches own text = OfBig lanes fetches own text
+
+module _ (schedule : Schedule) (show : Report → List ℕ) (name : List ℕ) where
+  pub from_script :
+      (fetches : List Fetch) (answer : values.Answer) → course_of_script (behind (running schedule)) name fetches answer
+      → OfStep schedule show name fetches (status_of answer) (shown_text show answer) ⊎ (answer ≡ refusal values.no_memory)
+  from_script _ _ not_fetched = inr refl
+  from_script _ _ (fetched_alone what) = inr refl
+  from_script _ _ failed = inl (of_script Failed status.ReadFault (read_fault_line name) cannot_read_script)
+  from_script _ _ too_long = inl (of_script TooLong status.Script (script_line name (codes "TooLong" ∷ [])) script_file_too_long)
+  from_script _ _ (leads_on bytes _ _ not_judged) = inr refl
+  from_script _ _ (leads_on bytes _ _ (courses.refused words (fault, first, is))) =
+      inl (of_script (Held bytes) status.Script (script_line name words)
+      (subst (λ w. ScriptAnswers name (Held bytes) status.Script (script_line name w)) (sym is) (script_file_at_fault bytes fault first)))
+  from_script _ _ (leads_on bytes _ _ (courses.gives parsed fetches answer is follows)) =
+      by (follows_status (behind (running schedule)) (run_status_behind schedule) begun (lines_of_script parsed.lines) fetches answer follows)
+    where
+      by : Own (status_of answer) ⊎ (answer ≡ refusal values.no_memory)
+          → OfStep schedule show name (fetch_of name (Held bytes) ∷ fetches) (status_of answer) (shown_text show answer) ⊎ (answer ≡ refusal values.no_memory)
+      by (inl own) = inl (of_lines bytes parsed fetches answer is follows own)
+      by (inr short) = inr short
+
+shown_as_is : (answer : values.Answer) → shown_text report_text answer ≡ text_of answer
+shown_as_is (values.refusal why) = refl
+shown_as_is values.help = refl
+shown_as_is values.version = refl
+shown_as_is (values.graph g) = refl
+shown_as_is (values.plan old new steps) = refl
+shown_as_is (values.denied number rule) = refl
+shown_as_is (values.replay count s settled) = refl
+shown_as_is (values.report r) = refl
+shown_as_is (values.ran r) = refl
+shown_as_is (values.summary lanes r) = refl
+
+summary_shown :
+    (lanes : ℕ) (answer : values.Answer)
+    → (status_of (in_summary lanes answer) ≡ status_of answer) × (text_of (in_summary lanes answer) ≡ shown_text (summary_text lanes) answer)
+summary_shown lanes (values.refusal why) = (refl, refl)
+summary_shown lanes values.help = (refl, refl)
+summary_shown lanes values.version = (refl, refl)
+summary_shown lanes (values.graph g) = (refl, refl)
+summary_shown lanes (values.plan old new steps) = (refl, refl)
+summary_shown lanes (values.denied number rule) = (refl, refl)
+summary_shown lanes (values.replay count s settled) = (refl, refl)
+summary_shown lanes (values.report r) = (refl, refl)
+summary_shown lanes (values.ran r) = (refl, refl)
+summary_shown lanes (values.summary other r) = (refl, refl)
+
+from_made :
+    (lanes : ℕ) (fetches : List Fetch) (answer : values.Answer) → fetches ≡ [] → OfMadeFiles lanes answer
+    → OfBig lanes fetches (status_of answer) (text_of answer) ⊎ (answer ≡ refusal values.no_memory)
+from_made lanes fetches answer none of_made = by (from_script rounds (summary_text lanes) script_name of_made.own of_made.made of_made.course)
+  where
+    shown : (status_of answer ≡ status_of of_made.made) × (text_of answer ≡ shown_text (summary_text lanes) of_made.made)
+    shown =
+        let s = summary_shown lanes of_made.made in
+        (ap status_of of_made.is ∙ s.0, ap text_of of_made.is ∙ s.1)
+
+    by : OfStep rounds (summary_text lanes) script_name of_made.own (status_of of_made.made) (shown_text (summary_text lanes) of_made.made)
+        ⊎ (of_made.made ≡ refusal values.no_memory)
+        → OfBig lanes fetches (status_of answer) (text_of answer) ⊎ (answer ≡ refusal values.no_memory)
+    by (inl of) = inl (record {
+      is = none;
+      within = of_made.own;
+      told = of_made.told;
+      none_failed = of_made.none_failed;
+      answer =
+          subst (λ s. OfStep rounds (summary_text lanes) script_name of_made.own s (text_of answer)) (sym shown.0)
+          (subst (λ t. OfStep rounds (summary_text lanes) script_name of_made.own (status_of of_made.made) t) (sym shown.1) of);
+    })
+    by (inr short) = inr (of_made.is ∙ ap (in_summary lanes) short)
+
+pub from_command :
+    (command : Command) (fetches : List Fetch) (answer : values.Answer) → course_of command fetches answer
+    → Answer command fetches (status_of answer) (text_of answer) ⊎ (answer ≡ refusal values.no_memory)
+from_command commands.Help fetches answer course = inl (ap status_of course.1, course.0, ap text_of course.1)
+from_command commands.Version fetches answer course = inl (ap status_of course.1, course.0, ap text_of course.1)
+from_command (commands.Flat file call) fetches answer course = by fetches answer (from_query file (queries.Graph call) fetches answer course)
+  where
+    by : (fs : List Fetch) (a : values.Answer) → OfQuery file (queries.Graph call) fs a
+        → OfDescription file (queries.Graph call) fs (status_of a) (text_of a) ⊎ (a ≡ refusal values.no_memory)
+    by _ _ (out_of_memory fs) = inr refl
+    by _ _ (of_description what a d) = inl (record { given = what; is = refl; answer = d })
+from_command (commands.Plan file call target) fetches answer course = by fetches answer (from_query file (queries.Plan call target) fetches answer course)
+  where
+    by : (fs : List Fetch) (a : values.Answer) → OfQuery file (queries.Plan call target) fs a
+        → OfDescription file (queries.Plan call target) fs (status_of a) (text_of a) ⊎ (a ≡ refusal values.no_memory)
+    by _ _ (out_of_memory fs) = inr refl
+    by _ _ (of_description what a d) = inl (record { given = what; is = refl; answer = d })
+from_command (commands.Replay file name) _ _ not_fetched = inr refl
+from_command (commands.Replay file name) _ _ (fetched_alone what) = inr refl
+from_command (commands.Replay file name) _ _ failed = inl (inl (record { given = Failed; is = refl; answer = cannot_read_events }))
+from_command (commands.Replay file name) _ _ too_long = inl (inl (record { given = TooLong; is = refl; answer = events_file_too_long }))
+from_command (commands.Replay file name) _ _ (leads_on bytes _ _ not_judged) = inr refl
+from_command (commands.Replay file name) _ _ (leads_on bytes _ _ (courses.refused words (fault, first, is))) =
+    inl (inl (record {
+      given = Held bytes;
+      is = refl;
+      answer = subst (λ w. EventsAnswers name (Held bytes) status.Script (script_line name w)) (sym is) (events_file_at_fault bytes fault first);
+    }))
+from_command (commands.Replay file name) _ _ (leads_on bytes _ _ (courses.gives events fetches answer is course)) =
+    by fetches answer (from_query file (queries.Replay events) fetches answer course)
+  where
+    by : (fs : List Fetch) (a : values.Answer) → OfQuery file (queries.Replay events) fs a
+        → (OfScript name (fetch_of name (Held bytes) ∷ fs) (status_of a) (text_of a)
+        ⊎ OfReplay file name (fetch_of name (Held bytes) ∷ fs) (status_of a) (text_of a)) ⊎ (a ≡ refusal values.no_memory)
+    by _ _ (out_of_memory fs) = inr refl
+    by _ _ (of_description what a d) =
+        inl (inr (record { bytes = bytes; events_file = events; given = what; is = refl; is_event_file = is; answer = d }))
+from_command (commands.Upgrade file) _ _ not_fetched = inr refl
+from_command (commands.Upgrade file) _ _ (fetched_alone what) = inr refl
+from_command (commands.Upgrade file) _ _ failed = inl (record { given = Failed; is = refl; answer = cannot_read_report })
+from_command (commands.Upgrade file) _ _ too_long = inl (record { given = TooLong; is = refl; answer = report_too_long })
+from_command (commands.Upgrade file) _ _ (leads_on bytes _ _ not_judged) = inr refl
+from_command (commands.Upgrade file) _ _ (leads_on bytes _ _ (courses.refused words (fault, first, is))) =
+    inl (record {
+      given = Held bytes;
+      is = refl;
+      answer = subst (λ w. ReportAnswers file (Held bytes) status.Script (script_line file w)) (sym is) (report_at_fault bytes fault first);
+    })
+from_command (commands.Upgrade file) _ _ (leads_on bytes _ _ (courses.gives r fetches answer is says)) =
+    inl (record {
+      given = Held bytes;
+      is = ap (λ fs. report_fetch file (Held bytes) ∷ fs) says.0;
+      answer = subst (λ a. ReportAnswers file (Held bytes) (status_of a) (text_of a)) (sym says.1) (upgraded bytes r is);
+    })
+from_command (commands.Step name) fetches answer course = by (from_script rounds report_text name fetches answer course)
+  where
+    by : OfStep rounds report_text name fetches (status_of answer) (shown_text report_text answer) ⊎ (answer ≡ refusal values.no_memory)
+        → OfStep rounds report_text name fetches (status_of answer) (text_of answer) ⊎ (answer ≡ refusal values.no_memory)
+    by (inl of) = inl (subst (λ t. OfStep rounds report_text name fetches (status_of answer) t) (shown_as_is answer) of)
+    by (inr short) = inr short
+from_command (commands.Big lanes) fetches answer course = from_made lanes fetches answer course.0 course.1
+
+-- the status and the text of an answer to words
+pub data AnswersCommand (knows : Command → Bool) (words : List (List ℕ)) : List Fetch → Status → List ℕ → Type 0 where
+  no_form : HasNoForm knows words → AnswersCommand knows words [] status.Usage usage_line
+  answered_to :
+      (command : Command) (fetches : List Fetch) (own : Status) (text : List ℕ) → AsksOf knows words command → Answer command fetches own text
+      → AnswersCommand knows words fetches own text
+  no_memory : (fetches : List Fetch) → AnswersCommand knows words fetches status.NoMemory no_memory_line
+
+pub from_words :
+    (knows : Command → Bool) (words : List (List ℕ)) (fetches : List Fetch) (answer : values.Answer) → AnswersWords knows words fetches answer
+    → AnswersCommand knows words fetches (status_of answer) (text_of answer)
+from_words knows words _ _ (runs.no_form none) = no_form none
+from_words knows words _ _ runs.not_read = no_memory []
+from_words knows words _ _ (asked command fetches answer asks course) = by (from_command command fetches answer course)
+  where
+    by : Answer command fetches (status_of answer) (text_of answer) ⊎ (answer ≡ refusal values.no_memory)
+        → AnswersCommand knows words fetches (status_of answer) (text_of answer)
+    by (inl to) = answered_to command fetches (status_of answer) (text_of answer) asks to
+    by (inr is) = subst (λ a. AnswersCommand knows words fetches (status_of a) (text_of a)) (sym is) (no_memory fetches)
+
+-- a run by the status and the text of its answer
+pub record Ran (knows : Command → Bool) (r : Run) : Type 0 where
+  pub fetches : List Fetch
+  pub own : Status
+  pub text : List ℕ
+  pub answers : AnswersCommand knows r.words fetches own text
+  pub noted : r.failures' ≡ r.failures ++ failed_names fetches
+  pub told : AllByRecursion (Gave r.files) fetches
+  pub written : Written own text r.taken r.taken' r.faults r.faults' r.status
+
+pub ran : (knows : Command → Bool) (r : Run) → Runs knows r → Ran knows r
+ran knows r run = record {
+  fetches = run.fetches;
+  own = status_of run.answer;
+  text = text_of run.answer;
+  answers = from_words knows r.words run.fetches run.answer run.answers;
+  noted = run.noted;
+  told = run.told;
+  written = run.written;
+}
+
+-- the answer of words that ask for a command, unless memory ran out
+pub of_words :
+    (knows : Command → Bool) (words : List (List ℕ)) (command : Command) (fetches : List Fetch) (own : Status) (text : List ℕ)
+    → AsksOf knows words command → AnswersCommand knows words fetches own text → Answer command fetches own text ⊎ (own ≡ status.NoMemory)
+of_words knows words command _ _ _ asks (no_form none) = absurd (none command asks)
+of_words knows words command _ _ _ asks (answered_to other fetches own text also to) =
+    inl (subst (λ c. Answer c fetches own text) (one_command words other command also.1 asks.1) to)
+of_words knows words command _ _ _ asks (no_memory fetches) = inr refl
+
+-- ---- statuses of answers
+
+pub description_status :
+    (file : List ℕ) (query : Query) (given : Fetched) (own : Status) (text : List ℕ) → DescriptionAnswers file query given own text → Plain own
+description_status file query _ _ _ cannot_read = read_fault
+description_status file query _ _ _ is_too_long = description
+description_status file query _ _ _ (refused text why refuses) = description
+description_status file query _ _ _ (answered text own written gives) = by (gives_status query text own written gives)
+  where
+    by : (own ≡ status.Ok) ⊎ (own ≡ status.Denied) → Plain own
+    by (inl is) = rw is well
+    by (inr is) = rw is denied
+
+pub script_status : (name : List ℕ) (given : Fetched) (own : Status) (text : List ℕ) → EventsAnswers name given own text → Plain own
+script_status name _ _ _ cannot_read_events = read_fault
+script_status name _ _ _ events_file_too_long = script
+script_status name _ _ _ (events_file_at_fault bytes fault first) = script
+
+pub report_status : (name : List ℕ) (given : Fetched) (own : Status) (text : List ℕ) → ReportAnswers name given own text → Plain own
+report_status name _ _ _ cannot_read_report = read_fault
+report_status name _ _ _ report_too_long = script
+report_status name _ _ _ (report_at_fault bytes fault first) = script
+report_status name _ _ _ (upgraded bytes r is) = well
+
+pub statements_status : (name : List ℕ) (given : Fetched) (own : Status) (text : List ℕ) → ScriptAnswers name given own text → Plain own
+statements_status name _ _ _ cannot_read_script = read_fault
+statements_status name _ _ _ script_file_too_long = script
+statements_status name _ _ _ (script_file_at_fault bytes fault first) = script
+
+step_status :
+    (schedule : Schedule) (show : Report → List ℕ) (name : List ℕ) (fetches : List Fetch) (own : Status) (text : List ℕ) → OfStep schedule show name fetches own text
+    → Own own
+step_status schedule show name _ _ _ (of_script given own text answer) = plain own (statements_status name given own text answer)
+step_status schedule show name _ _ _ (of_lines bytes parsed fetches answer is follows own) = own
+
+pub command_status : (command : Command) (fetches : List Fetch) (own : Status) (text : List ℕ) → Answer command fetches own text → Own own
+command_status commands.Help fetches own text answer = rw answer.0 (plain status.Ok well)
+command_status commands.Version fetches own text answer = rw answer.0 (plain status.Ok well)
+command_status (commands.Flat file call) fetches own text answer = plain own (description_status file (queries.Graph call) answer.given own text answer.answer)
+command_status (commands.Plan file call target) fetches own text answer = plain own (description_status file (queries.Plan call target) answer.given own text answer.answer)
+command_status (commands.Replay file name) fetches own text (inl answer) = plain own (script_status name answer.given own text answer.answer)
+command_status (commands.Replay file name) fetches own text (inr answer) = plain own (description_status file (queries.Replay answer.events_file) answer.given own text answer.answer)
+command_status (commands.Upgrade file) fetches own text answer = plain own (report_status file answer.given own text answer.answer)
+command_status (commands.Step name) fetches own text answer = step_status rounds report_text name fetches own text answer
+command_status (commands.Big lanes) fetches own text answer = step_status rounds (summary_text lanes) script_name answer.within own text answer.answer
+
+pub not_usage : (own : Status) → Own own → own ≢ status.Usage
+not_usage _ (plain _ well) is = cc
+not_usage _ (plain _ description) is = cc
+not_usage _ (plain _ script) is = cc
+not_usage _ (plain _ read_fault) is = cc
+not_usage _ (plain _ denied) is = cc
+not_usage _ pending is = cc
+not_usage _ unfinished is = cc
+
+pub not_write_fault : (own : Status) → Own own → own ≢ status.WriteFault
+not_write_fault _ (plain _ well) is = cc
+not_write_fault _ (plain _ description) is = cc
+not_write_fault _ (plain _ script) is = cc
+not_write_fault _ (plain _ read_fault) is = cc
+not_write_fault _ (plain _ denied) is = cc
+not_write_fault _ pending is = cc
+not_write_fault _ unfinished is = cc
+
+pub not_no_memory : (own : Status) → Own own → own ≢ status.NoMemory
+not_no_memory _ (plain _ well) is = cc
+not_no_memory _ (plain _ description) is = cc
+not_no_memory _ (plain _ script) is = cc
+not_no_memory _ (plain _ read_fault) is = cc
+not_no_memory _ (plain _ denied) is = cc
+not_no_memory _ pending is = cc
+not_no_memory _ unfinished is = cc
+
+pub not_unlawful : (own : Status) → Own own → own ≢ status.Unlawful
+not_unlawful _ (plain _ well) is = cc
+not_unlawful _ (plain _ description) is = cc
+not_unlawful _ (plain _ script) is = cc
+not_unlawful _ (plain _ read_fault) is = cc
+not_unlawful _ (plain _ denied) is = cc
+not_unlawful _ pending is = cc
+not_unlawful _ unfinished is = cc
+
+not_pending : (own : Status) → Plain own → own ≢ status.Pending
+not_pending _ well is = cc
+not_pending _ description is = cc
+not_pending _ script is = cc
+not_pending _ read_fault is = cc
+not_pending _ denied is = cc
+
+not_unfinished : (own : Status) → Plain own → own ≢ status.Unfinished
+not_unfinished _ well is = cc
+not_unfinished _ description is = cc
+not_unfinished _ script is = cc
+not_unfinished _ read_fault is = cc
+not_unfinished _ denied is = cc
+
+not_run : (own : Status) → Plain own → (own ≡ status.Pending) ⊎ (own ≡ status.Unfinished) → ⊥
+not_run own is_plain (inl is) = not_pending own is_plain is
+not_run own is_plain (inr is) = not_unfinished own is_plain is
+
+-- only the run of a script ends so, fetched or made
+pub only_scripts :
+    (command : Command) (fetches : List Fetch) (own : Status) (text : List ℕ) → Answer command fetches own text
+    → (own ≡ status.Pending) ⊎ (own ≡ status.Unfinished)
+    → ((name : List ℕ) × (command ≡ commands.Step name)) ⊎ ((lanes : ℕ) × (command ≡ commands.Big lanes))
+only_scripts commands.Help fetches own text answer is = absurd (not_run own (rw answer.0 well) is)
+only_scripts commands.Version fetches own text answer is = absurd (not_run own (rw answer.0 well) is)
+only_scripts (commands.Flat file call) fetches own text answer is =
+    absurd (not_run own (description_status file (queries.Graph call) answer.given own text answer.answer) is)
+only_scripts (commands.Plan file call target) fetches own text answer is =
+    absurd (not_run own (description_status file (queries.Plan call target) answer.given own text answer.answer) is)
+only_scripts (commands.Replay file name) fetches own text (inl answer) is =
+    absurd (not_run own (script_status name answer.given own text answer.answer) is)
+only_scripts (commands.Replay file name) fetches own text (inr answer) is =
+    absurd (not_run own (description_status file (queries.Replay answer.events_file) answer.given own text answer.answer) is)
+only_scripts (commands.Upgrade file) fetches own text answer is = absurd (not_run own (report_status file answer.given own text answer.answer) is)
+only_scripts (commands.Step name) fetches own text answer is = inl (name, refl)
+only_scripts (commands.Big lanes) fetches own text answer is = inr (lanes, refl)

@@ -1,0 +1,318 @@
+-- What a run says of a script, and how it must end, from the one relation of runs.
+use Rattle.std.proofs.Common.{◌≡◌, ◌∙◌, ◌≤◌, ◌<◌, ◌⊎◌, inl, inr, ℕ, ℤ, Bool, true, false, is_some, if◌then◌else◌, List, [], ◌∷◌, Option, Some, None, length, refl, sym, ap, subst, arith}
+use Rattle.std.specs.Prelude.{◌↔◌}
+use Rattle.std.specs.List.{AllByRecursion, list_any}
+use Rattle.std.proofs.lemmas.Option.{same_Some}
+use Rattle.cfg_io.specs.Shelf.{Files}
+use Rattle.cfg_io.specs.Sink.{with_bytes}
+use Rattle.config_graph.specs.Graph.{Graph}
+use Rattle.config_graph.specs.Sound.{Sound}
+use Rattle.darwin_parser.specs.Tree.{Name, Tree}
+use Rattle.darwin_types.specs.Faults.{NoFault}
+use Rattle.elaborator.specs.Elaboration.{HasNoFault, ElaboratesTo}
+use Rattle.elaborator.specs.Faults.{Faults}
+use Rattle.elaborator.specs.declared.error.ElabError.{ElabError}
+use Rattle.change_law.specs.Members.{is_pending}
+use Rattle.change_law.specs.Statements.{Statement}
+use Rattle.change_script.specs.ScriptFiles.{IsScript, IsScriptFault}
+use Rattle.change_script.specs.declared.error.ScriptError.{ScriptError}
+use Rattle.report_types.specs.declared.script.Script.{Script}
+use Rattle.change_script.proofs.ScriptFileLaws as scripts
+use Rattle.command_answers.specs.Answers.{run_status}
+use Rattle.command_answers.specs.declared.status.Status.{Status}
+use Rattle.command_answers.specs.declared.status.Status.TheVariants as status
+use Rattle.command_words.specs.declared.words.Command.TheVariants as commands
+use Rattle.command_law.specs.Known.{AsksOf}
+use Rattle.command_law.specs.Schedules.{Schedule, rounds, IsReportBy}
+use Rattle.command_law.specs.Fetches.{Fetch, failed_names, file_limit, Gave}
+use Rattle.command_law.specs.Lines.{begun}
+use Rattle.command_law.specs.OneFile.{cannot_read_script, script_file_too_long, script_file_at_fault}
+use Rattle.command_law.specs.Outcomes as outcomes
+use Rattle.command_law.specs.Outcomes.{ReadFrom, Ends, HoldsFile, TellsTooLong, IsScriptOf, IsRunStatus, EndsAsRun, MustRefuseScript, MustRefuseLine, NothingRefusesLines}
+use Rattle.command_law.specs.Runs.{Written, whole, stopped, Run}
+use Rattle.command_law.specs.Scripts.{lines_of_script}
+use Rattle.command_law.specs.Ways.{IsTextIn, AreRefused}
+use Rattle.command_law.proofs.Inverting.{Answer, of_words, AnswersCommand, no_form, answered_to, no_memory, only_scripts, Ran}
+use Rattle.command_law.proofs.WayLaws as ways
+use Rattle.command_words.specs.BigFiles.{made_files, script_name}
+use Rattle.report_writing.specs.Reports.{report_text}
+use Rattle.report_types.specs.declared.report.Report.{Report}
+use Rattle.command_answers.specs.Summaries.{summary_text}
+use Rattle.command_words.specs.declared.words.Command.{Command}
+use Rattle.command_law.proofs.ScriptEnds.{big_ends, ScriptEnds, is_none, unread, refuses, reports, script_ends, reported, run_is, no_run, for_memory, for_sink}
+use Rattle.command_law.proofs.Statuses.{usage_pending, usage_unfinished, memory_pending, memory_unfinished, write_fault_pending, write_fault_unfinished}
+use Rattle.command_law.proofs.Telling.{none_added, same_content, within_not_long}
+
+-- ---- how a report says that it ended
+
+ends_with :
+    (own : Status) (waits undone : Bool) → own ≡ run_status (if waits then 7 else if undone then 8 else 0)
+    → ((own ≡ status.Pending) ↔ (waits ≡ true)) × ((own ≡ status.Unfinished) ↔ ((waits ≡ false) × (undone ≡ true)))
+ends_with own true undone is = ((λ same. refl, λ same. is), (λ same. cc (is, same), λ same. cc (same.0)))
+ends_with own false true is = ((λ same. cc (is, same), λ same. cc (same)), (λ same. (refl, refl), λ same. is))
+ends_with own false false is = ((λ same. cc (is, same), λ same. cc (same)), (λ same. cc (is, same), λ same. cc (same.1)))
+
+status_by :
+    (schedule : Schedule) (statements : List Statement) (report : Report) → IsReportBy schedule statements report
+    → report.status ≡ (if list_any is_pending report.history then 7 else if is_some report.unfinished then 8 else 0)
+status_by rounds statements report is = is.lawful.lawful.by_them.status
+
+pub ends_by_report :
+    (schedule : Schedule) (show : Report → List ℕ) (files : Option Files) (name : List ℕ) (own : Status) (taken taken' : Option (List ℕ))
+    (r : outcomes.RanShowing schedule show files name own taken taken')
+    → ((own ≡ status.Pending) ↔ (list_any is_pending r.report.history ≡ true))
+    × ((own ≡ status.Unfinished) ↔ ((list_any is_pending r.report.history ≡ false) × (is_some r.report.unfinished ≡ true)))
+ends_by_report schedule show files name own taken taken' r =
+    ends_with own (list_any is_pending r.report.history) (is_some r.report.unfinished) (r.ended ∙ ap run_status (status_by schedule r.statements r.report r.is_report))
+
+-- ---- what a file holds
+
+-- a script needn't be refused
+need_no_refusal :
+    (content : Option (List ℕ)) (bytes : List ℕ) (script : Script) → MustRefuseScript content → content ≡ Some bytes → length bytes ≤ file_limit
+    → IsScript bytes script → ⊥
+need_no_refusal None bytes script must holds within is = must
+need_no_refusal (Some other) bytes script must holds within is = by must
+  where
+    same : other ≡ bytes
+    same = same_Some other bytes holds
+
+    by : (file_limit < length other) ⊎ ((fault : ScriptError) × IsScriptFault other fault) → ⊥
+    by (inl long) = omega (arith, long, within, ap length same)
+    by (inr first) = scripts.never_both bytes script first.0 is (subst (λ b. IsScriptFault b first.0) same first.1)
+
+-- the script that a file holds of which a line is refused
+record Refusing (f : Files) (name : List ℕ) : Type 0 where
+  pub bytes : List ℕ
+  pub holds : f name ≡ Some bytes
+  pub within : length bytes ≤ file_limit
+  pub script : Script
+  pub is_script : IsScript bytes script
+  pub used : List ℕ
+  pub words : List (List ℕ)
+  pub refused : AreRefused (HoldsFile (Some f)) (TellsTooLong (Some f)) (lines_of_script script.lines) begun used words
+
+refusing : (f : Files) (name : List ℕ) → MustRefuseLine f (f name) → Refusing f name
+refusing f name must = by (f name) refl must
+  where
+    by : (content : Option (List ℕ)) → f name ≡ content → MustRefuseLine f content → Refusing f name
+    by None is must = absurd must
+    by (Some bytes) is must = record {
+      bytes = bytes;
+      holds = is;
+      within = must.0;
+      script = must.1.0;
+      is_script = must.1.3;
+      used = must.1.1;
+      words = must.1.2;
+      refused = must.1.4;
+    }
+
+-- a file that holds a script of which no line is refused
+record Leading (f : Files) (name : List ℕ) : Type 0 where
+  pub bytes : List ℕ
+  pub holds : f name ≡ Some bytes
+  pub within : length bytes ≤ file_limit
+  pub right : (fault : ScriptError) → ¬ IsScriptFault bytes fault
+  pub none : (script : Script) (used : List ℕ) (words : List (List ℕ)) → IsScript bytes script
+      → ¬ AreRefused (HoldsFile (Some f)) (TellsTooLong (Some f)) (lines_of_script script.lines) begun used words
+
+leading : (f : Files) (name : List ℕ) → NothingRefusesLines f (f name) → Leading f name
+leading f name nothing = by (f name) refl nothing
+  where
+    by : (content : Option (List ℕ)) → f name ≡ content → NothingRefusesLines f content → Leading f name
+    by None is nothing = absurd nothing
+    by (Some bytes) is nothing = record { bytes = bytes; holds = is; within = nothing.0; right = nothing.1; none = nothing.2 }
+
+-- a text that keeps the limit isn't too long
+not_long : (f : Files) (file text : List ℕ) → IsTextIn (HoldsFile (Some f)) file text → TellsTooLong (Some f) file → ⊥
+not_long f file text is long = within_not_long (f file) text is.0 is.1 long
+
+-- ---- which status is due, where the files are told and no fetch failed
+
+module _ (schedule : Schedule) (show : Report → List ℕ) (f : Files) (name : List ℕ) (fetches : List Fetch) (none_failed : failed_names fetches ≡ []) where
+  failed_none : (file : List ℕ) → failed_names fetches ≡ file ∷ [] → ⊥
+  failed_none file names = let e : [] ≡ file ∷ [] = sym none_failed ∙ names in cc
+
+  pub refused_script : MustRefuseScript (f name) → (own : Status) (text : List ℕ) → ScriptEnds schedule show (Some f) name fetches own text → own ≡ status.Script
+  refused_script must = of_end
+    where
+      not_one : (script : Script) → IsScriptOf (Some f) name script → ⊥
+      not_one script is = need_no_refusal (f name) is.bytes script must is.told is.within is.is_script
+
+      of_end : (own : Status) (text : List ℕ) → ScriptEnds schedule show (Some f) name fetches own text → own ≡ status.Script
+      of_end _ _ (is_none _ _ _ names gave cannot_read_script) = absurd (failed_none name names)
+      of_end _ _ (is_none _ _ _ names gave script_file_too_long) = refl
+      of_end _ _ (is_none _ _ _ names gave (script_file_at_fault bytes fault first)) = refl
+      of_end _ _ (unread script file is used names) = absurd (not_one script is)
+      of_end _ _ (refuses script file ws is are none) = absurd (not_one script is)
+      of_end _ _ (reports script end report is lead is_report none) = absurd (not_one script is)
+
+  -- a file that holds one script
+  one_script : (bytes : List ℕ) (script other : Script) → f name ≡ Some bytes → IsScript bytes script → IsScriptOf (Some f) name other → other ≡ script
+  one_script bytes script other holds is also =
+      scripts.one_script bytes other script (subst (λ b. IsScript b other) (same_content (f name) also.bytes bytes also.told holds) also.is_script) is
+
+  -- From a law of the elaborator, as it stands there.
+  pub refused_line :
+      ((tree : Tree) (name : Name) (args : List ℤ) → NoFault tree → ((e : ElabError) × Faults tree name args e)
+      ⊎ ((g : Graph) × HasNoFault tree name args × ElaboratesTo tree name args g × Sound g))
+      → MustRefuseLine f (f name) → (own : Status) (text : List ℕ) → ScriptEnds schedule show (Some f) name fetches own text → own ≡ status.Description
+  refused_line graphs must = of_end
+    where
+      r : Refusing f name
+      r = refusing f name must
+
+      of_end : (own : Status) (text : List ℕ) → ScriptEnds schedule show (Some f) name fetches own text → own ≡ status.Description
+      of_end _ _ (is_none _ _ _ names gave cannot_read_script) = absurd (failed_none name names)
+      of_end _ _ (is_none _ _ _ names gave script_file_too_long) = absurd (within_not_long (f name) r.bytes r.holds r.within gave.1)
+      of_end _ _ (is_none _ _ _ names gave (script_file_at_fault bytes fault first)) =
+          absurd (scripts.never_both r.bytes r.script fault r.is_script (subst (λ b. IsScriptFault b fault) (same_content (f name) bytes r.bytes gave.1 r.holds) first))
+      of_end _ _ (unread script file is used names) = absurd (failed_none file names)
+      of_end _ _ (refuses script file ws is are none) = refl
+      of_end _ _ (reports script end report is lead is_report none) =
+          absurd (ways.not_refused graphs (HoldsFile (Some f)) (TellsTooLong (Some f)) (λ file a b x y. same_content (f file) a b x y) (not_long f)
+          (lines_of_script script.lines) end r.used r.words lead
+          (subst (λ (s : Script). AreRefused (HoldsFile (Some f)) (TellsTooLong (Some f)) (lines_of_script s.lines) begun r.used r.words)
+          (sym (one_script r.bytes r.script script r.holds r.is_script is)) r.refused))
+
+  pub completed : NothingRefusesLines f (f name) → (own : Status) (text : List ℕ) → ScriptEnds schedule show (Some f) name fetches own text → IsRunStatus own
+  completed nothing = of_end
+    where
+      l : Leading f name
+      l = leading f name nothing
+
+      of_end : (own : Status) (text : List ℕ) → ScriptEnds schedule show (Some f) name fetches own text → IsRunStatus own
+      of_end _ _ (is_none _ _ _ names gave cannot_read_script) = absurd (failed_none name names)
+      of_end _ _ (is_none _ _ _ names gave script_file_too_long) = absurd (within_not_long (f name) l.bytes l.holds l.within gave.1)
+      of_end _ _ (is_none _ _ _ names gave (script_file_at_fault bytes fault first)) =
+          absurd (l.right fault (subst (λ b. IsScriptFault b fault) (same_content (f name) bytes l.bytes gave.1 l.holds) first))
+      of_end _ _ (unread script file is used names) = absurd (failed_none file names)
+      of_end _ _ (refuses script file ws is are none) =
+          absurd (l.none script file ws (subst (λ b. IsScript b script) (same_content (f name) is.bytes l.bytes is.told l.holds) is.is_script) are)
+      of_end _ _ (reports script end report is lead is_report none) = run_is report.status
+
+module _ (knows : Command → Bool) (seen : Run) (run : Ran knows seen) where
+  -- ---- what Ok, Pending and Unfinished say
+
+  pub runs : (name : List ℕ) → AsksOf knows seen.words (commands.Step name) → IsRunStatus seen.status → outcomes.Ran seen.files name seen.status seen.taken seen.taken'
+  runs name asks is = by seen.status run.written is
+    where
+      own : Answer (commands.Step name) run.fetches run.own run.text ⊎ (run.own ≡ status.NoMemory) → IsRunStatus run.own → seen.taken' ≡ with_bytes seen.taken run.text
+          → outcomes.Ran seen.files name run.own seen.taken seen.taken'
+      own (inl answer) is took =
+          reported rounds report_text seen.files name run.fetches seen.taken seen.taken' run.own run.text (script_ends rounds report_text seen.files name run.fetches run.own run.text answer run.told) is took
+      own (inr memory) is took = absurd (no_run status.NoMemory for_memory (subst IsRunStatus memory is))
+
+      by : (r : Status) → Written run.own run.text seen.taken seen.taken' seen.faults seen.faults' r → IsRunStatus r → outcomes.Ran seen.files name r seen.taken seen.taken'
+      by _ (whole took same) is = own (of_words knows seen.words (commands.Step name) run.fetches run.own run.text asks run.answers) is took
+      by _ (stopped n short took rose) is = absurd (no_run status.WriteFault for_sink is)
+
+  pub sums_up : (lanes : ℕ) → AsksOf knows seen.words (commands.Big lanes) → IsRunStatus seen.status → outcomes.SummedUp lanes seen.status seen.taken seen.taken'
+  sums_up lanes asks is = by seen.status run.written is
+    where
+      own : Answer (commands.Big lanes) run.fetches run.own run.text ⊎ (run.own ≡ status.NoMemory) → IsRunStatus run.own → seen.taken' ≡ with_bytes seen.taken run.text
+          → outcomes.SummedUp lanes run.own seen.taken seen.taken'
+      own (inl answer) is took =
+          reported rounds (summary_text lanes) (Some (made_files lanes)) script_name answer.within seen.taken seen.taken' run.own run.text (big_ends lanes run.fetches run.own run.text answer) is took
+      own (inr memory) is took = absurd (no_run status.NoMemory for_memory (subst IsRunStatus memory is))
+
+      by : (r : Status) → Written run.own run.text seen.taken seen.taken' seen.faults seen.faults' r → IsRunStatus r → outcomes.SummedUp lanes r seen.taken seen.taken'
+      by _ (whole took same) is = own (of_words knows seen.words (commands.Big lanes) run.fetches run.own run.text asks run.answers) is took
+      by _ (stopped n short took rose) is = absurd (no_run status.WriteFault for_sink is)
+
+  pub asked_to_run :
+      (seen.status ≡ status.Pending) ⊎ (seen.status ≡ status.Unfinished)
+      → ((name : List ℕ) × AsksOf knows seen.words (commands.Step name)) ⊎ ((lanes : ℕ) × AsksOf knows seen.words (commands.Big lanes))
+  asked_to_run is = by seen.status run.written is
+    where
+      of_script :
+          (command : Command) → AsksOf knows seen.words command → ((name : List ℕ) × (command ≡ commands.Step name)) ⊎ ((lanes : ℕ) × (command ≡ commands.Big lanes))
+          → ((name : List ℕ) × AsksOf knows seen.words (commands.Step name)) ⊎ ((lanes : ℕ) × AsksOf knows seen.words (commands.Big lanes))
+      of_script command asks (inl only) = inl (only.0, subst (λ c. AsksOf knows seen.words c) only.1 asks)
+      of_script command asks (inr only) = inr (only.0, subst (λ c. AsksOf knows seen.words c) only.1 asks)
+
+      own : (fetches : List Fetch) (s : Status) (text : List ℕ) → AnswersCommand knows seen.words fetches s text → (s ≡ status.Pending) ⊎ (s ≡ status.Unfinished)
+          → ((name : List ℕ) × AsksOf knows seen.words (commands.Step name)) ⊎ ((lanes : ℕ) × AsksOf knows seen.words (commands.Big lanes))
+      own _ _ _ (no_form none) (inl is) = absurd (usage_pending is)
+      own _ _ _ (no_form none) (inr is) = absurd (usage_unfinished is)
+      own _ _ _ (answered_to command fetches s text asks to) is = of_script command asks (only_scripts command fetches s text to is)
+      own _ _ _ (no_memory fetches) (inl is) = absurd (memory_pending is)
+      own _ _ _ (no_memory fetches) (inr is) = absurd (memory_unfinished is)
+
+      by : (r : Status) → Written run.own run.text seen.taken seen.taken' seen.faults seen.faults' r → (r ≡ status.Pending) ⊎ (r ≡ status.Unfinished)
+          → ((name : List ℕ) × AsksOf knows seen.words (commands.Step name)) ⊎ ((lanes : ℕ) × AsksOf knows seen.words (commands.Big lanes))
+      by _ (whole took same) is = own run.fetches run.own run.text run.answers is
+      by _ (stopped n short took rose) (inl is) = absurd (write_fault_pending is)
+      by _ (stopped n short took rose) (inr is) = absurd (write_fault_unfinished is)
+
+  -- the status of an answer to a command, unless memory ran out or the sink failed
+  finishes :
+      (command : Command) (Due : Status → Type 0) → AsksOf knows seen.words command
+      → (Answer command run.fetches run.own run.text → Due run.own)
+      → Due seen.status ⊎ (seen.status ≡ status.NoMemory) ⊎ (seen.status ≡ status.WriteFault)
+  finishes command Due asks of_answer = by seen.status run.written
+    where
+      own : Answer command run.fetches run.own run.text ⊎ (run.own ≡ status.NoMemory)
+          → Due run.own ⊎ (run.own ≡ status.NoMemory) ⊎ (run.own ≡ status.WriteFault)
+      own (inl answer) = inl (of_answer answer)
+      own (inr memory) = inr (inl memory)
+
+      by : (r : Status) → Written run.own run.text seen.taken seen.taken' seen.faults seen.faults' r → Due r ⊎ (r ≡ status.NoMemory) ⊎ (r ≡ status.WriteFault)
+      by _ (whole took same) = own (of_words knows seen.words command run.fetches run.own run.text asks run.answers)
+      by _ (stopped n short took rose) = inr (inr refl)
+
+  -- ---- which status must come of a made script
+
+  of_big :
+      (lanes : ℕ) (Due : Status → Type 0) → AsksOf knows seen.words (commands.Big lanes)
+      → ((within : List Fetch) → failed_names within ≡ [] → (own : Status) (text : List ℕ) → ScriptEnds rounds (summary_text lanes) (Some (made_files lanes)) script_name within own text → Due own)
+      → Due seen.status ⊎ (seen.status ≡ status.NoMemory) ⊎ (seen.status ≡ status.WriteFault)
+  of_big lanes Due asks of_end =
+      finishes (commands.Big lanes) Due asks (λ answer. of_end answer.within answer.none_failed run.own run.text (big_ends lanes run.fetches run.own run.text answer))
+
+  pub must_refuse_made_script : (lanes : ℕ) → AsksOf knows seen.words (commands.Big lanes) → MustRefuseScript (made_files lanes script_name) → Ends seen.status status.Script
+  must_refuse_made_script lanes asks must =
+      of_big lanes (λ s. s ≡ status.Script) asks (λ within none own text. refused_script rounds (summary_text lanes) (made_files lanes) script_name within none must own text)
+
+  -- From a law of the elaborator, as it stands there.
+  pub must_refuse_made_line :
+      ((tree : Tree) (name : Name) (args : List ℤ) → NoFault tree → ((e : ElabError) × Faults tree name args e)
+      ⊎ ((g : Graph) × HasNoFault tree name args × ElaboratesTo tree name args g × Sound g))
+      → (lanes : ℕ) → AsksOf knows seen.words (commands.Big lanes) → MustRefuseLine (made_files lanes) (made_files lanes script_name) → Ends seen.status status.Description
+  must_refuse_made_line graphs lanes asks must =
+      of_big lanes (λ s. s ≡ status.Description) asks (λ within none own text. refused_line rounds (summary_text lanes) (made_files lanes) script_name within none graphs must own text)
+
+  pub completes_big : (lanes : ℕ) → AsksOf knows seen.words (commands.Big lanes) → NothingRefusesLines (made_files lanes) (made_files lanes script_name) → EndsAsRun seen.status
+  completes_big lanes asks nothing =
+      of_big lanes IsRunStatus asks (λ within none own text. completed rounds (summary_text lanes) (made_files lanes) script_name within none nothing own text)
+
+  -- ---- which status must come, where the shelf tells its files and no fetch failed
+
+  module _ (f : Files) (read : ReadFrom seen f) where
+    none_failed_here : failed_names run.fetches ≡ []
+    none_failed_here = none_added seen.failures (failed_names run.fetches) (sym read.steady ∙ run.noted)
+
+    of_step :
+        (name : List ℕ) (Due : Status → Type 0) → AsksOf knows seen.words (commands.Step name)
+        → ((own : Status) (text : List ℕ) → ScriptEnds rounds report_text (Some f) name run.fetches own text → Due own)
+        → Due seen.status ⊎ (seen.status ≡ status.NoMemory) ⊎ (seen.status ≡ status.WriteFault)
+    of_step name Due asks of_end =
+        finishes (commands.Step name) Due asks
+        (λ answer. of_end run.own run.text
+        (script_ends rounds report_text (Some f) name run.fetches run.own run.text answer (subst (λ fs. AllByRecursion (Gave fs) run.fetches) read.tells run.told)))
+
+    pub must_refuse_script : (name : List ℕ) → AsksOf knows seen.words (commands.Step name) → MustRefuseScript (f name) → Ends seen.status status.Script
+    must_refuse_script name asks must =
+        of_step name (λ s. s ≡ status.Script) asks (refused_script rounds report_text f name run.fetches none_failed_here must)
+
+    -- From a law of the elaborator, as it stands there.
+    pub must_refuse_line :
+        ((tree : Tree) (name : Name) (args : List ℤ) → NoFault tree → ((e : ElabError) × Faults tree name args e)
+        ⊎ ((g : Graph) × HasNoFault tree name args × ElaboratesTo tree name args g × Sound g))
+        → (name : List ℕ) → AsksOf knows seen.words (commands.Step name) → MustRefuseLine f (f name) → Ends seen.status status.Description
+    must_refuse_line graphs name asks must =
+        of_step name (λ s. s ≡ status.Description) asks (refused_line rounds report_text f name run.fetches none_failed_here graphs must)
+
+    pub completes : (name : List ℕ) → AsksOf knows seen.words (commands.Step name) → NothingRefusesLines f (f name) → EndsAsRun seen.status
+    completes name asks nothing = of_step name IsRunStatus asks (completed rounds report_text f name run.fetches none_failed_here nothing)

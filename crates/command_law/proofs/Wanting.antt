@@ -1,0 +1,58 @@
+-- What is wanted of a description: what its bytes give, and that they aren't refused too.
+use Rattle.std.proofs.Common.{◌≡◌, ◌∙◌, ◌⊎◌, inl, inr, ℕ, List, sym, subst}
+use Rattle.quiesce_core.specs.Start.{started}
+use Rattle.quiesce_core.specs.State.{State}
+use Rattle.quiesce_core.specs.declared.event.Event.{Event}
+use Rattle.quiesce_replay.proofs.DenialLaws as replaying
+use Rattle.command_answers.specs.Answers.{Answer, status_of}
+use Rattle.command_answers.specs.declared.status.Status.{Status}
+use Rattle.command_answers.specs.declared.status.Status.TheVariants as status
+use Rattle.command_law.specs.Replays.{IsReplayed, one_denied, all_steps, Replays}
+use Rattle.command_law.specs.declared.query.Query.{Query}
+use Rattle.command_law.specs.declared.query.Query.TheVariants as queries
+use Rattle.command_law.specs.Queries.{IsRefused, AnswersQuery}
+use Rattle.command_law.proofs.Readings as readings
+use Rattle.command_law.proofs.Planning as planning
+
+-- what bytes give ends well, or with a denied event
+pub replays_status : (s : State) (events : List Event) (own : Status) (written : List ℕ) → Replays s events own written → (own ≡ status.Ok) ⊎ (own ≡ status.Denied)
+replays_status s events own written r = by r.answer r.is r.has_status
+  where
+    by : (a : Answer) → IsReplayed s events a → own ≡ status_of a → (own ≡ status.Ok) ⊎ (own ≡ status.Denied)
+    by _ (one_denied number rule is) has = inr has
+    by _ (all_steps t settled leads are) has = inl has
+
+pub gives_status : (query : Query) (text : List ℕ) (own : Status) (written : List ℕ) → AnswersQuery query text own written → (own ≡ status.Ok) ⊎ (own ≡ status.Denied)
+gives_status (queries.Graph call) text own written gives = inl gives.0
+gives_status (queries.Plan call target) text own written gives = inl gives.0
+gives_status (queries.Replay events_file) text own written gives = replays_status (started gives.graph) events_file.events own written gives.replays
+
+pub never_both :
+    (query : Query) (text : List ℕ) (own : Status) (written : List ℕ) (words : List (List ℕ))
+    → AnswersQuery query text own written → IsRefused query text words → ⊥
+never_both (queries.Graph call) text own written words gives refuses = readings.never_both text call.top call.args gives.1.0 words gives.1.1 refuses
+never_both (queries.Plan call target) text own written words gives refuses = planning.never_both text call target written words gives.1 refuses
+never_both (queries.Replay events_file) text own written words gives refuses =
+    planning.never_both_start text events_file.name events_file.args gives.graph words gives.starts refuses
+
+-- events come to one status
+replays_one :
+    (s : State) (events : List Event) (own other : Status) (written also : List ℕ) → Replays s events own written → Replays s events other also → own ≡ other
+replays_one s events own other written also x y = by x.answer y.answer x.is y.is x.has_status y.has_status
+  where
+    by : (a b : Answer) → IsReplayed s events a → IsReplayed s events b → own ≡ status_of a → other ≡ status_of b → own ≡ other
+    by _ _ (one_denied n r is) (one_denied m q as_) p q_ = p ∙ sym q_
+    by _ _ (one_denied n r is) (all_steps t settled leads are) p q_ = absurd (replaying.never_both s t events n r leads is)
+    by _ _ (all_steps t settled leads are) (one_denied n r is) p q_ = absurd (replaying.never_both s t events n r leads is)
+    by _ _ (all_steps t settled leads are) (all_steps u also_ goes shows) p q_ = p ∙ sym q_
+
+pub gives_one :
+    (query : Query) (text : List ℕ) (own other : Status) (written also : List ℕ)
+    → AnswersQuery query text own written → AnswersQuery query text other also → own ≡ other
+gives_one (queries.Graph call) text own other written also x y = x.0 ∙ sym y.0
+gives_one (queries.Plan call target) text own other written also x y = x.0 ∙ sym y.0
+gives_one (queries.Replay events_file) text own other written also x y =
+    replays_one (started y.graph) events_file.events own other written also
+    (subst (λ g. Replays (started g) events_file.events own written)
+    (planning.one_graph text events_file.name events_file.args x.graph y.graph x.starts.has_graph y.starts.has_graph) x.replays)
+    y.replays

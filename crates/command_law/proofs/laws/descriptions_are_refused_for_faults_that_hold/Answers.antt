@@ -1,0 +1,14 @@
+use Rattle.command_law.proofs.Flattening as flattening
+use Rattle.command_law.proofs.Inverting.{ran}
+use Rattle.command_law.proofs.Stepping as stepping
+use Rattle.command_law.proofs.laws.descriptions_are_refused_for_faults_that_hold.Goals as goal
+
+pub returns : goal.returns
+returns c =
+    let graphs = c.a_graph_or_a_fault.ensures in
+    record {
+      only = λ knows seen run. flattening.refuses knows seen (ran knows seen run);
+      always_made_line = λ knows seen run. stepping.must_refuse_made_line knows seen (ran knows seen run) graphs;
+      always = λ knows seen files run read. flattening.must_refuse knows seen (ran knows seen run) files read;
+      always_line = λ knows seen files run read. stepping.must_refuse_line knows seen (ran knows seen run) files read graphs;
+    }

@@ -1,0 +1,13 @@
+use Rattle.command_law.proofs.OneAnswer.{one_answer, one_plan}
+use Rattle.command_law.proofs.Reports as reports
+use Rattle.command_law.proofs.Wanting.{never_both}
+use Rattle.command_law.proofs.laws.what_bytes_give_is_one.Goals as goal
+
+pub returns : goal.returns
+returns c = record {
+  one_answer = one_answer;
+  never_both = never_both;
+  one_plan = one_plan;
+  one_report = reports.one_report c.a_text_tells_its_report.ensures;
+  no_fault_beside = reports.never_both c.one_report_or_one_fault.ensures.never_both;
+}

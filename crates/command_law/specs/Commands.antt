@@ -1,0 +1,101 @@
+-- The course of each command. A command that names components of one description is as the lines that use its file
+-- and then call them.
+use Rattle.std.specs.Prelude.{◌≡◌, ℕ, List, [], ◌∷◌, Some}
+use Rattle.std.specs.List.{AllByRecursion}
+use Rattle.command_words.specs.BigFiles.{made_files, script_name}
+use Rattle.change_script.specs.EventFiles.{IsEventFile, IsFirstFault}
+use Rattle.change_script.specs.ScriptFiles.{IsScript, IsScriptFault}
+use Rattle.change_script.specs.declared.error.ScriptError.{ScriptError}
+use Rattle.report_types.specs.declared.report.Report.{Report}
+use Rattle.report_texts.specs.ReportTexts.{IsReportText}
+use Rattle.report_texts.specs.Stages.{IsReportFault}
+use Rattle.report_texts.specs.declared.error.ReportFault.{ReportFault}
+use Rattle.report_texts.specs.declared.version.Version.{Version}
+use Rattle.command_answers.specs.Answers.{Answer, refusal, script, help, version, report, ran, summary}
+use Rattle.command_answers.specs.RefusalLines.{report_words, script_words}
+use Rattle.command_words.specs.declared.words.Command.{Command}
+use Rattle.command_words.specs.declared.words.Command.TheVariants as commands
+use Rattle.command_law.specs.declared.query.Query.{Query}
+use Rattle.command_law.specs.declared.query.Query.TheVariants as queries
+use Rattle.command_law.specs.Courses.{FetchCourse, SaysAlone, AfterFetch, After}
+use Rattle.command_law.specs.Fetches.{Fetch, Gave, failed_names, file_limit, report_limit}
+use Rattle.command_law.specs.Lines.{RunLine, uses, calls, draws, starts, changes, Aim, drawing, planning, replaying, running, Progress, begun, behind, FollowsLines}
+use Rattle.command_law.specs.Schedules.{rounds}
+use Rattle.command_law.specs.Scripts.{lines_of_script}
+
+abbrev pub aim_of : Query → Aim
+aim_of (queries.Graph call) = drawing
+aim_of (queries.Plan call target) = planning
+aim_of (queries.Replay events) = replaying events.events
+
+-- Of a graph the component is drawn. For a plan a run starts with the first component and changes to the second,
+-- without moves and without waiting; and events begin with a start.
+abbrev pub calls_of : Query → List RunLine
+calls_of (queries.Graph call) = calls draws call.top call.args ∷ []
+calls_of (queries.Plan call target) =
+    calls starts call.top call.args ∷ calls (changes 0 []) target.top target.args ∷ []
+calls_of (queries.Replay events) = calls starts events.name events.args ∷ []
+
+-- what is wanted of the description in a file
+abbrev pub course_of_query : List ℕ → Query → FetchCourse
+course_of_query file query = FollowsLines (behind (aim_of query)) begun (uses file ∷ calls_of query)
+
+-- the words of what refuses a file of events
+abbrev pub RefusesEvents : List ℕ → List (List ℕ) → Type 0
+RefusesEvents bytes words = (fault : ScriptError) × IsFirstFault bytes fault × (words ≡ script_words fault)
+
+-- the bytes are the text of the report, in some version
+abbrev pub TellsReport : List ℕ → Report → Type 0
+TellsReport bytes r = (version : Version) × IsReportText version bytes r
+
+-- the words of what refuses a report
+abbrev pub RefusesReport : List ℕ → List (List ℕ) → Type 0
+RefusesReport bytes words = (fault : ReportFault) × IsReportFault bytes fault × (words ≡ report_words fault)
+
+-- the words of what refuses a script
+abbrev pub RefusesScript : List ℕ → List (List ℕ) → Type 0
+RefusesScript bytes words = (fault : ScriptError) × IsScriptFault bytes fault × (words ≡ script_words fault)
+
+-- what is asked for by the script of a name, and what follows from where its lines lead
+abbrev pub course_of_script : (Progress → FetchCourse) → List ℕ → FetchCourse
+course_of_script Then name =
+    let refuse = λ (words : List (List ℕ)). refusal (script name words) in
+    AfterFetch name file_limit refuse
+    (λ bytes. After (RefusesScript bytes) refuse (IsScript bytes)
+    (λ lines. FollowsLines Then begun (lines_of_script lines.lines)))
+
+-- the answer with the summary of a run in place of its report
+abbrev pub in_summary : ℕ → Answer → Answer
+in_summary lanes (ran r) = summary lanes r
+in_summary lanes answer = answer
+
+-- The answer of `big`: that to the script which it makes, in summary, by fetches that gave what the made files hold and
+-- of which none failed.
+pub record OfMadeFiles (lanes : ℕ) (answer : Answer) : Type 0 where
+  pub own : List Fetch
+  pub told : AllByRecursion (Gave (Some (made_files lanes))) own
+  pub none_failed : failed_names own ≡ []
+  pub made : Answer
+  pub course : course_of_script (behind (running rounds)) script_name own made
+  pub is : answer ≡ in_summary lanes made
+
+-- The course of `big`: it fetches no file of the shelf, and has such an answer.
+abbrev pub SumsUp : ℕ → FetchCourse
+SumsUp lanes fetches answer = (fetches ≡ []) × OfMadeFiles lanes answer
+
+abbrev pub course_of : Command → FetchCourse
+course_of commands.Help = SaysAlone help
+course_of commands.Version = SaysAlone version
+course_of (commands.Flat file call) = course_of_query file (queries.Graph call)
+course_of (commands.Plan file call target) = course_of_query file (queries.Plan call target)
+course_of (commands.Replay file name) =
+    let refuse = λ (words : List (List ℕ)). refusal (script name words) in
+    AfterFetch name file_limit refuse
+    (λ bytes. After (RefusesEvents bytes) refuse (IsEventFile bytes)
+    (λ events. course_of_query file (queries.Replay events)))
+course_of (commands.Upgrade file) =
+    let refuse = λ (words : List (List ℕ)). refusal (script file words) in
+    AfterFetch file report_limit refuse
+    (λ bytes. After (RefusesReport bytes) refuse (TellsReport bytes) (λ r. SaysAlone (report r)))
+course_of (commands.Step name) = course_of_script (behind (running rounds)) name
+course_of (commands.Big lanes) = SumsUp lanes

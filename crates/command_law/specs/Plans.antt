@@ -1,0 +1,60 @@
+-- Plans between two components of one description. A run that starts with the first has to keep the limits of a run;
+-- the plan to the second then follows, with what the start made. No state is moved.
+use Rattle.std.specs.Prelude.{◌≡◌, ℕ, ℤ, List, [], length}
+use Rattle.config_graph.specs.Graph.{Graph, ports}
+use Rattle.config_graph.specs.declared.node.Made.{Made}
+use Rattle.change_law.specs.Scripts.{nothing_above}
+use Rattle.change_plan.specs.PlanText.{plan_text}
+use Rattle.change_plan.specs.Plans.{IsPlanOf}
+use Rattle.change_plan.specs.Refusals.{CanPlan, IsRefusal}
+use Rattle.change_plan.specs.Room.{HasRoomFor, LacksRoomFor}
+use Rattle.change_plan.specs.declared.error.PlanError.{PlanError}
+use Rattle.change_plan.specs.declared.plan_data.Plan.{Plan}
+use Rattle.command_words.specs.declared.words.TopCall.{TopCall}
+use Rattle.command_law.specs.Descriptions.{HasGraph, IsDescriptionRefusal}
+use Rattle.command_answers.specs.RefusalLines.{plan_words}
+
+-- what was made before a start
+abbrev pub nothing_made : Made
+nothing_made = nothing_above.made
+
+-- what a start with a graph makes
+abbrev pub made_of_graph : Graph → Made
+made_of_graph g = record { nodes = length g.nodes; ports = length (ports g.nodes) }
+
+-- a run can start with the graph of a component
+pub record Starts (text top : List ℕ) (args : List ℤ) (graph : Graph) : Type 0 where
+  pub has_graph : HasGraph text top args graph
+  pub has_room : HasRoomFor nothing_made graph
+
+-- the words of why it can't
+pub data RefusesStart (text top : List ℕ) (args : List ℤ) : List (List ℕ) → Type 0 where
+  has_no_graph : (words : List (List ℕ)) → IsDescriptionRefusal text top args words → RefusesStart text top args words
+  is_full :
+      (graph : Graph) (e : PlanError) → HasGraph text top args graph → LacksRoomFor nothing_made graph e
+      → RefusesStart text top args (plan_words e)
+
+-- the text of the plan from one graph to another, where a run has started with the first
+pub record HasSteps (old new : Graph) (written : List ℕ) : Type 0 where
+  pub steps : Plan
+  pub has_room : CanPlan old new [] (made_of_graph old)
+  pub is_plan : IsPlanOf old new [] steps
+  pub is_text : written ≡ plan_text old new steps
+
+-- the text of the plan from the graph of one component to that of another
+pub record HasPlan (text : List ℕ) (call target : TopCall) (written : List ℕ) : Type 0 where
+  pub old : Graph
+  pub new : Graph
+  pub starts : Starts text call.top call.args old
+  pub has_graph : HasGraph text target.top target.args new
+  pub has_steps : HasSteps old new written
+
+-- the words of why there is none
+pub data RefusesPlan (text : List ℕ) (call target : TopCall) : List (List ℕ) → Type 0 where
+  starts_not : (words : List (List ℕ)) → RefusesStart text call.top call.args words → RefusesPlan text call target words
+  leads_nowhere :
+      (old : Graph) (words : List (List ℕ)) → Starts text call.top call.args old → IsDescriptionRefusal text target.top target.args words
+      → RefusesPlan text call target words
+  gets_full :
+      (old new : Graph) (e : PlanError) → Starts text call.top call.args old → HasGraph text target.top target.args new
+      → IsRefusal old new [] (made_of_graph old) e → RefusesPlan text call target (plan_words e)

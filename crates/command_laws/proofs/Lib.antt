@@ -1,0 +1,11 @@
+pub mod Draining
+pub mod Few
+pub mod Leading
+pub mod OneRun
+pub mod Premises
+pub mod Reports
+pub mod MadeScripts
+mod TextLemmas
+mod FewCreated
+mod LaneLemmas
+mod LineLemmas

@@ -1,0 +1,2 @@
+pub mod MadeScripts
+pub mod MadeTrees

@@ -1,0 +1,23 @@
+-- Words of no form, and want of memory, have one answer each; a command has its own.
+use Rattle.std.proofs.Common.{map, refl, string_bytes}
+use Rattle.command_answers.specs.Answers.{refusal, usage, no_memory}
+use Rattle.command_law.specs.Runs.{no_form, not_read}
+use Rattle.command_law.specs.Known.{on_one_thread}
+use Rattle.command_program.proofs.Running.{runs_alone}
+use Rattle.command_program.proofs.answering.run_words.Goals as goal
+
+pub returns-in-Ok-None-clause-runs : goal.returns-in-Ok-None-clause-runs
+returns-in-Ok-None-clause-runs g c =
+    runs_alone on_one_thread _ (refusal usage) refl (no_form (λ command asks. (rw c.in-Ok-None.field-0-is at c.in-Ok-None.ensures.none) command asks.1))
+    (rw c.as_bytes.ensures.value at c.write.ensures)
+
+pub returns-in-Ok-Some-clause-runs : goal.returns-in-Ok-Some-clause-runs
+returns-in-Ok-Some-clause-runs g c =
+    c.run_command.ensures.runs (map string_bytes c.args.words.now) (rw c.in-Ok-Some.field-0-is at c.in-Ok-Some.ensures.found)
+
+pub returns-in-Err-clause-runs : goal.returns-in-Err-clause-runs
+returns-in-Err-clause-runs g c = runs_alone on_one_thread _ (refusal no_memory) refl not_read c.no_memory.ensures
+
+pub returns-in-Ok-Some-clause-untouched : goal.returns-in-Ok-Some-clause-untouched
+returns-in-Ok-Some-clause-untouched g c none =
+    c.run_command.ensures.untouched (none _ (rw c.in-Ok-Some.field-0-is at c.in-Ok-Some.ensures.found))

@@ -1,0 +1,211 @@
+//! What is done for words and for commands, by fetches.
+
+ghost use Rattle.std.specs.Prelude.{◌≡◌, ℕ, List, [], map, string_bytes, IfOk};
+ghost use Rattle.report_writing.specs.Reports.{LogsAreMade};
+ghost use Rattle.command_answers.specs.Answers.{ShowsAnswer};
+ghost use Rattle.command_words.specs.CommandLine.{Asks};
+ghost use Rattle.command_law.specs.Known.{on_one_thread};
+ghost use Rattle.command_words.specs.declared.words.Command.TheVariants as commands;
+ghost use Rattle.command_law.specs.Commands.{SumsUp, course_of, course_of_query};
+ghost use Rattle.command_law.specs.RunReports.{IsReportOf};
+ghost use Rattle.command_law.specs.Runs.{Runs};
+ghost use Rattle.command_files.specs.Preparing.{EndsRun};
+ghost use Rattle.change_law.specs.Asked.{CanDoAll, CanStart, after_start, statements_of};
+ghost use Rattle.command_program.specs.Coming.{ComesBy, EndsBy, EndsInSummary};
+ghost use Rattle.command_program.specs.Naming.{AskForNoFile, NamesNoFile};
+
+use crate::writing::{finish, no_memory, write};
+use crate::{HELP, USAGE, VERSION};
+use cfg_io::{Shelf, Sink};
+use change_law::{Start, Step};
+use change_round_laws::reports_of_rounds_are_lawful;
+use command_answers::Status;
+use command_files::{
+    Answer, FILE_LIMIT, Prepared, REPORT_LIMIT, ReadEvents, answer_run, answer_summary, describe,
+    fetch_file, prepare, read_events, upgrade,
+};
+use command_law::Query;
+use command_words::{Command, MadeFiles, SCRIPT_NAME, read_words};
+use config_graph::NoMemory;
+use node_table::NodeTable;
+use report_types::Report;
+use std::alloc::Global;
+use step_board::StepBoard;
+use step_runner::run_in_rounds;
+
+/// Does what the words ask for, or says that they have none of the forms. The program's own texts are written from
+/// where they stand.
+pub fn run_words<H: Shelf, K: Sink>(
+    alloc: Global,
+    words: &[String],
+    shelf: &mut H,
+    out: &mut K,
+) -> Status
+    ensures runs { Runs on_one_thread (record {
+      words = map string_bytes words.now;
+      files = H.files shelf.old;
+      failures = H.failed shelf.old;
+      failures' = H.failed shelf.new;
+      taken = K.taken out.old;
+      taken' = K.taken out.new;
+      faults = K.faults out.old;
+      faults' = K.faults out.new;
+      status = result;
+    }) }
+    ensures kept { H.files shelf.new ≡ H.files shelf.old }
+    ensures untouched { AskForNoFile (map string_bytes words.now) → shelf.new ≡ shelf.old }
+{
+    match read_words(alloc, words) {
+        Ok(None) => write(out, Status::Usage, USAGE.as_bytes()),
+        Ok(Some(command)) => run_command(alloc, shelf, out, command),
+        Err(_) => no_memory(out),
+    }
+}
+
+/// Does what a command asks for.
+fn run_command<H: Shelf, K: Sink>(
+    alloc: Global,
+    shelf: &mut H,
+    out: &mut K,
+    command: Command<'_>,
+) -> Status
+    ensures runs { (words : List (List ℕ)) → Asks words command.entry
+        → Runs on_one_thread (record {
+          words = words;
+          files = H.files shelf.old;
+          failures = H.failed shelf.old;
+          failures' = H.failed shelf.new;
+          taken = K.taken out.old;
+          taken' = K.taken out.new;
+          faults = K.faults out.old;
+          faults' = K.faults out.new;
+          status = result;
+        }) }
+    ensures kept { H.files shelf.new ≡ H.files shelf.old }
+    ensures untouched { NamesNoFile command.entry → shelf.new ≡ shelf.old }
+{
+    match command {
+        Command::Help => write(out, Status::Ok, HELP.as_bytes()),
+        Command::Version => write(out, Status::Ok, VERSION.as_bytes()),
+        Command::Flat { file, call } => finish(
+            out,
+            answer_description(alloc, shelf, file.as_str(), &Query::Graph(call)),
+        ),
+        Command::Plan { file, call, target } => finish(
+            out,
+            answer_description(alloc, shelf, file.as_str(), &Query::Plan(call, target)),
+        ),
+        Command::Replay { file, events } => finish(
+            out,
+            answer_replay(alloc, shelf, file.as_str(), events.as_str()),
+        ),
+        Command::Upgrade { file } => finish(out, answer_report(alloc, shelf, file.as_str())),
+        Command::Step { script } => finish(out, answer_script(alloc, shelf, script.as_str())),
+        Command::Big { lanes } => finish(out, answer_big(alloc, lanes)),
+    }
+}
+
+/// Fetches a description, and answers what is wanted of it.
+fn answer_description<H: Shelf>(
+    alloc: Global,
+    shelf: &mut H,
+    file: &str,
+    query: &Query<'_>,
+) -> Result<Answer, NoMemory>
+    ensures answers { ComesBy (H.files shelf.old) (course_of_query file.now query.now)
+        (H.failed shelf.old) (H.failed shelf.new) result }
+    ensures kept { H.files shelf.new ≡ H.files shelf.old }
+{
+    let fetched = fetch_file(shelf, file, FILE_LIMIT)?;
+    describe(alloc, file, query, fetched)
+}
+
+/// Fetches a file of events and then a description, and answers what the events come to.
+fn answer_replay<H: Shelf>(
+    alloc: Global,
+    shelf: &mut H,
+    file: &str,
+    events: &str,
+) -> Result<Answer, NoMemory>
+    ensures answers { ComesBy (H.files shelf.old) (course_of (commands.Replay file.now events.now))
+        (H.failed shelf.old) (H.failed shelf.new) result }
+    ensures kept { H.files shelf.new ≡ H.files shelf.old }
+{
+    let fetched = fetch_file(shelf, events, FILE_LIMIT)?;
+    match read_events(alloc, events, fetched)? {
+        ReadEvents::Events(events) => answer_description(
+            alloc,
+            shelf,
+            file,
+            &Query::Replay(events),
+        ),
+        ReadEvents::Refused(answer) => Ok(answer),
+    }
+}
+
+/// Fetches a report, and answers its text in the version that is written today.
+fn answer_report<H: Shelf>(alloc: Global, shelf: &mut H, file: &str) -> Result<Answer, NoMemory>
+    ensures answers { ComesBy (H.files shelf.old) (course_of (commands.Upgrade file.now)) (H.failed shelf.old)
+        (H.failed shelf.new) result }
+    ensures kept { H.files shelf.new ≡ H.files shelf.old }
+{
+    let fetched = fetch_file(shelf, file, REPORT_LIMIT)?;
+    upgrade(alloc, file, fetched)
+}
+
+/// Fetches a script and what it uses, runs it, and answers the report.
+fn answer_script<H: Shelf>(alloc: Global, shelf: &mut H, name: &str) -> Result<Answer, NoMemory>
+    ensures answers { ComesBy (H.files shelf.old) (course_of (commands.Step name.now)) (H.failed shelf.old)
+        (H.failed shelf.new) result }
+    ensures kept { H.files shelf.new ≡ H.files shelf.old }
+{
+    match prepare(alloc, shelf, name)? {
+        Prepared::Asked { start, steps } => run_script(alloc, start, steps),
+        Prepared::Refused(answer) => Ok(answer),
+    }
+}
+
+/// Makes a system of so many lanes and a script, runs it, and answers the summary.
+fn answer_big(alloc: Global, lanes: u32) -> Result<Answer, NoMemory>
+    ensures { EndsBy (SumsUp lanes) [] result }
+{
+    let mut made = MadeFiles::of(alloc, lanes)?;
+    match prepare(alloc, &mut made, SCRIPT_NAME)? {
+        Prepared::Asked { start, steps } => sum_up(alloc, lanes, start, steps),
+        Prepared::Refused(answer) => Ok(answer),
+    }
+}
+
+/// Runs what a script asks for, and answers the report.
+fn run_script(alloc: Global, start: Start, steps: Vec<Step>) -> Result<Answer, NoMemory>
+    requires start { CanStart start }
+    requires steps { CanDoAll (after_start start) steps.items }
+    ensures { IfOk result
+        (λ answer. ShowsAnswer (EndsRun (statements_of start steps.items)) answer.status answer.text.items) }
+{
+    let report = report_of(alloc, start, steps)?;
+    answer_run(alloc, &report)
+}
+
+/// Runs what the script of so many lanes asks for, and answers the summary.
+fn sum_up(alloc: Global, lanes: u32, start: Start, steps: Vec<Step>) -> Result<Answer, NoMemory>
+    requires start { CanStart start }
+    requires steps { CanDoAll (after_start start) steps.items }
+    ensures { IfOk result (λ answer. ShowsAnswer (EndsInSummary lanes (statements_of start steps.items))
+        answer.status answer.text.items) }
+{
+    let report = report_of(alloc, start, steps)?;
+    answer_summary(alloc, lanes, &report)
+}
+
+/// Runs what a script asks for in rounds on one thread.
+fn report_of(alloc: Global, start: Start, steps: Vec<Step>) -> Result<Report, NoMemory>
+    requires start { CanStart start }
+    requires steps { CanDoAll (after_start start) steps.items }
+    ensures report { IfOk result (λ report. IsReportOf (statements_of start steps.items) report) }
+    ensures made { IfOk result (λ report. LogsAreMade report) }
+{
+    reports_of_rounds_are_lawful();
+    let board = StepBoard::<NodeTable>::new(alloc)?;
+    run_in_rounds(alloc, board, start, steps)
+}

@@ -1,0 +1,90 @@
+//! All commands that run on one thread.
+
+ghost use Rattle.std.specs.Prelude.{◌≡◌, ℕ, List, Some, map, string_bytes};
+ghost use Rattle.cfg_io.specs.Shelf.{Files};
+ghost use Rattle.command_answers.specs.declared.status.Status.{Status};
+ghost use Rattle.command_answers.specs.declared.status.Status.TheVariants.{Denied};
+ghost use Rattle.command_words.specs.CommandLine.{Asks};
+ghost use Rattle.command_law.specs.Known.{on_one_thread};
+ghost use Rattle.command_words.specs.declared.words.Command.TheVariants as commands;
+ghost use Rattle.command_words.specs.declared.words.TopCall.{TopCall};
+ghost use Rattle.command_law.specs.Outcomes.{Flattened, Planned, Replayed, Upgraded, NothingRefuses, EndsAsGiven, Wants, Ends, EndsAsRun, IsRunStatus, NothingRefusesLines, Ran, SummedUp, NothingRefusesReport};
+ghost use Rattle.command_law.specs.Runs.{Runs};
+ghost use Rattle.command_law.specs.declared.query.Query.{Query};
+ghost use Rattle.command_program.specs.Naming.{AskForNoFile};
+
+use crate::answering::run_words;
+use cfg_io::{Shelf, Sink};
+use command_answers::Status;
+use command_laws::made_runs_are_not_refused;
+use std::alloc::Global;
+
+/// Does what the words ask for, with files from the shelf, and writes to the sink: the text that they ask for, or one
+/// line that refuses. It always returns. What each status says are the laws of command_law, of each run; here stand
+/// those that say what is written.
+pub fn still<H: Shelf, K: Sink>(
+    alloc: Global,
+    words: &[String],
+    shelf: &mut H,
+    out: &mut K,
+) -> Status
+    // The fetches, the answer and what was written of it.
+    ensures runs { Runs on_one_thread (record {
+      words = map string_bytes words.now;
+      files = H.files shelf.old;
+      failures = H.failed shelf.old;
+      failures' = H.failed shelf.new;
+      taken = K.taken out.old;
+      taken' = K.taken out.new;
+      faults = K.faults out.old;
+      faults' = K.faults out.new;
+      status = result;
+    }) }
+    // No fetch changes the files.
+    ensures kept { H.files shelf.new ≡ H.files shelf.old }
+    // Of `flat` the text of the graph, of `plan` that of the plan, of `replay` that of what is open and settled, and of
+    // `upgrade` that of the report.
+    ensures flattened { (file : List ℕ) (call : TopCall) → Asks (map string_bytes words.now) (commands.Flat file call)
+        → result ≡ Status.Ok → Flattened (H.files shelf.old) file call (K.taken out.old) (K.taken out.new) }
+    ensures planned { (file : List ℕ) (call target : TopCall)
+        → Asks (map string_bytes words.now) (commands.Plan file call target) → result ≡ Status.Ok
+        → Planned (H.files shelf.old) file call target (K.taken out.old) (K.taken out.new) }
+    ensures replayed { (file events : List ℕ) → Asks (map string_bytes words.now) (commands.Replay file events)
+        → result ≡ Status.Ok → Replayed (H.files shelf.old) file events Status.Ok (K.taken out.old) (K.taken out.new) }
+    ensures upgraded { (file : List ℕ) → Asks (map string_bytes words.now) (commands.Upgrade file) → result ≡ Status.Ok
+        → Upgraded (H.files shelf.old) file (K.taken out.old) (K.taken out.new) }
+    // Of `step` the text of the report of the script's run, and the status that the report tells. The report is the
+    // one of rounds for the statements of the script over the graphs of its descriptions, and it is lawful for them.
+    ensures ran { (name : List ℕ) → Asks (map string_bytes words.now) (commands.Step name) → IsRunStatus result
+        → Ran (H.files shelf.old) name result (K.taken out.old) (K.taken out.new) }
+    // Of `big` the summary of such a report, of the script and the description that it makes, which it fetches from
+    // nowhere.
+    ensures summed { (lanes : ℕ) → Asks (map string_bytes words.now) (commands.Big lanes) → IsRunStatus result
+        → SummedUp lanes result (K.taken out.old) (K.taken out.new) }
+    // The first event that is no step is denied, with its first failing rule.
+    ensures denied { result ≡ Denied → (file events : List ℕ)
+        × Asks (map string_bytes words.now) (commands.Replay file events)
+        × Replayed (H.files shelf.old) file events Denied (K.taken out.old) (K.taken out.new) }
+    // Where nothing refuses the description, the run ends with what its bytes give.
+    ensures complete { (file : List ℕ) (query : Query) (files : Files)
+        → Wants on_one_thread (Some files) (map string_bytes words.now) file query
+        → H.files shelf.old ≡ Some files → H.failed shelf.new ≡ H.failed shelf.old → NothingRefuses query (files file)
+        → EndsAsGiven query (files file) result }
+    // Where the file holds a report that nothing refuses, the run ends with Ok.
+    ensures complete_report { (file : List ℕ) (files : Files)
+        → Asks (map string_bytes words.now) (commands.Upgrade file)
+        → H.files shelf.old ≡ Some files → H.failed shelf.new ≡ H.failed shelf.old → NothingRefusesReport (files file)
+        → Ends result Status.Ok }
+    // Where nothing refuses the script and its lines, it is run.
+    ensures complete_script { (name : List ℕ) (files : Files) → Asks (map string_bytes words.now) (commands.Step name)
+        → H.files shelf.old ≡ Some files → H.failed shelf.new ≡ H.failed shelf.old
+        → NothingRefusesLines files (files name)
+        → EndsAsRun result }
+    // And so is the script that is made, of which nothing is refused.
+    ensures complete_big { (lanes : ℕ) → Asks (map string_bytes words.now) (commands.Big lanes) → EndsAsRun result }
+    // Words that name no file, as those of `big`, fetch none: the shelf is as it was.
+    ensures untouched { AskForNoFile (map string_bytes words.now) → shelf.new ≡ shelf.old }
+{
+    made_runs_are_not_refused();
+    run_words(alloc, words, shelf, out)
+}

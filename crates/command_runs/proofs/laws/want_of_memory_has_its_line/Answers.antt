@@ -1,9 +1,0 @@
-use Rattle.command_runs.proofs.Ending as ending
-use Rattle.command_runs.proofs.Inverting.{ran}
-use Rattle.command_runs.proofs.laws.want_of_memory_has_its_line.Goals as goal
-
-pub returns : goal.returns
-returns c = record {
-  line = λ knows seen run. ending.no_memory_written knows seen (ran knows seen run);
-  no_other = λ knows seen run. ending.no_other knows seen (ran knows seen run);
-}

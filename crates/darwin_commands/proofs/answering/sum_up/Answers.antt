@@ -1,9 +1,0 @@
--- The summary of the report is answered.
-use Rattle.script_steps.specs.Asked.{statements_of}
-use Rattle.darwin_commands.proofs.ScriptRuns.{summed}
-use Rattle.darwin_commands.proofs.answering.sum_up.Goals as goal
-
-pub returns : goal.returns
-returns c =
-    summed c.args.lanes (statements_of c.args.start c.args.steps.items) c.in_ok-report.report c.answer_summary.result c.in_ok-report.ensures.report
-    c.answer_summary.ensures.status c.answer_summary.ensures.text

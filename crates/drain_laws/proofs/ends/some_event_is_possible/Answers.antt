@@ -1,5 +1,0 @@
-use Rattle.drain_laws.proofs.Onward.{possible_if, possible_after}
-use Rattle.drain_laws.proofs.ends.some_event_is_possible.Goals as goal
-
-pub returns : goal.returns
-returns c = record { by_state = possible_if; in_runs = possible_after }

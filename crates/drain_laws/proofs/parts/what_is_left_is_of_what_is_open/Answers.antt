@@ -1,5 +1,0 @@
-use Rattle.drain_laws.proofs.Portions.{open_is_all}
-use Rattle.drain_laws.proofs.parts.what_is_left_is_of_what_is_open.Goals as goal
-
-pub returns : goal.returns
-returns c s = open_is_all s

@@ -1,4 +1,0 @@
-pub mod Advances
-pub mod Belongs
-pub mod Drain
-pub mod Worked

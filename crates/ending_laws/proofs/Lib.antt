@@ -1,3 +1,0 @@
-mod BeginLemmas
-mod CourseLemmas
-mod StopLemmas

@@ -1,5 +1,0 @@
-use Rattle.event_laws.proofs.FormLemmas.{one_form, means, too_big, bad}
-use Rattle.event_laws.proofs.laws.only_forms_mean.Goals as goal
-
-pub returns : goal.returns
-returns c = record { one_form = one_form; means = means; too_big = too_big; bad = bad }

@@ -1,4 +1,0 @@
-pub mod Fetching
-pub mod Planning
-pub mod Reading
-pub mod Refusals

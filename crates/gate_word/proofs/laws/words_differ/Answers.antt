@@ -1,5 +1,0 @@
-use Rattle.gate_word.proofs.WordLaws.{words_differ}
-use Rattle.gate_word.proofs.laws.words_differ.Goals as goal
-
-pub returns : goal.returns
-returns c v w f g same = words_differ v w f g same

@@ -1,5 +1,0 @@
-use Rattle.gate_word.proofs.OperandLaws.{and_opens, or_closes}
-use Rattle.gate_word.proofs.operands.closed_bits_turn.Goals as goal
-
-pub returns : goal.returns
-returns c = record { closing = or_closes; opening = and_opens }

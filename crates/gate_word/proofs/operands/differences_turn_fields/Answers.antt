@@ -1,5 +1,0 @@
-use Rattle.gate_word.proofs.OperandLaws.{xor_turns}
-use Rattle.gate_word.proofs.operands.differences_turn_fields.Goals as goal
-
-pub returns : goal.returns
-returns c = xor_turns

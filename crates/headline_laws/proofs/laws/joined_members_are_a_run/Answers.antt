@@ -1,6 +1,0 @@
-use Rattle.headline_laws.proofs.FollowLaws.{fair_transcript}
-use Rattle.headline_laws.proofs.LawfulLaws.{runs}
-use Rattle.headline_laws.proofs.laws.joined_members_are_a_run.Goals as goal
-
-pub returns : goal.returns
-returns c = record { runs = λ alone statements t m ms x j is_of. runs t m ms (fair_transcript alone statements t x) j is_of }

@@ -1,5 +1,0 @@
-use Rattle.headline_laws.proofs.LawfulLaws.{join}
-use Rattle.headline_laws.proofs.laws.records_and_transcripts_join.Goals as goal
-
-pub returns : goal.returns
-returns c = record { join = join }

@@ -1,9 +1,0 @@
-pub mod HintLaws
-pub mod LookLaws
-pub mod MovingLaws
-mod PostLemmas
-pub mod PostedLaws
-mod RequestLemmas
-pub mod RestLaws
-mod StayingLemmas
-pub mod StillLaws

@@ -1,5 +1,0 @@
-use Rattle.hint_laws.proofs.HintLaws.{hinted_where_reached}
-use Rattle.hint_laws.proofs.hinting.hints_are_those_of_requests.Goals as goal
-
-pub returns : goal.returns
-returns c = record { one = λ w r. (hinted_where_reached w r).hints }

@@ -1,4 +1,0 @@
-mod TextLemmas
-mod Few
-mod LaneLemmas
-mod LineLemmas

@@ -1,0 +1,10 @@
+pub mod World
+pub mod Turn
+pub mod Round
+pub mod Hints
+pub mod Rows
+pub mod Agreement
+pub mod Placed
+pub mod Reached
+pub mod Requests
+pub mod Posted

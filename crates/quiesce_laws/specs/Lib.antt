@@ -1,0 +1,12 @@
+pub mod Configurations
+pub mod Events
+pub mod Roots
+pub mod Courses
+pub mod Weaker
+pub mod Drained
+pub mod Starts
+pub mod Continuing
+pub mod Advances
+pub mod Belongs
+pub mod Drain
+pub mod Worked

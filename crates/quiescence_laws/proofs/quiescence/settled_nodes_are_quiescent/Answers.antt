@@ -1,5 +1,0 @@
-use Rattle.quiescence_laws.proofs.QuiescenceLaws.{quiescent}
-use Rattle.quiescence_laws.proofs.quiescence.settled_nodes_are_quiescent.Goals as goal
-
-pub returns : goal.returns
-returns c es n run h = quiescent es n run h

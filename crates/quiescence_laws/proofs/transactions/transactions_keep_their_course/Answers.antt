@@ -1,5 +1,0 @@
-use Rattle.quiescence_laws.proofs.CourseLemmas.{on_course}
-use Rattle.quiescence_laws.proofs.transactions.transactions_keep_their_course.Goals as goal
-
-pub returns : goal.returns
-returns c es p k run = on_course es p k run

@@ -1,5 +1,0 @@
-use Rattle.report_laws.proofs.AloneLaws.{changes_run}
-use Rattle.report_laws.proofs.committing.changes_are_a_run_by_themselves.Goals as goal
-
-pub returns : goal.returns
-returns c = record { run = changes_run }

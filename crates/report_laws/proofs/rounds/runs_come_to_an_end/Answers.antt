@@ -1,5 +1,0 @@
-use Rattle.report_laws.proofs.EndingRoundLaws.{runs_end}
-use Rattle.report_laws.proofs.rounds.runs_come_to_an_end.Goals as goal
-
-pub returns : goal.returns
-returns c = record { ends = runs_end c.rest_falls_by_steps.ensures.falls c.rest_falls_by_steps.ensures.rises }

@@ -1,5 +1,0 @@
-pub mod SoundStatements
-pub mod Described
-pub mod Courses
-pub mod Engaged
-pub mod Existing

@@ -1,5 +1,0 @@
-use Rattle.report_parser.proofs.ParsingLemmas.{one_report}
-use Rattle.report_parser.proofs.laws.a_text_tells_its_report.Goals as goal
-
-pub returns : goal.returns
-returns c = one_report

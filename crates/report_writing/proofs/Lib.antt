@@ -1,0 +1,2 @@
+pub mod LineEndLemmas
+pub mod ReportTextLemmas

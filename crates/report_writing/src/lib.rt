@@ -1,0 +1,9 @@
+//! The text of a report, and the lines of events in it.
+#![tactic(auto)]
+
+mod events;
+mod line_end;
+mod room;
+mod writing;
+
+pub use writing::report_text;

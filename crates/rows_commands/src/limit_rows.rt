@@ -1,0 +1,67 @@
+//! Rows of systems as large as one run may make.
+
+use crate::descriptions::MANY;
+use crate::running::words_of;
+use cfg_io::{MemShelf, MemSink};
+use command_program::{Status, still};
+use std::alloc::Global;
+use std::process::Abort;
+use std::test::Fail;
+
+/// Room of a sink that takes the text of the largest system.
+const WIDE: usize = 65_536;
+
+fn count_of_lines(text: &[u8]) -> usize {
+    text.iter().filter(|byte| **byte == b'\n').count()
+}
+
+/// Runs words over a description of many nodes, and stops the test where the text has another front, another end, or
+/// other counts of bytes and lines.
+fn run_many(
+    rt: &impl Abort,
+    alloc: Global,
+    words: &[&str],
+    (front, end): (&[u8], &[u8]),
+    (bytes, lines): (usize, usize),
+) -> Result<(), Fail> {
+    let mut shelf = MemShelf::new(alloc);
+    shelf.add("many.dar", MANY.as_bytes())?;
+    let mut sink = MemSink::new(alloc, WIDE)?;
+    let words = words_of(alloc, words)?;
+    let status = still(alloc, words.as_slice(), &mut shelf, &mut sink);
+    assert_eq!(rt; status, Status::Ok);
+    let text = sink.bytes();
+    assert!(rt; text.starts_with(front) && text.ends_with(end));
+    assert_eq!(rt; text.len(), bytes);
+    assert_eq!(rt; count_of_lines(text), lines);
+    Ok(())
+}
+
+/// Paths stand in the order of their bytes, so that `A[1000]` comes before `A[100]`.
+#[test]
+fn the_largest_system_is_drawn(rt: HostRuntime) -> Result<(), Fail> {
+    run_many(
+        &rt,
+        rt.alloc(),
+        &["flat", "many.dar", "Many", "1023"],
+        (
+            b"node A[0] sink()\nnode A[1000] sink()\n",
+            b"node A[99] sink()\nnode A[9] sink()\n",
+        ),
+        (19_350, 1_023),
+    )
+}
+
+#[test]
+fn the_largest_change_is_planned(rt: HostRuntime) -> Result<(), Fail> {
+    run_many(
+        &rt,
+        rt.alloc(),
+        &["plan", "many.dar", "Many", "1", "--", "Many", "1022"],
+        (
+            b"create A[1000] sink()\ncreate A[1001] sink()\n",
+            b"create A[99] sink()\ncreate A[9] sink()\n",
+        ),
+        (21_355, 1_021),
+    )
+}

@@ -1,7 +1,0 @@
-pub mod Draining
-pub mod Few
-pub mod Leading
-pub mod OneRun
-pub mod Premises
-pub mod Reports
-pub mod MadeScripts

@@ -1,8 +1,0 @@
-pub mod WorldLaws
-pub mod WaitLaws
-pub mod PieceLaws
-pub mod CountLaws
-pub mod RunLaws
-pub mod RestedLaws
-pub mod FinishLaws
-pub mod SerialLaws

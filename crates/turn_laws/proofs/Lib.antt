@@ -1,4 +1,0 @@
-mod KindTables
-pub mod AgreementLaws
-pub mod MoveLaws
-pub mod ReachedLaws

@@ -1,5 +1,0 @@
-pub mod World
-pub mod Turn
-pub mod Round
-pub mod Hints
-pub mod Rows

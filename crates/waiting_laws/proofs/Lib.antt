@@ -1,5 +1,0 @@
-mod MoveLemmas
-mod RoundLemmas
-mod WaitLemmas
-mod PartLemmas
-mod RootLemmas

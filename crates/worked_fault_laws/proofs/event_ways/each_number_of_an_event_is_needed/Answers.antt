@@ -1,0 +1,16 @@
+use Rattle.std.proofs.Common.{inr, refl}
+use Rattle.worked_fault_laws.proofs.event_ways.each_number_of_an_event_is_needed.Goals as goal
+
+pub returns : goal.returns
+returns c = record {
+  start_argument = inr refl;
+  start_negative = inr refl;
+  single = inr refl;
+  first = inr refl;
+  second = inr refl;
+  third = inr refl;
+  slot = inr refl;
+  path = inr refl;
+  argument = inr refl;
+  source = inr refl;
+}

@@ -1,0 +1,31 @@
+-- A report that names what is open in no order is lawful.
+use Rattle.std.proofs.Common.{drop, take, refl}
+use Rattle.report_types.specs.declared.report.HistoryLine.TheVariants as to
+use Rattle.quiesce_core.specs.Reach.{has_no_cycle, reaches}
+use Rattle.change_law.specs.Found.{IsFound}
+use Rattle.change_law.specs.Lawful.{LawfulOnThreads}
+use Rattle.change_law.proofs.FoundLaws.{found_on_threads, none_open, open_then, stood_at}
+use Rattle.worked_report_laws.specs.OpenUnordered.{history, members, report, script, stopped, tells}
+
+is_found : IsFound script tells stopped members report
+unfolding reaches has_no_cycle
+is_found = record {
+  follows = refl;
+  history = refl;
+  slots = refl;
+  logs = refl;
+  kinds = refl;
+  lines_are = refl;
+  runs = refl;
+  lasts = refl;
+  drained = refl;
+  stood_open = open_then members (take 0 history) (drop 0 (take 14 history)) (to.Root 1 1) (drop 15 history) refl (stood_at members (take 14 history) 1 1 15 refl refl refl refl refl)
+      (open_then members (take 15 history) (drop 15 (take 15 history)) (to.Root 0 1) (drop 16 history) refl (stood_at members (take 15 history) 0 1 15 refl refl refl refl refl)
+      (none_open members (take 16 history) (drop 16 history) refl));
+  graphs = refl;
+  unfinished = refl;
+  status = refl;
+}
+
+pub lawful : LawfulOnThreads script report
+lawful = found_on_threads script tells stopped members report is_found refl refl
