@@ -5,7 +5,7 @@ ghost use Rattle.report_lines.specs.Parts.{parts_left, words};
 ghost use Rattle.report_lines.specs.GraphLines.{is_graph_line, named_node_in, node_in, node_of, second_word, target_in};
 
 use crate::history::kind_in;
-use crate::parts::{Words, first_word, is_end};
+use crate::parts::{Words, first_word, is_used_up};
 use change_script::cut;
 use config_graph::{Kind, NoMemory, Node, Text};
 use std::alloc::Global;
@@ -41,7 +41,7 @@ fn node_words(rest: Words<'_>) -> Option<(&[u8], (Kind, Option<u32>))>
 {
     let (path, rest) = first_word(rest)?;
     let (kind, behind) = first_word(rest)?;
-    if is_end(behind) {
+    if is_used_up(behind) {
         Some((path, kind_in(kind)?))
     } else {
         None
@@ -68,5 +68,9 @@ fn second_word(rest: Words<'_>) -> Option<&[u8]>
 {
     let (_, rest) = first_word(rest)?;
     let (target, behind) = first_word(rest)?;
-    if is_end(behind) { Some(target) } else { None }
+    if is_used_up(behind) {
+        Some(target)
+    } else {
+        None
+    }
 }

@@ -9,7 +9,7 @@ ghost use Rattle.report_lines.specs.declared.verbs.HistoryVerb.TheVariants as ve
 ghost use Rattle.report_lines.specs.Readings.{arg_in, arguments_in, kind_in, line_by, line_in, make_in, make_line, source_in, system_in, typed_in};
 
 use crate::numbers::{index, one_index, pair, plain_integer, triple};
-use crate::parts::{Words, bracketed, first_word, is_end};
+use crate::parts::{Words, bracketed, first_word, is_used_up};
 use crate::verbs::{Bare, HistoryVerb, OneNumber, TwoNumbers, history_verb_named};
 use change_script::cut;
 use config_graph::{Kind, List, NoMemory, Node, Text, kind_of};
@@ -58,7 +58,7 @@ fn told_by(
 fn alone(bare: Bare, rest: Words<'_>) -> Option<HistoryLine>
     ensures { result ≡ line_by (verbs.Bare bare) (parts_left 32 (option_copied rest.entry)) }
 {
-    if is_end(rest) {
+    if is_used_up(rest) {
         Some(bare.line())
     } else {
         None
@@ -133,7 +133,7 @@ fn system_parts(rest: Words<'_>) -> Option<(&[u8], &[u8])>
         ≡ option_map (λ args. (found.0.now, args)) (arguments_in found.1.now)) }
 {
     let (word, behind) = first_word(rest)?;
-    if !is_end(behind) {
+    if !is_used_up(behind) {
         return None;
     }
     let (name, inside) = bracketed(word)?;

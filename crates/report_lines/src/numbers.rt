@@ -4,7 +4,7 @@ ghost use Rattle.std.specs.Prelude.{◌≡◌, ◌≤◌, IfSome, option_copied}
 ghost use Rattle.report_lines.specs.Parts.{parts_left};
 ghost use Rattle.report_lines.specs.Numbers.{is_plain, max32, one_in, plain, plain_integer, three_in, two_in};
 
-use crate::parts::{Words, first_word, is_end};
+use crate::parts::{Words, first_word, is_used_up};
 use change_script::{has_only_digits, value_within};
 
 /// The number that a word writes in decimal, without leading zeros, if it is at most `most`.
@@ -35,7 +35,7 @@ pub fn single(words: Words<'_>, most: u64) -> Option<u64>
     ensures most { IfSome result (λ number. number ≤ most) }
 {
     let (first, rest) = first_word(words)?;
-    if is_end(rest) {
+    if is_used_up(rest) {
         plain(first, most)
     } else {
         None
