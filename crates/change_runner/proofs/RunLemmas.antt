@@ -134,15 +134,15 @@ module _ {B L : Type 0} (W : BoardWords B) (H : L → List Graph → Type 0) (st
         let none : now_ ≡ false → given ≡ false = λ h. p.flag ∙ (or_parts (is_given_up t) (is_given_up x.items) (sym (pending_both t x.items) ∙ sym x.flag ∙ h)).0 in
         let above = forward step p x none in
         let told = committed_in step now_ f.graph in
-        let done_ : AreDone W.alone (p.pieces ++ q ∷ []) = (each_pushed (λ before (y : Piece). IsDone W.alone (items_of before) y.statement y.items) p.pieces q).1 (p.are_done, x.done) in
+        let all_done : AreDone W.alone (p.pieces ++ q ∷ []) = (each_pushed (λ before (y : Piece). IsDone W.alone (items_of before) y.statement y.items) p.pieces q).1 (p.are_done, x.done) in
         record {
           pieces = p.pieces ++ q ∷ [];
           statements_are = map-append (λ (y : Piece). y.statement) p.pieces (q ∷ []) ∙ ap (λ ss. ss ++ statement_of step ∷ []) p.statements_are
               ∙ ap (λ ss. statements.start start.name start.args start.graph ∷ ss) (sym (map-append statement_of done_ (step ∷ [])));
-          are_done = done_;
+          are_done = all_done;
           graphs = p.graphs ++ option_to_list told;
           heard = heard_more told hears p.graphs p.heard;
-          committed = heard_next W.alone p.pieces q p.graphs done_ p.committed told x.told;
+          committed = heard_next W.alone p.pieces q p.graphs all_done p.committed told x.told;
           idle = subst (λ u. IsIdle W f u) (sym pushed) x.idle;
           flag = x.flag ∙ ap is_given_up (sym pushed);
           above = above.above;
