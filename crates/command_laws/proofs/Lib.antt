@@ -9,3 +9,11 @@ mod TextLemmas
 mod FewCreated
 mod LaneLemmas
 mod LineLemmas
+mod NumberLemmas
+mod TellingLines
+mod TellingLogs
+mod TellingOpens
+mod TellingReports
+mod TellingRuns
+mod TellingScripts
+mod TellingTexts

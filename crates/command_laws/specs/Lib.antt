@@ -1,2 +1,3 @@
 pub mod MadeScripts
 pub mod MadeTrees
+pub mod Telling

@@ -1,9 +1,10 @@
-//! Laws of runs of commands: the lines of a script lead on or are refused, it has one run, and what `big` makes is
-//! never refused.
+//! Laws of runs of commands: the lines of a script lead on or are refused, it has one run, whose report is told by its
+//! text, and what `big` makes is never refused.
 #![tactic(auto)]
 
 mod made;
 mod scripts;
+mod telling;
 
 pub use made::{
     made_descriptions_are_checked, made_descriptions_have_no_fault, made_lines_are_not_refused,
@@ -14,3 +15,4 @@ pub use scripts::{
     lines_lead_or_are_refused, made_scripts_are_not_refused, made_scripts_are_scripts,
     three_things_are_asked_of_a_script,
 };
+pub use telling::runs_tell_their_reports;

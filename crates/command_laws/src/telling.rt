@@ -1,0 +1,48 @@
+//! A law of reports: that of a run is told by its text.
+
+ghost use Rattle.std.specs.Prelude.{◌≡◌, ℕ, List, Ok, Option};
+ghost use Rattle.cfg_io.specs.Shelf.{Files};
+ghost use Rattle.report_types.specs.declared.report.Report.{Report};
+ghost use Rattle.report_types.specs.declared.script.Script.{Script};
+ghost use Rattle.report_writing.specs.Reports.{report_text};
+ghost use Rattle.change_script.specs.ScriptFiles.{IsScript};
+ghost use Rattle.report_texts.specs.ReportTexts.{IsReport};
+ghost use Rattle.report_texts.specs.Stages.{reading};
+ghost use Rattle.report_texts.specs.declared.version.Version.TheVariants as versions;
+ghost use Rattle.change_law.specs.Scripts.{StatementsOf};
+ghost use Rattle.change_law.specs.Statements.{Statement};
+ghost use Rattle.command_answers.specs.declared.status.Status.{Status};
+ghost use Rattle.command_law.specs.Outcomes.{HoldsFile, Ran};
+ghost use Rattle.command_law.specs.Ways.{Elaborates};
+ghost use Rattle.command_laws.specs.Telling.{AreStated, NumbersFit, TellsItself};
+
+use change_law::lawful_reports_are_consistent;
+use change_script::{lines_mean_what_their_forms_say, names_are_those_of_the_language};
+use change_script_laws::paths_of_nodes_are_paths;
+use darwin_lexer::fronts_as_spelled;
+use elaborator::paths_are_words;
+use report_texts::a_written_report_is_read;
+
+/// A law: a consistent report of stated statements is one that can be written and read again, so its text tells it.
+/// The statements of a script are stated, since names and paths are words of the language. So the report of a run in
+/// rounds is read again from what was written. That the counts of `run` lines and the numbers of last states are below
+/// 2^64 is asked for, since no law bounds them: they are numbers of that type in the program.
+pub fn runs_tell_their_reports()
+    ensures consistent { (statements : List Statement) (report : Report) → TellsItself statements report }
+    ensures stated { (files : Option Files) (bytes : List ℕ) (script : Script) (statements : List Statement)
+        → IsScript bytes script
+        → StatementsOf (Elaborates (HoldsFile files)) script statements → AreStated statements }
+    ensures ran { (files : Option Files) (name : List ℕ) (own : Status) (taken t : Option (List ℕ))
+        → (ran : Ran files name own taken t) → NumbersFit ran.report → IsReport versions.Second ran.report }
+    ensures read { (files : Option Files) (name : List ℕ) (own : Status) (taken t : Option (List ℕ))
+        → (ran : Ran files name own taken t) → NumbersFit ran.report
+        → reading (report_text ran.report) ≡ Ok (record { version = versions.Second; report = ran.report }) }
+{
+    fronts_as_spelled();
+    names_are_those_of_the_language();
+    lines_mean_what_their_forms_say();
+    paths_are_words();
+    paths_of_nodes_are_paths();
+    lawful_reports_are_consistent();
+    a_written_report_is_read();
+}
