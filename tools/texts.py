@@ -266,7 +266,8 @@ class Reader:
             return False
         if self.log is not None and words[0] == "state":
             return all(self.says(word, "NUMBER") for word in words[1:])
-        form = (LOGS if words[0] == "log" or self.log is not None else HISTORY).get((words[0], len(words)))
+        is_behind = self.log is not None or words[0] in ("log", "unfinished", "status")
+        form = (LOGS if is_behind else HISTORY).get((words[0], len(words)))
         return form is not None and all(map(self.says, words, form))
 
     def take(self, number, words):
