@@ -64,6 +64,16 @@ def rules():
     return {int(number): text for number, text in re.findall(r"\| (\d+) \| (.*) \|", table[0])} if table else {}
 
 
+def forms(section):
+    """The forms of lines that a section of docs/formats.md lists, by their first word."""
+    found = {}
+    for part in re.findall(r"^## %s\n(.*?)(?=^## |\Z)" % section, page("formats.md"), re.M | re.S):
+        for items in re.findall(r"^- ((?:`[^`]+`(?:, )?)+)", part, re.M):
+            for form in re.findall(r"`([^`]+)`", items):
+                found.setdefault(form.split()[0], []).append(" ".join(form.split()))
+    return found
+
+
 def plain(text, is_alone):
     """A paragraph without marks; where it is of one name alone, without this name, its fields and the `:` behind them."""
     text = re.sub(r"\[([^\]]*)\]\([^)]*\)", r"\1", re.sub(r"^\*\*`[^`]*`\*\*: ", "", text) if is_alone else text)
