@@ -37,7 +37,7 @@ use Rattle.txn_law.specs.declared.view.ChangeView.{ChangeView}
 use Rattle.txn_law.specs.declared.view.NodeView.{NodeView}
 use Rattle.txn_law.proofs.GrowthLaws.{With, prolonged, straight}
 use Rattle.txn_law.proofs.TraceLaws.{changes, same_words, sees, shows_none, shows_port, shows_slot}
-use mathlib.Core.Option.{none, some}
+use mathlib.Core.Option.{some}
 use lib.ListN.{get_elem?}
 
 module _ (nodes : List NodeView) (c : ChangeView) (t : GatesTable) (h : Holds t) (id : ℕ) (at : get_elem? t.views id ≡ some (of_change nodes c)) where
