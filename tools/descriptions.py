@@ -7,6 +7,8 @@ from typing import NamedTuple
 
 TOKEN = re.compile(r"//[^\n]*|/\*.*?(?:\*/|\Z)|[A-Za-z_][A-Za-z0-9_]*|[0-9]+|\.\.|--|[<>=!]=|[^\s]", re.S)
 KEYWORDS = set("component provide require inst array bind forall when int and or".split())
+# those that begin a list of entries, or end one
+LISTS = ("provide", "require", "inst", "array", "bind", "forall", "when")
 
 
 class Token(NamedTuple):
@@ -35,7 +37,7 @@ class Component:
         """An entry stands behind `inst` or `array`, or behind the `;` of another."""
         mode = None
         for before, token, *behind in zip(tokens, tokens[1:], tokens[2:], tokens[3:]):
-            if before.text in KEYWORDS:
+            if before.text in LISTS:
                 mode = before.text
             if mode not in ("inst", "array") or before.text not in (mode, ";") or not is_name(token.text):
                 continue

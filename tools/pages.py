@@ -74,9 +74,9 @@ def forms(section):
     return found
 
 
-def plain(text, is_alone):
-    """A paragraph without marks; where it is of one name alone, without this name, its fields and the `:` behind them."""
-    text = re.sub(r"\[([^\]]*)\]\([^)]*\)", r"\1", re.sub(r"^\*\*`[^`]*`\*\*: ", "", text) if is_alone else text)
+def plain(text):
+    """A paragraph without marks; one that explains a name with its fields, without these and the `:` behind them."""
+    text = re.sub(r"\[([^\]]*)\]\([^)]*\)", r"\1", re.sub(r"^\*\*`[^`]*`\*\*: ", "", text))
     return text.replace("**", "").replace("`", "")
 
 
@@ -89,5 +89,5 @@ def refusals():
             section = text[3:]
         names = re.findall(r"\*\*`([A-Za-z]+(?: [a-z]+)*)[^`]*`\*\*", text)
         if names:
-            found.append(Refusal(names, section, plain(text, len(names) == 1)))
+            found.append(Refusal(names, section, plain(text)))
     return found

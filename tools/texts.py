@@ -214,10 +214,10 @@ class Made(NamedTuple):
 
 
 class Log:
-    """The events of a node, each as words; and the numbers that it kept at last, or the slot to which its state moved."""
+    """The events of a node, each as words, and the numbers that it kept at last: none where its state moved."""
 
     def __init__(self):
-        self.events, self.state, self.moved = [], [], None
+        self.events, self.state = [], []
 
 
 class Report:
@@ -233,10 +233,10 @@ class Report:
         return "%s.%s" % (made.node.path, KINDS[made.node.kind].requires[port - made.ports.start])
 
     def lost(self, slot):
-        """The numbers that a removed node kept and handed to nobody; a count or a balance of 0 is nothing."""
-        log, kind = self.logs.get(slot, Log()), self.made[slot].node.kind
-        holds = log.moved is None and (log.state if kind in ("buffer", "sink") else any(number != "0" for number in log.state))
-        return log.state if holds else []
+        """The numbers that a removed node kept and handed to nobody. A count or a balance of 0 is nothing, and a value of 0 is one."""
+        state = self.logs[slot].state if slot in self.logs else []
+        has_values = self.made[slot].node.kind in ("buffer", "sink")
+        return state if has_values or any(number != "0" for number in state) else []
 
 
 class Reader:
@@ -276,10 +276,8 @@ class Reader:
             self.make(words)
         if name == "log":
             self.log = report.logs[int(words[1])] = Log()
-        elif name == "state":
-            self.log.state = words[1:]
-        elif name == "moved":
-            self.log.moved = int(words[1])
+        elif name in ("state", "moved"):
+            self.log.state = words[1:] if name == "state" else []
         elif name == "unfinished":
             report.unfinished = int(words[1])
         elif name == "status":
