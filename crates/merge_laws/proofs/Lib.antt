@@ -16,3 +16,8 @@ mod TellingLemmas
 mod FrontLemmas
 mod ReadingLemmas
 mod LogLemmas
+mod StuckLemmas
+mod AloneLemmas
+mod GoneLemmas
+mod MisleadingLemmas
+mod DecidedLemmas

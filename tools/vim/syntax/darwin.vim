@@ -1,5 +1,4 @@
-" Descriptions in Darwin, for Vim. Copy it to ~/.vim/syntax/darwin.vim, and have files found by their names:
-"   autocmd BufRead,BufNewFile *.dar setfiletype darwin
+" Descriptions in Darwin.
 
 if exists("b:current_syntax")
   finish

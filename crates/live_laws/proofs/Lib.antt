@@ -1,0 +1,6 @@
+mod LineFolds
+mod SeenLines
+mod ApartLemmas
+mod CutLaws
+mod ThreadReports
+mod RecordLemmas
