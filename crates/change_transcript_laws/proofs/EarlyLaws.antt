@@ -1,6 +1,6 @@
 -- Where a finish made fewer rounds than were allowed and no change was committed behind it, no node is left undone.
 use Rattle.std.proofs.Common.{◌≡◌, ◌∙◌, ◌++◌, ◌∷◌, List, [], true, false, length, map, append_assoc, filter_map, None, refl, sym, ap, subst, ⊎_elim, arith}
-use Rattle.std.specs.Prelude.{◌<◌, ◌⊎◌, All, not}
+use Rattle.std.specs.Prelude.{◌<◌, All, not}
 use Rattle.std.specs.List.{list_any, range_with_len}
 use Rattle.std.proofs.lemmas.Bool.{both_ways, or_parts}
 use Rattle.std.proofs.lemmas.List.{append_cancel_left}

@@ -4,3 +4,4 @@ mod ApartLemmas
 mod CutLaws
 mod ThreadReports
 mod RecordLemmas
+mod CarriedLemmas

@@ -35,7 +35,7 @@ use Rattle.change_law.specs.Members.{Member, by_node, of_history, event_of, even
 use Rattle.change_law.proofs.MemberLaws.{at_line, events_of_nodes, events_parts, parted_at}
 use Rattle.change_law.proofs.TestLaws.{counted_some}
 use Rattle.base.proofs.ListLaws.{count_by-some}
-use Rattle.worked_report_laws.specs.WrongLogs.{altered, hurried, running_two, swapped}
+use Rattle.worked_report_laws.specs.WrongLogs.{altered, hurried, swapped}
 use Rattle.worked_report_laws.proofs.PlaceLemmas.{done_at, passes_there}
 
 -- two sinks: port 1 never leads to the first

@@ -1,6 +1,6 @@
 -- A wrong rest: a buffer was empty before the line before, and has an item at each place since.
 use Rattle.std.proofs.Common.{◌≡◌, ◌∙◌, ℕ, ◌<◌, ◌≤◌, Bool, true, false, List, [], ◌∷◌, ◌++◌, append_assoc, drop, length, take, Option, Some, None, refl, sym, ap, subst, ⊎_elim, arith, Contains}
-use Rattle.std.specs.Prelude.{◌||◌, ◌⊎◌, All, codes, filter_map, fold, map, if◌then◌else◌}
+use Rattle.std.specs.Prelude.{◌||◌, All, codes, filter_map, fold, map, if◌then◌else◌}
 use Rattle.std.specs.List.{count_by, list_any}
 use Rattle.std.specs.Option.{option_map_or}
 use Rattle.std.proofs.lemmas.Bool.{both_ways, or_right}
@@ -35,7 +35,7 @@ use Rattle.change_law.proofs.MemberLaws.{AtLine, all_parts, at_line, config_of_l
 use Rattle.base.proofs.ListLaws.{count_by-some}
 use Rattle.worked_report_laws.specs.Filled.{log_0, log_1}
 use Rattle.worked_report_laws.specs.Systems.{buffer_at}
-use Rattle.worked_report_laws.specs.WrongRuns.{rested_before, resting_small}
+use Rattle.worked_report_laws.specs.WrongRuns.{rested_before}
 use Rattle.worked_report_laws.proofs.PlaceLemmas.{DoneAt, done_at, passes_there}
 use Rattle.worked_report_laws.proofs.WrongLogLemmas.{AreFew, ends_by_sources, few_behind, some_log}
 use Rattle.worked_report_laws.proofs.WrongRunLemmas.{behind_line, ends_in}
