@@ -8,7 +8,9 @@ use Rattle.std.proofs.lemmas.List.Elements.{All-contains, Contains-append_cases}
 use Rattle.std.proofs.lemmas.List.Sums.{sum_by-append, sum_by-cons}
 use Rattle.std.proofs.lemmas.Option.{none-some, slice_get_within}
 use Rattle.base.proofs.ContainsLaws.{Contains-at, Contains-filter_map, Contains-from_filter_map, Contains-here, Contains-nil, Contains-there, at_some_place}
-use Rattle.base.proofs.PlaceLaws.{slice_get-there}
+use Rattle.base.proofs.PlaceLaws.{one_at, slice_get-there}
+use Rattle.base.specs.Telling.{CanTell}
+use Rattle.config_graph.proofs.TellLaws.{tell_contained}
 use Rattle.config_graph.specs.Graph.{Graph, IsGraph, PathsRise, requires_at, requires_of}
 use Rattle.config_graph.specs.Sound.{Sound}
 use Rattle.config_graph.specs.declared.node.Made.{Made}
@@ -22,14 +24,14 @@ use Rattle.change_plan.specs.Selects.Selects.{ends, takes, skips}
 use Rattle.change_plan.specs.declared.plan_data.Move.{Move}
 use Rattle.change_plan.proofs.SelectsLaws.{Selects-only, Selects-part}
 use Rattle.change_plan.proofs.StepLaws.{gone_listed, listed_gone}
-use Rattle.change_parts_laws.specs.Groups.{IsBefore}
-use Rattle.change_parts_laws.specs.Parts.{AreParts, ArePartsFrom, IsPart}
+use Rattle.change_parts_laws.specs.Groups.{IsBefore, IsIn}
+use Rattle.change_parts_laws.specs.Parts.{AreParts, ArePartsFrom, HasEndsIn, IsPart}
 use Rattle.change_parts_laws.specs.Parts.ArePartsFrom.{none_left, then_}
 use Rattle.change_parts_laws.specs.Stages.{IsAfter}
 use Rattle.change_parts_laws.specs.Ties.{IsCreated}
 use Rattle.change_parts_laws.specs.declared.part.Part.{Part}
-use Rattle.change_parts_laws.proofs.PartLemmas.{apart_groups, front_rises, next_stage}
-use Rattle.change_parts_laws.proofs.StageLemmas.{first_stage, stage_sound}
+use Rattle.change_parts_laws.proofs.PartLaws.{apart_groups, front_rises, next_stage}
+use Rattle.change_parts_laws.proofs.StageLaws.{first_stage, stage_sound}
 use Rattle.change_parts_laws.specs.Carrying.{CanCarryOutAll, made_with}
 use Rattle.change_parts_laws.proofs.MovingLemmas.{part_may_move}
 use Rattle.change_parts_laws.proofs.CountLemmas.{Distinct, distinct_both, sum_within}
@@ -165,7 +167,7 @@ module _ (old new : Graph) (old_graph : IsGraph old) (new_graph : IsGraph new) (
           sound = stage_sound old new old_graph new_graph moves (done ++ taken) p.next next_is old_sound new_sound part.no_cycle;
           is_plan = part.plan_is;
           can_plan = record {
-            may_move = part_may_move old new old_graph new_graph moves can.may_move done taken stage p (apart_groups old new old_graph new_graph moves done taken (front_rises (done ++ taken) left (subst (AllPairs IsBefore) (sym (append_assoc done taken left)) rise))) stage_is part;
+            may_move = part_may_move old new old_graph new_graph moves can.may_move done taken stage p.next p.moves (apart_groups old new old_graph new_graph moves done taken (front_rises (done ++ taken) left (subst (AllPairs IsBefore) (sym (append_assoc done taken left)) rise))) stage_is part.leads_to part.moves_are;
             nodes = length p.plan.create;
             ports = sum_by (requires_at p.next.nodes) p.plan.create;
             wanted = record { created = p.plan.create; gone = part.plan_is.steps.create; nodes_are = refl; ports_are = refl };
@@ -186,3 +188,57 @@ module _ (old new : Graph) (old_graph : IsGraph old) (new_graph : IsGraph new) (
   -- the parts of a change that may be planned may be carried out one after the other
   pub parts_can_carry_out : (ps : List Part) → AreParts old new moves ps → ((p : Part) → Contains ps p → IsGraph p.next) → CanCarryOutAll old made ps
   parts_can_carry_out ps parts graphs = can_carry_out [] parts.groups old ps parts.parts parts.are_groups.rise (first_stage old new old_graph new_graph moves) graphs [] nil (λ n held. absurd (Contains-nil n held)) made (omega arith) (omega arith)
+
+-- which elements of a list have a property that can be told
+selected : {A : Type 0} (P : A → Type 0) → ((x : A) → CanTell (P x)) → (xs : List A) → (ys : List A) × Selects P xs ys
+selected P tell [] = ([], ends)
+selected P tell (x ∷ xs) =
+    let w = selected P tell xs in
+    elim (tell x) [ inl has ↦ (x ∷ w.0, takes has w.1) | inr lacks ↦ (w.0, skips lacks w.1) ]
+
+tell_gone : (g h : Graph) (i : ℕ) → CanTell (IsGone g h i)
+tell_gone g h i = by (slice_get g.nodes i) refl
+  where
+    by : (o : Option Node) → slice_get g.nodes i ≡ o → CanTell (IsGone g h i)
+    by None at = inr (λ gone. none-some gone.node (sym at ∙ gone.here))
+    by (Some n) at =
+        elim (tell_contained h.nodes n) [
+          | inl there ↦ inr (λ gone. gone.gone (subst (Contains h.nodes) (one_at g.nodes i n gone.node at gone.here) there))
+          | inr lost ↦ inl (record { node = n; here = at; gone = lost })
+        ]
+
+-- what a part makes may be planned where the whole change may
+module _ (old new : Graph) (old_graph : IsGraph old) (new_graph : IsGraph new) (old_sound : Sound old) (new_sound : Sound new) (moves : List Move) (made : Made) (can : CanPlan old new moves made)
+    (done taken : List (List ℕ)) (stage next : Graph) (own : List Move) (apart : (n : Node) → IsIn old new moves done n → IsIn old new moves taken n → ⊥) (stage_is : IsAfter old new moves done old stage)
+    (leads_to : IsAfter old new moves taken stage next) (moves_are : Selects (HasEndsIn old new moves taken) moves own) where
+  pub part_can_plan : CanPlan stage next own made
+  part_can_plan = record {
+    may_move = part_may_move old new old_graph new_graph moves can.may_move done taken stage next own apart stage_is leads_to moves_are;
+    nodes = length created;
+    ports = sum_by (requires_at next.nodes) created;
+    wanted = record { created = created; gone = gone; nodes_are = refl; ports_are = refl };
+    room = record {
+      nodes_fit = omega (arith, few_nodes old new old_graph new_graph old_sound new_sound moves made can made_here distinct are_created, gone_length next stage leads_to.paths_rise created gone);
+      ports_fit = omega (arith, few_ports old new old_graph new_graph old_sound new_sound moves made can made_here distinct are_created, gone_sum next stage leads_to.paths_rise created gone requires_of);
+    };
+  }
+    where
+      all : (places : List ℕ) × GoneNodes next stage places
+      all = selected (IsGone next stage) (tell_gone next stage) (range_with_len 0 (length next.nodes))
+
+      created : List ℕ
+      created = all.0
+
+      gone : GoneNodes next stage created
+      gone = all.1
+
+      made_here : List Node
+      made_here = ns next stage leads_to.paths_rise created gone
+
+      distinct : Distinct made_here
+      distinct = gone_distinct next stage leads_to.paths_rise created gone
+
+      are_created : (n : Node) → Contains made_here n → IsCreated old new n
+      are_created n held =
+          let w = gone_is next stage leads_to.paths_rise created gone n held in
+          elim ((leads_to.nodes_are n).0 w.0) [ inl v ↦ absurd (w.1 v.0) | inr v ↦ v.1 ]

@@ -15,7 +15,7 @@ use Rattle.change_parts_laws.specs.Groups.{IsBefore, IsIn, IsInGroup}
 use Rattle.change_parts_laws.specs.Ties.{AreConnected, IsChanged, IsCreated, IsRemoved, IsTouchedNode, Joined, Tied}
 use Rattle.change_parts_laws.specs.Ties.Joined.{itself, along, against}
 use Rattle.change_parts_laws.specs.Ties.Tied.{replaced, moved, unlinked, linked}
-use Rattle.change_parts_laws.proofs.LinkedLemmas.{from_contained, removed_touched, tell_touched, to_contained, untouched_alike}
+use Rattle.change_parts_laws.proofs.LinkedLaws.{from_contained, removed_touched, tell_touched, to_contained, untouched_alike}
 
 -- of two paths of which neither stands before the other, both are one
 pub same_if_neither : (p q : List ℕ) → ¬ IsBefore p q → ¬ IsBefore q p → p ≡ q

@@ -22,14 +22,14 @@ use Rattle.change_parts_laws.specs.Groups.{AreGroups, IsIn}
 use Rattle.change_parts_laws.specs.Stages.{AreLinkedAfter, IsAfter, IsNodeAfter}
 use Rattle.change_parts_laws.specs.Ties.{AreConnected, IsCreated, IsRemoved, IsTouchedNode}
 use Rattle.change_parts_laws.specs.Ties.Tied.{unlinked, linked}
-use Rattle.change_parts_laws.proofs.LinkedLemmas.{from_contained, linked_at, removed_touched, tell_touched, to_contained, untouched_alike}
-use Rattle.change_parts_laws.proofs.TieLemmas.{in_against, in_along, in_changed}
+use Rattle.change_parts_laws.proofs.LinkedLaws.{from_contained, linked_at, removed_touched, tell_touched, to_contained, untouched_alike}
+use Rattle.change_parts_laws.proofs.TieLaws.{in_against, in_along, in_changed}
 
-All-from : {A : Type 0} (xs : List A) (P : A → Type 0) → ((x : A) → Contains xs x → P x) → All P xs
+pub All-from : {A : Type 0} (xs : List A) (P : A → Type 0) → ((x : A) → Contains xs x → P x) → All P xs
 All-from xs P f k d low = f (get_or xs k d) (Contains-get_or xs k d low)
 
 -- the ends of a connection are a requirement of the one node and a provision of the other
-ends_within : (g : Graph) → IsGraph g → (from : Node) (r : ℕ) (to : Node) (x : ℕ) → AreConnected g from r to x → (r < requires_of from) × (x < provides_of to)
+pub ends_within : (g : Graph) → IsGraph g → (from : Node) (r : ℕ) (to : Node) (x : ℕ) → AreConnected g from r to x → (r < requires_of from) × (x < provides_of to)
 ends_within g graph from r to x (l, there, made) =
     let inside = All-contains (IsLinkWithin g.nodes) g.links l graph.within there in
     let requires_ : requires_at g.nodes l.from ≡ requires_of from = ap (λ o. option_map_or requires_of o 0) made.from in
@@ -121,18 +121,22 @@ module _ (old new : Graph) (old_graph : IsGraph old) (new_graph : IsGraph new) (
         | inr made ↦ inl (w.0, made)
       ]
 
-  -- no link is lost: where a link begins in a stage it ends there
-  pub end_of_stage : (done : List (List ℕ)) (g : Graph) → After done old g → (from : Node) (r : ℕ) (to : Node) (x : ℕ) → Contains g.nodes from
-      → AreLinkedAfter old new moves done old from r to x → Contains g.nodes to
-  end_of_stage done g stage from r to x there (inl (is_in, c)) =
+  -- no link is lost: what a link ends at stands there too
+  pub end_stands : (done : List (List ℕ)) (from : Node) (r : ℕ) (to : Node) (x : ℕ) → AreLinkedAfter old new moves done old from r to x → IsNodeAfter old new moves done old to
+  end_stands done from r to x (inl (is_in, c)) =
       elim (tell_contained old.nodes to) [
-        | inl before ↦ stays_in_stage done g stage to before (to_contained new new_graph from r to x c)
+        | inl before ↦ inl (before, λ w. w.1.gone (to_contained new new_graph from r to x c))
         | inr missing ↦
             let made : IsCreated old new to = record { there = to_contained new new_graph from r to x c; gone = missing } in
-            (stage.nodes_are to).1 (inr (in_along old new old_graph new_graph moves done from to (linked r x c made) is_in, made))
+            inr (in_along old new old_graph new_graph moves done from to (linked r x c made) is_in, made)
       ]
-  end_of_stage done g stage from r to x there (inr (not_in, c)) =
-      (stage.nodes_are to).1 (inl (to_contained old old_graph from r to x c, λ w. not_in (in_against old new old_graph new_graph moves done from to (unlinked r x c w.1) w.0)))
+  end_stands done from r to x (inr (not_in, c)) =
+      inl (to_contained old old_graph from r to x c, λ w. not_in (in_against old new old_graph new_graph moves done from to (unlinked r x c w.1) w.0))
+
+  -- where a link begins in a stage it ends there
+  pub end_of_stage : (done : List (List ℕ)) (g : Graph) → After done old g → (from : Node) (r : ℕ) (to : Node) (x : ℕ) → Contains g.nodes from
+      → AreLinkedAfter old new moves done old from r to x → Contains g.nodes to
+  end_of_stage done g stage from r to x there is = (stage.nodes_are to).1 (end_stands done from r to x is)
 
   -- a stage without a cycle is sound
   pub stage_sound : (done : List (List ℕ)) (g : Graph) → After done old g → Sound old → Sound new → HasNoCycle (graph_wiring g) → Sound g
@@ -232,7 +236,7 @@ module _ (old new : Graph) (old_graph : IsGraph old) (new_graph : IsGraph new) (
 
   -- after all groups the new graph stands
   module _ (firsts : List (List ℕ)) (groups : AreGroups old new moves firsts) where
-    new_stage : After firsts old new
+    pub new_stage : After firsts old new
     new_stage = by_alike (Contains new.nodes) (AreConnected new) (IsNodeAfter old new moves firsts old) (AreLinkedAfter old new moves firsts old) new (own_graph_by new new_graph)
         (λ n. (nodes_to n, nodes_from n)) (λ from r to x from_there to_there. (links_to from r to x, links_from from r to x))
       where

@@ -1,4 +1,4 @@
--- Lemmas on the parts of a change: each begins at a stage and ends at the next, and what each takes and makes.
+-- Laws of the parts of a change: each begins at a stage and ends at the next, and what each takes and makes.
 use Rattle.std.proofs.Common.{◌≡◌, ◌⊎◌, ◌∙◌, ◌++◌, ◌+◌, ◌<◌, ℕ, zero, suc, [], ◌∷◌, List, length, Some, refl, sym, ap, subst, inl, inr, arith, All, Contains, ◌≤◌, ◌-◌, slice_get, append_assoc, append-nil, length-append}
 use Rattle.std.specs.Prelude.{AllPairs}
 use Rattle.std.proofs.lemmas.Bool.{cases_eq, cases_lt}
@@ -13,19 +13,20 @@ use Rattle.config_graph.specs.Sound.{Sound}
 use Rattle.config_graph.specs.declared.node.Node.{Node}
 use Rattle.config_graph.proofs.PathLaws.{irreflexive}
 use Rattle.change_plan.specs.Applying.{IsAtOneOf}
+use Rattle.change_plan.specs.PlanWithin.{IsPlanWithin}
 use Rattle.change_plan.specs.declared.plan_data.Move.{Move}
 use Rattle.change_plan.proofs.StepLaws.{gone_listed, listed_gone}
 use Rattle.change_parts_laws.specs.Freezing.{IsFrozenAt}
 use Rattle.change_parts_laws.specs.Groups.{IsBefore, IsIn}
-use Rattle.change_parts_laws.specs.Parts.{AreParts, ArePartsFrom, CreatedBy, IsPart, RemovedBy, StandsInOne, stage_after}
+use Rattle.change_parts_laws.specs.Parts.{AreParts, ArePartsFrom, CreatedBy, IsPart, ArePlansWithin, RemovedBy, StandsInOne, stage_after}
 use Rattle.change_parts_laws.specs.Parts.ArePartsFrom.{none_left, then_}
 use Rattle.change_parts_laws.specs.Stages.{AreLinkedAfter, HasLinksOf, IsAfter, IsNodeAfter}
 use Rattle.change_parts_laws.specs.Ties.{IsCreated, IsRemoved}
 use Rattle.change_parts_laws.specs.declared.part.Part.{Part}
 use Rattle.change_parts_laws.proofs.FreezeLemmas.{frozen_by_whole}
-use Rattle.change_parts_laws.proofs.LinkedLemmas.{removed_touched}
-use Rattle.change_parts_laws.proofs.StageLemmas.{connection_linked, end_of_stage, first_stage, last_stage, linked_connection, stage_next, stage_sound}
-use Rattle.change_parts_laws.proofs.TieLemmas.{one_group}
+use Rattle.change_parts_laws.proofs.LinkedLaws.{removed_touched}
+use Rattle.change_parts_laws.proofs.StageLaws.{connection_linked, end_of_stage, first_stage, last_stage, linked_connection, stage_next, stage_sound}
+use Rattle.change_parts_laws.proofs.TieLaws.{one_group}
 
 -- what stands in the front of a list that rises doesn't stand behind
 apart_rising : (xs ys : List (List ℕ)) → AllPairs IsBefore (xs ++ ys) → (p : List ℕ) → Contains xs p → Contains ys p → ⊥
@@ -40,6 +41,21 @@ pub front_rises : (xs ys : List (List ℕ)) → AllPairs IsBefore (xs ++ ys) →
 front_rises xs ys rise i j d below within =
     subst (λ (p : List ℕ × List ℕ). IsBefore p.0 p.1) (λ n. (get_or_append_left xs ys d i (omega (arith, below, within)) n, get_or_append_left xs ys d j within n))
     (rise i j d below (rw length-append (omega (arith, within))))
+
+-- the last stage is the graph of the last part, or the first one where there is none
+pub last_pushed : (stage : Graph) (ps : List Part) (p : Part) → stage_after stage (ps ++ p ∷ []) (length (ps ++ p ∷ [])) ≡ p.next
+unfolding stage_after
+last_pushed stage [] p = refl
+last_pushed stage (q ∷ ps) p = last_pushed q.next ps p
+
+pub none_pushed : (stage : Graph) → stage_after stage [] 0 ≡ stage
+unfolding stage_after
+none_pushed stage = refl
+
+pub plans_within_more : (stage : Graph) (ps : List Part) (p : Part) → ArePlansWithin stage ps → IsPlanWithin (stage_after stage ps (length ps)) p.next p.plan → ArePlansWithin stage (ps ++ p ∷ [])
+unfolding stage_after
+plans_within_more stage [] p all within = (within, tt)
+plans_within_more stage (q ∷ ps) p (first, rest) within = (first, plans_within_more q.next ps p rest within)
 
 module _ (old new : Graph) (old_graph : IsGraph old) (new_graph : IsGraph new) (moves : List Move) where
   abbrev In : List (List ℕ) → Node → Type 0
@@ -126,6 +142,14 @@ module _ (old new : Graph) (old_graph : IsGraph old) (new_graph : IsGraph new) (
       let same = append_assoc done taken left in
       subst (λ gs. IsAfter old new moves gs old (stage_after p0.next ps (length ps))) same
       (all_applied (done ++ taken) left p0.next ps rest (subst (AllPairs IsBefore) (sym same) rise) (next_stage done taken left stage p0 rise stage_is part))
+
+  -- one part more
+  pub parts_more : (stage : Graph) (taken more_ : List (List ℕ)) (ps : List Part) (p : Part) → ArePartsFrom old new moves stage taken ps → IsPart old new moves more_ (stage_after stage ps (length ps)) p
+      → ArePartsFrom old new moves stage (taken ++ more_) (ps ++ p ∷ [])
+  unfolding stage_after
+  parts_more stage _ more_ _ p none_left part = subst (λ gs. ArePartsFrom old new moves stage gs (p ∷ [])) (append-nil more_) (then_ part none_left)
+  parts_more stage _ more_ _ p (then_ {taken = taken} {left = left} {p = p0} {ps = ps} first rest) part =
+      subst (λ gs. ArePartsFrom old new moves stage gs (p0 ∷ (ps ++ p ∷ []))) (sym (append_assoc taken left more_)) (then_ first (parts_more p0.next left more_ ps p rest part))
 
   start_is : (stage : Graph) (ps : List Part) → stage ≡ stage_after stage ps 0
   unfolding stage_after
