@@ -31,7 +31,8 @@ use Rattle.quiesce_core.specs.declared.state.Exchange.{Exchange}
 use Rattle.quiesce_core.specs.declared.state.Slot.{Slot}
 use Rattle.quiesce_core.proofs.LegalLaws.{legal}
 use Rattle.quiesce_core.proofs.RunLaws.{fronts_are_runs, runs_are_consistent, runs_are_well_formed, state_more}
-use Rattle.change_transcript_laws.proofs.Doers.{doer_live, gone_does_nothing, log_same}
+use Rattle.quiesce_laws.proofs.DoerLaws.{doer_live, gone_does_nothing}
+use Rattle.change_transcript_laws.proofs.Doers.{log_same}
 use Rattle.change_transcript_laws.proofs.Resting.{begins_none, is_begin, only_begins}
 use Rattle.change_transcript_laws.proofs.Still.{log_parts, one_more}
 

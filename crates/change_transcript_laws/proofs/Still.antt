@@ -12,7 +12,8 @@ use Rattle.quiesce_core.specs.declared.event.Event.{Event}
 use Rattle.quiesce_core.proofs.LegalLaws.{legal}
 use Rattle.quiesce_core.proofs.RunLaws.{doer_there, fronts_are_runs, last_step, node_events_keep_the_configuration, runs_are_consistent, runs_are_well_formed, state_more}
 use Rattle.change_transcript_laws.specs.Rests.{AreByNodes}
-use Rattle.change_transcript_laws.proofs.Doers.{doer_live, gone_does_nothing, log_more, log_same}
+use Rattle.quiesce_laws.proofs.DoerLaws.{doer_live, gone_does_nothing}
+use Rattle.change_transcript_laws.proofs.Doers.{log_more, log_same}
 
 done_parts : (s : State) (n : ℕ) (xs ys : List Event) → done_from s n (xs ++ ys) ≡ done_from s n xs ++ done_from (fold effect s xs) n ys
 done_parts s n [] ys = refl
