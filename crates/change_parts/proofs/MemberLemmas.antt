@@ -179,10 +179,10 @@ module _ (placed nodes : List Node) (once : IsOnce nodes) (rise : PathsRise plac
 abbrev pub AreMarked : Graph → List Node → List Bool → Type 0
 AreMarked g nodes marks = (k : ℕ) (n : Node) → k < length marks → slice_get nodes k ≡ Some n → IsMarked marks k ↔ Contains g.nodes n
 
-pub marked_more : (g : Graph) (nodes : List Node) (marks : List Bool) (node : Node) (found : Option ℕ) (mark : Bool) → slice_get nodes (length marks) ≡ Some node
+pub mark_pushed : (g : Graph) (nodes : List Node) (marks : List Bool) (node : Node) (found : Option ℕ) (mark : Bool) → slice_get nodes (length marks) ≡ Some node
     → IfSome found (λ i. slice_get g.nodes i ≡ Some node) → IfNone found (¬ Contains g.nodes node) → mark ≡ is_some found
     → AreMarked g nodes marks → AreMarked g nodes (marks ++ mark ∷ [])
-marked_more g nodes marks node found mark at if_some if_none mark_is are k n below k_at =
+mark_pushed g nodes marks node found mark at if_some if_none mark_is are k n below k_at =
     elim (cases_lt k (length marks)) [
       | inl earlier ↦ let same : get_or (marks ++ mark ∷ []) k false ≡ get_or marks k false = get_or_append_left marks (mark ∷ []) false k earlier in
           let w = are k n earlier k_at in (λ is. w.0 (sym same ∙ is), λ there. same ∙ w.1 there)

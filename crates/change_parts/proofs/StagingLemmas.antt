@@ -150,8 +150,8 @@ record Joins (g : Graph) (all : List Node) (marks : List Bool) (places : List �
   connected : AreConnected g m k.require n k.provide
 
 module _ (g : Graph) (graph : IsGraph g) (all : List Node) (once : (a b : ℕ) (n : Node) → slice_get all a ≡ Some n → slice_get all b ≡ Some n → a ≡ b) (numbers : List ℕ) (numbered : AreNumbers g.nodes all numbers) (marks : List Bool) (places : List ℕ) where
-  node_of : (i a : ℕ) (n : Node) → slice_get g.nodes i ≡ Some n → slice_get numbers i ≡ Some a → slice_get all a ≡ Some n
-  node_of i a n at is =
+  member_at : (i a : ℕ) (n : Node) → slice_get g.nodes i ≡ Some n → slice_get numbers i ≡ Some a → slice_get all a ≡ Some n
+  member_at i a n at is =
       let w = numbered.are i n at in
       subst (λ k. slice_get all k ≡ Some n) (one_at numbers i w.0 a w.1 is) w.2
 
@@ -166,8 +166,8 @@ module _ (g : Graph) (graph : IsGraph g) (all : List Node) (once : (a b : ℕ) (
         b = p.b;
         m = f.0;
         n = t.0;
-        m_at = node_of l.from p.a f.0 f.1 p.first;
-        n_at = node_of l.to p.b t.0 t.1 p.second;
+        m_at = member_at l.from p.a f.0 f.1 p.first;
+        n_at = member_at l.to p.b t.0 t.1 p.second;
         marked = p.marked;
         from = p.from;
         to = p.to;
@@ -437,13 +437,13 @@ module _ (old new : Graph) (old_graph : IsGraph old) (new_graph : IsGraph new) (
         begin_old : (l k : Link) → Contains old.links l → link_in m.of_old.items left places l ≡ Some k → (u : Node) → slice_get old.nodes l.from ≡ Some u → slice_get nodes k.from ≡ Some u
         begin_old l k there e u at =
             let p = link_parts m.of_old.items left places l k e in
-            let at' = node_of old old_graph all index.members.once m.of_old.items index.of_old left places l.from p.a u at p.first in
+            let at' = member_at old old_graph all index.members.once m.of_old.items index.of_old left places l.from p.a u at p.first in
             laid_at p.a k.from u at' (unmarked_old p.a u at' (unmarked_left p.a p.marked) (Contains-at old.nodes l.from u at)) p.from
 
         begin_new : (l k : Link) → Contains new.links l → link_in m.of_new.items applied places l ≡ Some k → (u : Node) → slice_get new.nodes l.from ≡ Some u → slice_get nodes k.from ≡ Some u
         begin_new l k there e u at =
             let p = link_parts m.of_new.items applied places l k e in
-            let at' = node_of new new_graph all index.members.once m.of_new.items index.of_new applied places l.from p.a u at p.first in
+            let at' = member_at new new_graph all index.members.once m.of_new.items index.of_new applied places l.from p.a u at p.first in
             laid_at p.a k.from u at' (marked_new p.a u at' (at_marked p.a p.marked) (Contains-at new.nodes l.from u at)) p.from
 
     pub few_nodes : length nodes < 2 ^ 32

@@ -1,6 +1,6 @@
 use Rattle.std.proofs.Common.{◌≡◌, ◌∙◌, ◌∷◌, [], Some, slice_get, length, ap, sym, subst, arith, length-append}
 use Rattle.std.proofs.lemmas.Option.{slice_get-get_or, slice_get_within}
-use Rattle.change_parts.proofs.MemberLemmas.{AreMarked, marked_more}
+use Rattle.change_parts.proofs.MemberLemmas.{AreMarked, mark_pushed}
 use Rattle.change_parts.proofs.members.mark_nodes.Goals as goal
 
 pub loop-node-init : goal.loop-node-init
@@ -20,7 +20,7 @@ loop-node-preserved c =
     let here : slice_get nodes (length marks) ≡ Some n = ap (slice_get nodes) c.loop-node.invariant.long ∙ at in
     record {
       long = omega (arith, c.loop-node.invariant.long, ap length c.in_ok-push.ensures.items, length-append marks (c.is_some.result ∷ []));
-      are = subst (AreMarked g nodes) (sym c.in_ok-push.ensures.items) (marked_more g nodes marks n c.place_of.result c.is_some.result here c.place_of.ensures.found c.place_of.ensures.missing c.is_some.ensures c.loop-node.invariant.are);
+      are = subst (AreMarked g nodes) (sym c.in_ok-push.ensures.items) (mark_pushed g nodes marks n c.place_of.result c.is_some.result here c.place_of.ensures.found c.place_of.ensures.missing c.is_some.ensures c.loop-node.invariant.are);
     }
 
 pub returns : goal.returns
