@@ -9,9 +9,7 @@ mod OpenRootLemmas
 mod RootPortLemmas
 mod ApartLemmas
 mod LawfulLemmas
-mod ClosingPortLemmas
 mod DescentLemmas
-mod CalmLemmas
 mod TellingLemmas
 mod FrontLemmas
 mod ReadingLemmas
