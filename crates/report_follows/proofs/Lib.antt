@@ -4,3 +4,4 @@ mod LineLemmas
 mod ChangeLemmas
 mod OpeningLemmas
 mod FoundLemmas
+mod ExpectedLemmas

@@ -3,7 +3,9 @@
 #![tactic(auto)]
 
 mod fronts;
+mod laws;
 mod reading;
 mod testing;
 
+pub use laws::what_is_expected_may_be_read;
 pub use reading::{after_committed, after_given_up, after_opening, after_start, is_stop};
