@@ -190,10 +190,10 @@ module _ (old new : Graph) (old_graph : IsGraph old) (new_graph : IsGraph new) (
   parts_can_carry_out ps parts graphs = can_carry_out [] parts.groups old ps parts.parts parts.are_groups.rise (first_stage old new old_graph new_graph moves) graphs [] nil (λ n held. absurd (Contains-nil n held)) made (omega arith) (omega arith)
 
 -- which elements of a list have a property that can be told
-selected : {A : Type 0} (P : A → Type 0) → ((x : A) → CanTell (P x)) → (xs : List A) → (ys : List A) × Selects P xs ys
-selected P tell [] = ([], ends)
-selected P tell (x ∷ xs) =
-    let w = selected P tell xs in
+those_told : {A : Type 0} (P : A → Type 0) → ((x : A) → CanTell (P x)) → (xs : List A) → (ys : List A) × Selects P xs ys
+those_told P tell [] = ([], ends)
+those_told P tell (x ∷ xs) =
+    let w = those_told P tell xs in
     elim (tell x) [ inl has ↦ (x ∷ w.0, takes has w.1) | inr lacks ↦ (w.0, skips lacks w.1) ]
 
 tell_gone : (g h : Graph) (i : ℕ) → CanTell (IsGone g h i)
@@ -224,7 +224,7 @@ module _ (old new : Graph) (old_graph : IsGraph old) (new_graph : IsGraph new) (
   }
     where
       all : (places : List ℕ) × GoneNodes next stage places
-      all = selected (IsGone next stage) (tell_gone next stage) (range_with_len 0 (length next.nodes))
+      all = those_told (IsGone next stage) (tell_gone next stage) (range_with_len 0 (length next.nodes))
 
       created : List ℕ
       created = all.0
