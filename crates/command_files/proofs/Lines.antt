@@ -17,7 +17,7 @@ use Rattle.command_answers.specs.DescriptionFaults.{MayRefuse, fault_words}
 use Rattle.command_answers.specs.RefusalLines.{description_line, read_fault_line}
 use Rattle.command_answers.specs.declared.error.DescriptionFault.{DescriptionFault}
 use Rattle.command_answers.specs.declared.status.Status.TheVariants as status
-use Rattle.command_law.specs.Courses.{failed, gives, leads_on, refused, too_long}
+use Rattle.command_law.specs.Courses.{failed, leads_on, refused, too_long}
 use Rattle.command_law.specs.Descriptions.{IsChecked, IsTextRefusal}
 use Rattle.command_law.specs.Fetches.{fetch_of}
 use Rattle.command_law.specs.Leads.{falls_short}

@@ -1,8 +1,5 @@
 -- What was prepared of the made script is run, or refuses it.
-use Rattle.std.proofs.Common.{[], Some, subst}
 use Rattle.std.proofs.lemmas.Result.{err_from_is_err_and}
-use Rattle.command_words.specs.BigFiles.{made_files, script_name}
-use Rattle.command_files.specs.Preparing.{Prepares}
 use Rattle.command_program.proofs.ScriptRuns.{big_ran, big_stopped, not_made}
 use Rattle.command_program.proofs.answering.answer_big.Goals as goal
 
