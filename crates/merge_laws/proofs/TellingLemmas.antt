@@ -27,11 +27,12 @@ use Rattle.change_law.specs.Members.{event_of, is_close, is_pending, is_root}
 use Rattle.change_law.specs.Scene.{AreSeen, Seen, config_after, drained_line, root_line}
 use Rattle.change_law.specs.Statements.{Statement, start, change, run, finish, show}
 use Rattle.change_law.proofs.MemberLaws.{parted_at}
-use Rattle.change_law.proofs.TestLaws.{counted_some, none_both, none_mapped, range_rises, some_counted}
-use Rattle.merge_laws.proofs.ClosingPortLemmas.{closing_rise, config_more, still_to_close}
+use Rattle.change_law.proofs.TestLaws.{counted_some, none_both, none_mapped, range_rises}
+use Rattle.base.proofs.ListLaws.{count_by-some}
+use Rattle.change_law.proofs.PortLaws.{closing_rise, config_more, still_to_close}
 use Rattle.merge_laws.specs.Guarded.{tells}
 use Rattle.merge_laws.specs.Telling.{IsShutBy, IsTold, IsToldOf, reopens_there}
-use Rattle.merge_laws.proofs.CalmLemmas.{commit_lines_close_none, commit_roots_none, start_closes_none, start_roots_none}
+use Rattle.change_law.proofs.ClosingLaws.{commit_lines_close_none, commit_roots_none, start_closes_none, start_roots_none}
 use Rattle.merge_laws.proofs.DescentLemmas.{rise_first, rise_tail}
 
 -- ---- lists
@@ -182,7 +183,7 @@ module _ (closed : List ℕ) (heard : List HistoryLine) (once : (p : ℕ) → co
   told_behind p c z r whole first =
       let listed : list_any (λ q. q == p) closed ≡ true =
       sym (list_any-map (closes_there p) to.Close closed) ∙ ap (list_any (closes_there p)) first ∙ there (closes_there p) c (to.Close p) z (eq_true p) in
-      let w = first_in (tells p) heard (counted_some (tells p) heard (omega (arith, h.counts p, some_counted (λ q. q == p) closed listed))) in
+      let w = first_in (tells p) heard (counted_some (tells p) heard (omega (arith, h.counts p, count_by-some (λ q. q == p) closed listed))) in
       record {
         between = z ++ w.before;
         line = w.one;
@@ -198,9 +199,9 @@ module _ (closed : List ℕ) (heard : List HistoryLine) (once : (p : ℕ) → co
   shut_before p k c z r at place =
       let all : count_by (tells p) heard ≡ count_by (tells p) z + count_by (tells p) (to.Root p k ∷ r) =
       ap (count_by (tells p)) at ∙ count_by-append (tells p) z (to.Root p k ∷ r) in
-      let here : 1 ≤ count_by (tells p) (to.Root p k ∷ r) = some_counted (tells p) (to.Root p k ∷ r) (or_left (p == p) (list_any (tells p) r) (eq_true p)) in
+      let here : 1 ≤ count_by (tells p) (to.Root p k ∷ r) = count_by-some (tells p) (to.Root p k ∷ r) (or_left (p == p) (list_any (tells p) r) (eq_true p)) in
       let none : list_any (tells p) z ≡ false = ⊎_elim
-      (λ (some_ : list_any (tells p) z ≡ true). absurd (omega (arith, some_counted (tells p) z some_, all, here, h.counts p, once p)))
+      (λ (some_ : list_any (tells p) z ≡ true). absurd (omega (arith, count_by-some (tells p) z some_, all, here, h.counts p, once p)))
       (λ (none : list_any (tells p) z ≡ false). none) (cases_Bool (list_any (tells p) z)) in
       let listed : list_any (λ q. q == p) closed ≡ true = counted_some (λ q. q == p) closed (omega (arith, all, here, h.counts p)) in
       let w = first_in (closes_there p) cs (list_any-map (closes_there p) to.Close closed ∙ listed) in

@@ -1,0 +1,6 @@
+mod SortedLemmas
+mod FrontLemmas
+mod LineLemmas
+mod ChangeLemmas
+mod OpeningLemmas
+mod FoundLemmas
