@@ -151,12 +151,13 @@ pub fn runs_and_finishes_end_at_rest()
         → Each RestedIfShort members }
 {}
 
-/// So the report of such a run is lawful on threads.
+/// So the report of such a run is lawful on threads, by members in which all rested at one place where a run or a finish
+/// fell short.
 pub fn reports_of_threads_are_lawful()
     ensures lawful { (statements : List Statement) (t : List Item) (m : List Moment) (members : List Member)
         (report : Report)
         → IsTranscript false statements t → AreJoined t m members → IsRecordOf (entries t) m → IsReportOfTranscript t m report
-        → LawfulOnThreads statements report }
+        → (l : LawfulOnThreads statements report) × Each RestedIfShort l.lawful.members }
 {
     joined_members_make_a_report_lawful();
     runs_and_finishes_end_at_rest();
