@@ -1,0 +1,5 @@
+pub mod FactLaws
+pub mod AgreeingLaws
+pub mod ComingLaws
+pub mod ReopeningLaws
+pub mod ReopenedLaws
