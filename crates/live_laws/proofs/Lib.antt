@@ -5,3 +5,5 @@ mod CutLaws
 mod ThreadReports
 mod RecordLemmas
 mod CarriedLemmas
+mod FirstSights
+mod EarlyRow

@@ -71,7 +71,7 @@ module _ (c : Configuration) where
     first_seen : (x : LineSight) (xs : List LineSight) → seen_in (map line_sight (x ∷ xs)) x.slot ≡ Some x.log
     first_seen x xs = ap (λ t. option_map (λ (s : Sight). s.events) (cond t (Some (line_sight x)) (find (λ (s : Sight). s.slot == x.slot) (map line_sight xs)))) (eq-eqb x.slot x.slot refl)
 
-    all_seen : (from : Option ℕ) (xs : List LineSight) → IsMadeLine c k from xs → AllByRecursion (λ (x : LineSight). seen_in (map line_sight xs) x.slot ≡ Some x.log) xs
+    pub all_seen : (from : Option ℕ) (xs : List LineSight) → IsMadeLine c k from xs → AllByRecursion (λ (x : LineSight). seen_in (map line_sight xs) x.slot ≡ Some x.log) xs
     all_seen from [] h = tt
     all_seen from (x ∷ xs) h = (first_seen x xs, skip x xs xs (above x.slot xs h.1) (all_seen (Some x.slot) xs h.1))
 

@@ -8,7 +8,9 @@ ghost use Rattle.txn_records.specs.declared.entry.Entry.{Entry};
 ghost use Rattle.txn_records.specs.declared.entry.Entry.TheVariants.{Looked};
 ghost use Rattle.txn_law.specs.Merging.{MergeIntoRun};
 ghost use Rattle.txn_law.specs.declared.view.NodeView.{NodeView};
+ghost use Rattle.change_transcript_laws.specs.Rests.{FinishedEarly};
 ghost use Rattle.live_laws.specs.Ended.{AgreesWith, CarriedOutOnThreads, collected_logs};
+ghost use Rattle.worked_report_laws.specs.Filled as filled;
 
 use change_board::Board;
 use change_transcript_laws::{
@@ -36,4 +38,11 @@ pub fn boards_carry_out_on_threads<B: Board>()
         (nodes : List NodeView) → B.alone ≡ false → ((t : List Entry) → B.stands_for board t → t ≡ r)
         → B.taken board ≡ collected_logs r nodes → HasCarriedOut B.Board statements report board
         → CarriedOutOnThreads statements report r nodes }
+{}
+
+/// Two scans, the one behind the other, see no rest that was at different places. So the worked report in which a finish
+/// made no round, and a node is named as undone, is lawful on threads, and agrees with no seat.
+pub fn rest_at_different_places_agrees_with_no_seat()
+    ensures early { FinishedEarly filled.report.history }
+    ensures refuted { (r : List Entry) (nodes : List NodeView) → AgreesWith filled.script filled.report r nodes → ⊥ }
 {}

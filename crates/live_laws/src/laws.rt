@@ -8,7 +8,7 @@ ghost use Rattle.component_trait.specs.States.{NodeState};
 ghost use Rattle.config_graph.specs.declared.kind.Kind.{Kind};
 ghost use Rattle.live_hall.specs.Lines.{line_words, seen_word};
 ghost use Rattle.live_hall.specs.Sighting.{IsMadeIn};
-ghost use Rattle.live_laws.specs.Lines.{IsMadeLine, LineSight, is_in_slot, line_node, line_place, line_sight};
+ghost use Rattle.live_laws.specs.Lines.{AreOfLiveNodes, IsMadeLine, LineSight, WholeLine, is_in_slot, line_node, line_nodes, line_place, line_sight, line_sights};
 ghost use Rattle.node_host.specs.Lines.{line_state};
 ghost use Rattle.quiesce_core.specs.State.{Configuration, is_live};
 ghost use Rattle.quiesce_core.specs.declared.event.Event.{Event};
@@ -48,4 +48,11 @@ pub fn lines_share_no_node()
         → IsMadeLine (config_of r) j None (other ++ final ∷ []) → is_live (config_of r) last.slot ≡ true
         → is_live (config_of r) final.slot ≡ true → list_any (is_in_slot n) (past ++ last ∷ []) ≡ true
         → list_any (is_in_slot n) (other ++ final ∷ []) ≡ true → last.slot ≡ final.slot }
+{}
+
+/// So among the sights of whole lines, one of each live node, the first sight of a node is that of its own line.
+pub fn first_sights_are_of_own_lines()
+    ensures first { (r : List Entry) (lines : List WholeLine) → IsRecord r → AreOfLiveNodes (config_of r) lines
+        → AllByRecursion (λ (l : WholeLine). AllByRecursion (λ (x : LineSight).
+        seen_in (line_sights lines) x.slot ≡ Some x.log) (line_nodes l)) lines }
 {}

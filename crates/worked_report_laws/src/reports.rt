@@ -88,8 +88,8 @@ pub fn a_sum_with_a_further_message_is_lawful()
     ensures serial { Serial summed.script summed.report }
 {}
 
-/// On threads a finish may see each node done at a place of its own, and a buffer that was empty then may have an
-/// item in the end: it is named as unfinished. No rounds have this report.
+/// Lawful on threads, as a report, is a finish that saw each node done at a place of its own: a buffer that was empty then
+/// has an item in the end, and is named as unfinished. No two scans would see it so, and no rounds have this report.
 pub fn rest_may_be_seen_at_different_places()
     ensures lawful { LawfulOnThreads filled.script filled.report }
     ensures not_in_rounds { Serial filled.script filled.report → ⊥ }

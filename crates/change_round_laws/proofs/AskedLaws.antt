@@ -1,4 +1,4 @@
--- What may be asked of a run has sound statements.
+-- Where a system may be started and each step may be asked for, the statements are sound.
 use Rattle.std.proofs.Common.{List, [], ◌∷◌, map, arith}
 use Rattle.config_graph.specs.Graph.{Graph}
 use Rattle.config_graph.specs.Sound.{Sound}
@@ -9,8 +9,8 @@ use Rattle.change_law.specs.declared.steps.Start.{Start}
 use Rattle.change_law.specs.declared.steps.Step.{Step}
 use Rattle.change_law.specs.declared.steps.Step.TheVariants as steps
 
-sound_graph : (g : Graph) → Sound g → HasRoomFor nothing_made g → IsSoundGraph g
-sound_graph g sound room = record {
+started_graph : (g : Graph) → Sound g → HasRoomFor nothing_made g → IsSoundGraph g
+started_graph g sound room = record {
   is_graph = record {
     paths_rise = sound.paths_rise;
     within = sound.within;
@@ -32,5 +32,5 @@ go_on above (steps.Run k ∷ more) can = go_on above more can
 go_on above (steps.Finish n ∷ more) can = go_on above more can
 go_on above (steps.Show ∷ more) can = go_on above more can
 
-pub are_sound : (start : Start) (all : List Step) → CanStart start → CanDoAll (after_start start) all → AreSound (statements_of start all)
-are_sound start all can_start can = record { graph = sound_graph start.graph can_start.sound can_start.room; room = can_start.room; below = go_on (after_start start) all can }
+pub asked_are_sound : (start : Start) (all : List Step) → CanStart start → CanDoAll (after_start start) all → AreSound (statements_of start all)
+asked_are_sound start all can_start can = record { graph = started_graph start.graph can_start.sound can_start.room; room = can_start.room; below = go_on (after_start start) all can }
