@@ -24,7 +24,7 @@ use Rattle.change_plan.specs.declared.plan_data.Move.{Move}
 use Rattle.change_plan.specs.declared.plan_data.Plan.{Plan}
 use Rattle.change_plan.proofs.SelectsLaws.{Selects-only}
 use Rattle.change_plan_laws.specs.Commit.{commit_events, makes_from, new_links, node_at, reopened_ports, source_of, work}
-use Rattle.change_plan_laws.proofs.RisingLemmas.{selects_apart}
+use Rattle.result_row_laws.proofs.StandingLemmas.{selects_apart}
 use Rattle.quiesce_core.specs.Doers.{is_make}
 use Rattle.quiesce_core.specs.Live.{IsGraphOf}
 use Rattle.quiesce_core.specs.Rules.{is_kind}

@@ -24,7 +24,7 @@ use Rattle.change_plan.specs.declared.plan_data.Shift.{Shift}
 use Rattle.change_plan.proofs.SelectsLaws.{Contains-places, Selects-has}
 use Rattle.change_plan.proofs.StepLaws.{unlinked}
 use Rattle.change_plan_laws.specs.Commit.{is_at, is_one_of, is_unlinked_by, node_path, ports_where, slot_at, slots_where, source_of, stands_in}
-use Rattle.change_plan_laws.proofs.StandingLemmas.{in_if_stands, path_of, stands_if_slot}
+use Rattle.result_row_laws.proofs.StandingLemmas.{in_if_stands, path_of, stands_if_slot}
 use Rattle.quiesce_core.specs.Live.{IsGraphOf, StandsAt}
 use Rattle.quiesce_core.specs.Named.{AreNamed}
 use Rattle.quiesce_core.specs.State.{Configuration, gate, owner, slot}
