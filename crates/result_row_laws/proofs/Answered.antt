@@ -125,14 +125,14 @@ pub record IsSourcePort (es : List Event) (p : ℕ) : Type 0 where
   pub there : slot (state_after es).config (owner (state_after es).config p) ≡ Some node
   pub kind : node.node.kind ≡ Source
 
-ports_more : (c : Configuration) (e : Event) → length c.gates ≤ ports_next c e
-ports_more c (Make n node from) = omega arith
-ports_more c _ = omega arith
+gates_grow : (c : Configuration) (e : Event) → length c.gates ≤ ports_next c e
+gates_grow c (Make n node from) = omega arith
+gates_grow c _ = omega arith
 
 source_port_next : (es : List Event) (e : Event) → IsNext es e → (p : ℕ) → IsSourcePort es p → IsSourcePort (es ++ e ∷ []) p
 source_port_next es e here p w =
     let r = reconfigured (state_after es) e here.legal in
-    let more_ = ports_more (state_after es).config e in
+    let more_ = gates_grow (state_after es).config e in
     let long = r.ports in
     let low = w.made in
     let after = stays (state_after es).config (effect (state_after es) e).config e r (owner (state_after es).config p) w.node w.there in

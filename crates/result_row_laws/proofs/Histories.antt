@@ -84,9 +84,9 @@ abbrev news : ℕ → List Node → List NewNode
 news n [] = []
 news n (x ∷ xs) = record { slot = n; node = x; from = None } ∷ news (n + 1) xs
 
-start_makes : (n : ℕ) (xs : List Node) → map make_of (enumerate_from n xs) ≡ map make_new (news n xs)
-start_makes n [] = refl
-start_makes n (x ∷ xs) = ap (λ es. event.Make n x None ∷ es) (start_makes (n + 1) xs)
+makes_of_start : (n : ℕ) (xs : List Node) → map make_of (enumerate_from n xs) ≡ map make_new (news n xs)
+makes_of_start n [] = refl
+makes_of_start n (x ∷ xs) = ap (λ es. event.Make n x None ∷ es) (makes_of_start (n + 1) xs)
 
 new_place : (n : ℕ) (xs : List Node) (m : NewNode) → Contains (news n xs) m → (j : ℕ) × (slice_get xs j ≡ Some m.node)
 new_place n [] m there = absurd (Contains-nil m there)
@@ -128,7 +128,7 @@ start_well g q =
     let links = filter_map (link_of g) (enumerate_from 0 (ports g.nodes)) in
     each_joined Well [] (makes ++ links) (map reopen_of (enumerate_from 0 (ports g.nodes)))
     (each_joined Well [] makes links
-    (subst (EachAfter Well []) (sym (start_makes 0 g.nodes)) (makes_well [] (news 0 g.nodes) refl
+    (subst (EachAfter Well []) (sym (makes_of_start 0 g.nodes)) (makes_well [] (news 0 g.nodes) refl
     (start_once Source 0 g.nodes (λ i j a b. one_source_at g q i a ∙ sym (one_source_at g q j b))) (start_once Sink 0 g.nodes (λ i j a b. one_sink_at g q i a ∙ sym (one_sink_at g q j b)))))
     (calm_well makes links (none_linked g (enumerate_from 0 (ports g.nodes)) is_make (λ p n x. refl))))
     (calm_well (makes ++ links) (map reopen_of (enumerate_from 0 (ports g.nodes))) (none_map is_make reopen_of (λ x. refl) (enumerate_from 0 (ports g.nodes))))

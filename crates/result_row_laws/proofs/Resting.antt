@@ -104,8 +104,8 @@ on_way_port c f (m ∷ ms) p t n q w (inl here) o = ap (λ i. (f i).kind) here �
 on_way_port c f (m ∷ ms) p t n q w (inr later) o = on_way_port c f ms m.port t n q w.1 later o
 
 -- a map has one port
-one_port : (c : Configuration) (f : ℕ → NodeState) (m : Stop) (r q : ℕ) → ToMap c f r m → IsPortOf c m.at q → q ≡ m.port
-one_port c f m r q to o =
+sole_port : (c : Configuration) (f : ℕ → NodeState) (m : Stop) (r q : ℕ) → ToMap c f r m → IsPortOf c m.at q → q ≡ m.port
+sole_port c f m r q to o =
     let one : o.node ≡ to.to.made = same_Some o.node to.to.made (sym o.made ∙ to.to.there) in
     let one_ : length (row o.node.node.kind).requires_ ≡ 1 = ap (λ (m : Slot). length (row m.node.kind).requires_) one ∙ ap (λ (k : Kind). length (row k).requires_) to.to.kind in
     let first : o.node.first_port ≡ m.port = ap (λ (m : Slot). m.first_port) one ∙ to.first in
@@ -169,7 +169,7 @@ module _ (handed : StatesAreHanded) (es : List Event) (run : IsRun es) (folds : 
           by made (inr on) =
               all_idle (state_after es) (come es) (facts handed es run folds) w.ms w.p w.t q w.row.way quiet.1 (owner (state_after es).config q) on
               (λ is. cc (sym (on_way_port (state_after es).config (come es) w.ms w.p w.t (owner (state_after es).config q) q w.row.way on (port_there q made)) ∙ ap (λ i. (come es i).kind) is ∙ end_kind (state_after es).config (come es) w.ms w.p w.t w.row.way)) refl
-              (λ m r to is. one_port (state_after es).config (come es) m r q to (subst (λ k. IsPortOf (state_after es).config k q) is (port_there q made)))
+              (λ m r to is. sole_port (state_after es).config (come es) m r q to (subst (λ k. IsPortOf (state_after es).config k q) is (port_there q made)))
 
       opened : (q : ℕ) → (gate (state_after es).config q).closed ≡ false → (come es (owner (state_after es).config q)).kind ≡ Map
       opened q open_ = ⊎_elim

@@ -72,10 +72,10 @@ ends_there handed es run folds idle past course = ⊎_elim
 
 -- ---- each node made has a log, and a fold
 
-range_at : (a n k : ℕ) → k < n → slice_get (range_with_len a n) k ≡ Some (a + k)
-range_at a zero k h = absurd (omega (arith, h))
-range_at a (suc n) zero h = ap Some (omega arith)
-range_at a (suc n) (suc k) h = range_at (a + 1) n k (omega (arith, h)) ∙ ap Some (omega arith)
+numbered_at : (a n k : ℕ) → k < n → slice_get (range_with_len a n) k ≡ Some (a + k)
+numbered_at a zero k h = absurd (omega (arith, h))
+numbered_at a (suc n) zero h = ap Some (omega arith)
+numbered_at a (suc n) (suc k) h = numbered_at (a + 1) n k (omega (arith, h)) ∙ ap Some (omega arith)
 
 folded : (o : Option NodeState) (j : Option ℕ) (l : Last) → EndsAs o j l → is_some o ≡ true
 folded None None l h = absurd h
@@ -145,7 +145,7 @@ module _ (m : List Member) (report : Report) (merge : Merge m report) (run : IsR
     all = λ n x there.
         let c = (state_after (events m)).config in
         let at : slice_get (map (λ (l : NodeLog). l.slot) report.logs) n ≡ Some n =
-        ap (λ xs. slice_get xs n) slots_of_logs ∙ range_at 0 (length c.slots) n (slice_get-below c.slots n x there) ∙ ap Some (omega arith) in
+        ap (λ xs. slice_get xs n) slots_of_logs ∙ numbered_at 0 (length c.slots) n (slice_get-below c.slots n x there) ∙ ap Some (omega arith) in
         let l = slice_get-map_some (λ (l : NodeLog). l.slot) report.logs n n at in
         let has = All-contains (IsFolded m report.history) report.logs l.0 folds (Contains-at report.logs n l.0 l.1) in
         ap (λ k. is_some (fold_of_node (events m) k)) (sym l.2) ∙ folded (fold_of_node (events m) l.0.slot) (moved_to report.history l.0.slot) l.0.last has;
