@@ -1,39 +1,23 @@
 -- A value on its way through a row: where it stands, and how each event of a node leads it on.
-use Rattle.std.proofs.Common.{◌≡◌, ◌∙◌, ℕ, zero, suc, ◌+◌, ◌%◌, Bool, true, false, cond, List, [], ◌∷◌, ◌++◌, Option, Some, None, refl, sym, ap, subst, arith, ⊎_elim, inl, inr}
-use Rattle.std.specs.Prelude.{◌⊎◌, not, ◌==◌, ◌&&◌, ◌||◌, option_map, is_some, is_none}
-use Rattle.std.specs.Option.{option_map_or}
-use Rattle.std.proofs.lemmas.Bool.{and_parts, both_ways, cases_Bool, eq-eqb, eqb-true}
+use Rattle.std.proofs.Common.{◌≡◌, ◌∙◌, ℕ, ◌+◌, ◌%◌, Bool, true, false, cond, List, [], ◌∷◌, ◌++◌, Option, Some, None, refl, sym, ap, arith}
+use Rattle.std.specs.Prelude.{not, ◌==◌, ◌&&◌, ◌||◌, is_none}
+use Rattle.std.proofs.lemmas.Bool.{and_parts, both_ways, eqb-true}
 use Rattle.std.proofs.lemmas.Option.{none-some, same_Some}
 use Rattle.config_graph.specs.declared.TheConstants.{VALUE_LIMIT}
 use Rattle.config_graph.specs.declared.kind.Kind.{Kind}
 use Rattle.config_graph.specs.declared.kind.Kind.TheVariants.{Map, Sink}
-use Rattle.config_graph.specs.declared.node.Target.{Target}
 use Rattle.component_trait.specs.Fold.{after_event, asked_by, may_take, is_request_at}
 use Rattle.component_trait.specs.States.{Kept, NodeState}
 use Rattle.component_trait.specs.States as node
 use Rattle.component_trait.specs.Moves as moves
 use Rattle.component_trait.proofs.FoldLaws.{where_so_then}
-use Rattle.quiesce_word.specs.Phases.{is_idle, is_asked, is_answered, is_in_more}
-use Rattle.quiesce_word.specs.declared.phase.Phase.{Phase}
-use Rattle.quiesce_word.specs.declared.phase.Phase.TheVariants as phase
-use Rattle.quiesce_core.specs.Alters.{exchange_next, service_next, service_by}
-use Rattle.quiesce_core.specs.Doers.{is_of_change, is_end_at, is_give_at}
-use Rattle.quiesce_core.specs.Effect.{effect}
-use Rattle.quiesce_core.specs.Legal.{Legal}
+use Rattle.quiesce_word.specs.Phases.{is_idle, is_asked, is_answered}
 use Rattle.quiesce_core.specs.Rules.{is_taken}
-use Rattle.quiesce_core.specs.Runs.{doer, is_doer}
-use Rattle.quiesce_core.specs.State.{Configuration, State, exchange, owner, service, slot, target, target_service}
-use Rattle.quiesce_core.specs.Traffic.{IsConsistent}
-use Rattle.quiesce_core.specs.WellFormed.{IsWellFormed}
+use Rattle.quiesce_core.specs.State.{Configuration, State, exchange, owner, slot, target}
 use Rattle.quiesce_core.specs.declared.event.Event.{Event}
 use Rattle.quiesce_core.specs.declared.event.Event.TheVariants.{Begin, Call, Take, Give, End, More, Ask, Hear, Miss, Close, Reopen, Make, Link, Unlink, Remove}
-use Rattle.quiesce_core.specs.declared.state.Exchange.{Exchange}
-use Rattle.quiesce_core.specs.declared.state.Service.{Service}
 use Rattle.quiesce_core.specs.declared.state.Slot.{Slot}
-use Rattle.quiesce_core.proofs.AlterLaws.{exchanges_next, services_next}
-use Rattle.quiesce_core.proofs.StateLaws.{answered_unserved, idle_unserved, is_taken_if, taken_busy, taken_is, target_service_is}
-use Rattle.node_turn_laws.specs.Agreement.{expects}
-use Rattle.result_come_laws.proofs.FactLaws.{Facts, FoldsTo, at_work, of_parts}
+use Rattle.result_come_laws.proofs.FactLaws.{at_work, of_parts}
 
 -- ---- the way of a value
 

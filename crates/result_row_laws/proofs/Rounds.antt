@@ -1,34 +1,33 @@
 -- A row from one transaction of its source to the next: the sink has an item for each that the source was answered.
-use Rattle.std.proofs.Common.{◌≡◌, ◌∙◌, ℕ, ◌+◌, ◌%◌, Bool, true, false, cond, List, [], ◌∷◌, ◌++◌, length, Option, Some, None, refl, sym, ap, subst, arith, inl, inr, length-append}
-use Rattle.std.specs.Prelude.{◌⊎◌, not, ◌==◌, ◌&&◌, ◌||◌, option_map}
-use Rattle.std.proofs.lemmas.Bool.{and_parts, both_ways, eq-eqb, eqb-true, false_from_ne_true}
+use Rattle.std.proofs.Common.{◌≡◌, ◌∙◌, ℕ, ◌+◌, Bool, true, false, cond, List, [], ◌∷◌, ◌++◌, length, Option, Some, None, refl, sym, ap, subst, arith, inl, inr, length-append}
+use Rattle.std.specs.Prelude.{◌⊎◌, not, ◌==◌}
+use Rattle.std.proofs.lemmas.Bool.{and_parts, both_ways, eq-eqb, eqb-true}
 use Rattle.std.proofs.lemmas.List.{append-nil}
-use Rattle.std.proofs.lemmas.Option.{none-some, same_Some}
+use Rattle.std.proofs.lemmas.Option.{none-some}
 use Rattle.config_graph.specs.declared.kind.Kind.TheVariants.{Source}
-use Rattle.component_trait.specs.Fold.{after_event, asked_by, is_request, is_request_at, may_take}
+use Rattle.component_trait.specs.Fold.{after_event, asked_by, is_request, is_request_at}
 use Rattle.component_trait.specs.Moves as moves
 use Rattle.component_trait.specs.States.{Kept, NodeState}
 use Rattle.component_trait.specs.States as node
 use Rattle.component_trait.specs.Tables.{kept_after_end, wants}
 use Rattle.component_trait.proofs.FoldLaws.{where_so_then}
 use Rattle.component_trait.specs.declared.next.Next.TheVariants as next
-use Rattle.quiesce_word.specs.Phases.{is_idle, is_asked, is_answered, is_in_more}
-use Rattle.quiesce_word.proofs.PhaseLaws.{answered_busy, answered_not_asked, asked_busy}
-use Rattle.quiesce_core.specs.Alters.{exchange_by, is_message_at}
+use Rattle.quiesce_word.specs.Phases.{is_idle, is_asked}
+use Rattle.quiesce_word.proofs.PhaseLaws.{answered_busy}
+use Rattle.quiesce_core.specs.Alters.{exchange_by}
 use Rattle.quiesce_core.specs.Doers.{is_end_at}
 use Rattle.quiesce_core.specs.Effect.{effect}
 use Rattle.quiesce_core.specs.Legal.{Legal}
-use Rattle.quiesce_core.specs.Rules.{is_taken}
 use Rattle.quiesce_core.specs.Runs.{is_doer}
-use Rattle.quiesce_core.specs.State.{Configuration, State, exchange, owner, service, slot}
+use Rattle.quiesce_core.specs.State.{State, exchange, owner, service, slot}
 use Rattle.quiesce_core.specs.declared.event.Event.{Event}
-use Rattle.quiesce_core.specs.declared.event.Event.TheVariants.{Begin, Call, Take, Give, End, More, Ask, Hear, Miss, Close, Reopen, Make, Link, Unlink, Remove}
+use Rattle.quiesce_core.specs.declared.event.Event.TheVariants.{Begin, Call, Take, Give, End, More, Ask, Hear, Miss}
 use Rattle.quiesce_core.specs.declared.state.Exchange.{Exchange}
 use Rattle.quiesce_core.specs.declared.state.Slot.{Slot}
 use Rattle.quiesce_core.proofs.AlterLaws.{exchanges_next}
-use Rattle.result_come_laws.proofs.FactLaws.{Facts, FoldsTo, of_parts}
+use Rattle.result_come_laws.proofs.FactLaws.{Facts, of_parts}
 use Rattle.result_row_laws.proofs.Passing.{Stop, Way, Going, passed, last_port}
-use Rattle.result_row_laws.proofs.Onward.{Now, Led, idle_stays, idle_untaken, items_stay, onward, passes_by, rest_stays, untaken_stays, waits_there, way_answered, way_busy, way_end, starts_at, takes_at, idle_passes}
+use Rattle.result_row_laws.proofs.Onward.{Now, Led, idle_stays, idle_untaken, items_stay, onward, rest_stays, untaken_stays, waits_there, way_answered, way_end, starts_at, takes_at, idle_passes}
 
 -- what a source does
 pub data SourceDoes (first : ℕ) (arg : ℕ) (kept : Kept) (t : NodeState) : Event → Type 0 where

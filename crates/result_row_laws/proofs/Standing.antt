@@ -1,5 +1,5 @@
 -- Where a slot stands at a place of the graph of a configuration, and that places that were selected differ.
-use Rattle.std.proofs.Common.{◌≡◌, ◌∙◌, ℕ, zero, suc, ◌+◌, ◌≤◌, Bool, true, false, List, [], ◌∷◌, get_or, Some, refl, sym, ap, subst, arith, ⊎_elim}
+use Rattle.std.proofs.Common.{◌≡◌, ◌∙◌, ℕ, zero, suc, ◌+◌, ◌≤◌, Bool, true, false, List, [], ◌∷◌, get_or, Some, refl, sym, ap, arith, ⊎_elim}
 use Rattle.std.specs.Prelude.{bytes_eq, position, slice_get}
 use Rattle.std.specs.List.{range_with_len}
 use Rattle.std.proofs.lemmas.Bool.{and_from, and_parts}
@@ -14,7 +14,6 @@ use Rattle.quiesce_commit_laws.specs.Commits.{Differ}
 use Rattle.quiesce_commit_laws.specs.Lists.{Apart, In}
 use Rattle.quiesce_core.specs.Live.{IsGraphOf, StandsAt}
 use Rattle.quiesce_core.specs.State.{Configuration, slot}
-use Rattle.quiesce_core.specs.declared.state.Slot.{Slot}
 use Rattle.change_plan.specs.Selects.{Selects}
 use Rattle.change_plan.specs.Selects.Selects.{ends, skips, takes}
 use Rattle.change_plan.proofs.NodeLaws.{one_path}

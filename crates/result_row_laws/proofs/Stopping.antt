@@ -1,12 +1,11 @@
 -- A run at its end: nothing is open, so a row rests; and a log of a live node ends with what that has come to.
-use Rattle.std.proofs.Common.{◌≡◌, ◌∙◌, ℕ, zero, suc, ◌+◌, ◌<◌, Bool, true, false, cond, not, List, [], ◌∷◌, ◌++◌, length, map, filter, Option, Some, None, refl, sym, ap, subst, arith, ⊎_elim, Contains}
-use Rattle.std.specs.Prelude.{◌==◌, ◌&&◌, ◌||◌, All, filter_map, find, is_some, slice_get, unwrap_or}
+use Rattle.std.proofs.Common.{◌≡◌, ◌∙◌, ℕ, zero, suc, ◌+◌, ◌<◌, Bool, true, false, cond, not, List, [], ◌∷◌, ◌++◌, length, map, filter, Option, Some, None, refl, sym, ap, subst, arith, ⊎_elim}
+use Rattle.std.specs.Prelude.{◌==◌, ◌&&◌, ◌||◌, All, filter_map, is_some, slice_get, unwrap_or}
 use Rattle.std.specs.List.{list_any, range_with_len}
 use Rattle.std.specs.Option.{option_map_or}
 use Rattle.std.proofs.lemmas.Bool.{and_parts, both_ways, cases_Bool, eq-eqb, eqb-true, not-true, or_cases, or_left, or_right}
-use Rattle.std.proofs.lemmas.List.{append-nil}
 use Rattle.std.proofs.lemmas.List.Elements.{All-contains}
-use Rattle.std.proofs.lemmas.Option.{none-some, same_Some}
+use Rattle.std.proofs.lemmas.Option.{same_Some}
 use Rattle.base.proofs.ContainsLaws.{Contains-at}
 use Rattle.base.proofs.FindLaws.{find_passes}
 use Rattle.base.proofs.OptionLaws.{Some-from_is_some, map_or_true}
@@ -20,11 +19,10 @@ use Rattle.component_trait.specs.Tables.{numbers}
 use Rattle.quiesce_word.specs.Phases.{is_idle}
 use Rattle.quiesce_core.specs.Runs.{IsRun, is_open_after, state_after}
 use Rattle.quiesce_core.specs.Effect.{effect}
-use Rattle.quiesce_core.specs.Rules.{can_move, is_kind, was_moved}
+use Rattle.quiesce_core.specs.Rules.{is_kind, was_moved}
 use Rattle.quiesce_core.specs.State.{Configuration, State, exchange, slot}
 use Rattle.quiesce_core.specs.declared.event.Event.{Event}
 use Rattle.quiesce_core.specs.declared.event.Event.TheVariants as event
-use Rattle.quiesce_core.specs.declared.state.Exchange.{Exchange}
 use Rattle.quiesce_core.specs.declared.state.Slot.{Slot}
 use Rattle.quiesce_core.specs.Doers.{is_of_change}
 use Rattle.quiesce_core.proofs.AlterLaws.{reconfigured}

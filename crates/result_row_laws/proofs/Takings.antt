@@ -1,11 +1,11 @@
 -- What a plan from a row to a row creates: nothing, unless something is unlinked or removed; and a source or a sink that it creates
 -- takes over from the live one.
-use Rattle.std.proofs.Common.{◌≡◌, ◌∙◌, ℕ, zero, suc, ◌+◌, ◌<◌, ◌≤◌, Bool, true, false, List, [], ◌∷◌, length, Option, Some, None, refl, sym, ap, subst, arith, inl, inr, ⊎_elim}
-use Rattle.std.specs.Prelude.{◌⊎◌, ◌==◌, ◌&&◌, Contains, find, is_some, position, slice_get, option_and_then}
+use Rattle.std.proofs.Common.{◌≡◌, ◌∙◌, ℕ, Bool, true, false, List, [], length, Some, sym, ap, subst}
+use Rattle.std.specs.Prelude.{◌==◌, ◌&&◌, Contains, is_some, option_and_then}
 use Rattle.std.specs.List.{list_any, range_with_len}
 use Rattle.std.proofs.lemmas.Bool.{and_from, eq-eqb}
 use Rattle.std.proofs.lemmas.Option.{same_Some}
-use Rattle.base.proofs.ContainsLaws.{Contains-filter, Contains-here, Contains-nil, Contains-there, at_some_place}
+use Rattle.base.proofs.ContainsLaws.{Contains-filter, Contains-nil, at_some_place}
 use Rattle.base.proofs.FindLaws.{is_some-position}
 use Rattle.base.proofs.OptionLaws.{Some-from_is_some}
 use Rattle.base.proofs.PlaceLaws.{any_at, slice_get-below}
@@ -27,8 +27,7 @@ use Rattle.change_plan_laws.specs.Commit.{is_at, is_one_of, is_unlinked_by, node
 use Rattle.result_row_laws.proofs.Standing.{found_stands, passes_where_it_stands}
 use Rattle.quiesce_core.specs.Live.{IsGraphOf, StandsAt}
 use Rattle.quiesce_core.specs.Named.{AreNamed}
-use Rattle.quiesce_core.specs.State.{Configuration, gate, owner, slot}
-use Rattle.quiesce_core.specs.declared.state.Slot.{Slot}
+use Rattle.quiesce_core.specs.State.{Configuration, gate, owner}
 use Rattle.quiesce_core.proofs.ConfigurationLaws.{linked_made}
 use Rattle.quiesce_core.proofs.LiveLinkLaws.{linked_at}
 use Rattle.change_round_laws.specs.SoundStatements.{IsSoundGraph}

@@ -3,7 +3,6 @@ use Rattle.std.proofs.Common.{◌≡◌, ◌∙◌, ℕ, zero, suc, ◌<◌, fal
 use Rattle.std.specs.Prelude.{◌⊎◌, All, Contains, is_some, slice_get}
 use Rattle.std.proofs.lemmas.List.Elements.{All-cons, All-head, All-nil, All-tail}
 use Rattle.std.proofs.lemmas.Bool.{both_ways, ne_eqb}
-use Rattle.std.proofs.lemmas.Option.{none-some, same_Some}
 use Rattle.config_graph.specs.declared.node.Target.{Target}
 use Rattle.config_graph.specs.Graph.{Graph, target_of}
 use Rattle.config_graph.specs.Cycles.{IsLinked}
