@@ -113,7 +113,8 @@ def want(program, commands):
     came = ran(program, HERE, ["--help"])
     if came.status != 0 or came.errors:
         sys.exit("--help: %s" % (came.fault() or shown(came.status, came.text)))
-    named = [word for line in came.text.decode().splitlines() for word in line.split()[1:2]]
+    forms = [line.split() for line in came.text.decode().splitlines()]
+    named = [form[1] for form in forms if form[:1] == ["darwin_run"]]
     missing = [command for command in commands if command not in named]
     if missing:
         sys.exit("the program's help doesn't name %s" % ", ".join(missing))

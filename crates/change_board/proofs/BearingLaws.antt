@@ -1,7 +1,7 @@
 -- What a record bears of a history.
 use Rattle.std.proofs.Common.{◌≡◌, Bool, true, false, cond, List, [], ◌∷◌, ◌++◌, Some, None, refl, sym, ap, ◌∙◌}
 use Rattle.std.specs.Prelude.{filter_map, is_some, option_and_then}
-use Rattle.std.specs.List.{cons_option}
+use Rattle.std.specs.List.{AllByRecursion, cons_option}
 use Rattle.std.proofs.lemmas.Bool.{both_ways}
 use Rattle.base.specs.Each.{EachAfter}
 use Rattle.change_law.specs.Members.{event_of, line_of}
@@ -9,7 +9,7 @@ use Rattle.report_types.specs.declared.report.HistoryLine.{HistoryLine}
 use Rattle.report_types.specs.declared.report.HistoryLine.TheVariants as to
 use Rattle.quiesce_core.specs.declared.event.Event.{Event}
 use Rattle.quiesce_core.specs.declared.event.Event.TheVariants.{Begin, Call, Take, Give, End, More, Ask, Hear, Miss, Close, Reopen, Make, Link, Unlink, Remove}
-use Rattle.change_board.specs.Bearing.{Bears, IsBorne}
+use Rattle.change_board.specs.Bearing.{Bears, IsBorne, IsToldSo}
 use Rattle.txn_records.specs.Entries.{event_in, events_in}
 use Rattle.txn_records.specs.declared.entry.Entry.{Entry}
 use Rattle.txn_records.specs.declared.entry.Entry.TheVariants.{Did, Looked, Sighted, Scanned}
@@ -68,17 +68,23 @@ said_line before (to.Finish n k) h = refl
 said_line before (to.Show g) h = h
 said_line before to.Stop h = h
 
-events_told : (before t : List Item) → EachAfter IsBorne before t → events_in (entries t) ≡ filter_map event_of (lines t)
-events_told before [] h = refl
-events_told before (silent x ∷ t) h =
-    ap (λ o. cons_option o (events_in (entries t))) h.0 ∙ events_told (before ++ silent x ∷ []) t h.1
-events_told before (told x l ∷ t) h =
-    ap (λ o. cons_option o (events_in (entries t))) (told_entry x l h.0)
-    ∙ ap (cons_option (event_of l)) (events_told (before ++ told x l ∷ []) t h.1)
-events_told before (said l ∷ t) h =
-    events_told (before ++ said l ∷ []) t h.1
-    ∙ sym (ap (λ o. cons_option o (filter_map event_of (lines t))) (said_line before l h.0))
+told_so : (before : List Item) (x : Item) → IsBorne before x → IsToldSo x
+told_so before (silent x) h = h
+told_so before (told x l) h = h
+told_so before (said l) h = said_line before l h
+
+all_told : (before t : List Item) → EachAfter IsBorne before t → AllByRecursion IsToldSo t
+all_told before [] h = tt
+all_told before (x ∷ t) h = (told_so before x h.0, all_told (before ++ x ∷ []) t h.1)
+
+pub events_told : (t : List Item) → AllByRecursion IsToldSo t → events_in (entries t) ≡ filter_map event_of (lines t)
+events_told [] h = refl
+events_told (silent x ∷ t) h = ap (λ o. cons_option o (events_in (entries t))) h.0 ∙ events_told t h.1
+events_told (told x l ∷ t) h =
+    ap (λ o. cons_option o (events_in (entries t))) (told_entry x l h.0) ∙ ap (cons_option (event_of l)) (events_told t h.1)
+events_told (said l ∷ t) h =
+    events_told t h.1 ∙ sym (ap (λ o. cons_option o (filter_map event_of (lines t))) h.0)
 
 pub borne_events : (r : List Entry) (history : List HistoryLine) → Bears r history → events_in r ≡ filter_map event_of history
 borne_events r history h =
-    ap events_in (sym h.entries_are) ∙ events_told [] h.items h.borne ∙ ap (filter_map event_of) h.lines_are
+    ap events_in (sym h.entries_are) ∙ events_told h.items (all_told [] h.items h.borne) ∙ ap (filter_map event_of) h.lines_are

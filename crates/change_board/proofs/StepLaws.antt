@@ -19,12 +19,9 @@ use Rattle.txn_records.specs.declared.entry.Entry.{Entry}
 use Rattle.txn_records.specs.declared.entry.Entry.TheVariants.{Did}
 use Rattle.txn_records.specs.Notes.{found_next, is_found_drained, is_never_reopened, is_noted}
 use Rattle.txn_records.specs.Records.{May}
+use Rattle.txn_records.proofs.EntryLaws.{config_did}
 use Rattle.change_board.specs.Sights.{Sight, sight_entry}
 use Rattle.change_board.specs.Steps.{Deed, MayDoAll, deed_entries, gates_come_last, is_turning}
-
--- a record with one event of the change more
-pub config_more : (r : List Entry) (e : Event) → config_of (r ++ Did e ∷ []) ≡ change_next (config_of r) e
-config_more r e = ap (change_all empty.config) (filter_map-append event_in r (Did e ∷ [])) ∙ fold_push change_next empty.config (events_in r) e
 
 -- what neither closes nor reopens a gate leaves the notes
 found_stays : (p : ℕ) (b : Bool) (e : Event) → is_turning e ≡ false → found_next p b (Did e) ≡ b
@@ -114,7 +111,7 @@ may_turn a b c (Miss p) t h = absurd h
 
 module _ (noted : ℕ → Bool) where
   next : (r : List Entry) (e : Event) (es : List Event) → MayStepAll noted (change_next (config_of r) e) es → MayStepAll noted (config_of (r ++ Did e ∷ [])) es
-  next r e es h = subst (λ c. MayStepAll noted c es) (sym (config_more r e)) h
+  next r e es h = subst (λ c. MayStepAll noted c es) (sym (config_did r e)) h
 
   all_turn : (r : List Entry) (es : List Event) → list_all is_turning es ≡ true → MayStepAll noted (config_of r) es → MayDoAll r es
   all_turn r [] t h = tt

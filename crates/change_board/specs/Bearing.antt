@@ -70,6 +70,12 @@ IsBorne before (said (to.Root p k)) = SawRoot before p k
 IsBorne before (said (to.Finish n rounds)) = WereLookedAt before rounds
 IsBorne before (said l) = IsAside l
 
+-- The least of it, which is enough for the events: none is left out, what is told is so, and what is said beside is none.
+abbrev pub IsToldSo : Item → Type 0
+IsToldSo (silent x) = event_in x ≡ None
+IsToldSo (told x l) = tells x ≡ Some l
+IsToldSo (said l) = event_of l ≡ None
+
 -- the record bears the history of a report
 pub record Bears (r : List Entry) (history : List HistoryLine) : Type 0 where
   pub items : List Item

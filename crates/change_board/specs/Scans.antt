@@ -1,8 +1,9 @@
 -- Scans: turns given to nodes, then sights of nodes, and a look at each port.
-use Rattle.std.specs.Prelude.{◌≡◌, ℕ, Bool, true, not, ◌&&◌, ◌||◌, List, ◌∷◌, ◌++◌, map, length, filter}
+use Rattle.std.specs.Prelude.{◌≡◌, ◌==◌, ℕ, Bool, true, false, not, ◌&&◌, ◌||◌, List, ◌∷◌, ◌++◌, map, length, filter, Option, Some}
 use Rattle.std.specs.List.{list_all, range_with_len, sum_by}
 use Rattle.quiesce_core.specs.Rules.{is_live_port}
 use Rattle.quiesce_core.specs.State.{Configuration, is_live}
+use Rattle.quiesce_core.specs.declared.event.Event.{Event}
 use Rattle.change_board.specs.declared.board.Scan.{Scan}
 use Rattle.txn_records.specs.Entries.{config_of}
 use Rattle.txn_records.specs.declared.entry.Entry.{Entry}
@@ -48,8 +49,31 @@ scan_entries begins moved sights found = Scanned begins moved ∷ (map sight_ent
 abbrev pub SightsAll : Configuration → List Sight → Type 0
 SightsAll c sights = map (λ (s : Sight). s.slot) sights ≡ range_with_len 0 (length c.slots)
 
--- What a scan adds to the records of a board, and what it answers. A board that is alone, which gets every node, sights
--- each one.
+-- whether both sights of a node were made, and show as many events
+abbrev pub is_as_long : Option (List Event) → Option (List Event) → Bool
+is_as_long (Some a) (Some b) = length a == length b
+is_as_long _ _ = false
+
+abbrev pub is_seen_as_before : List Sight → List Sight → ℕ → Bool
+is_seen_as_before first now n = is_as_long (seen_in first n) (seen_in now n)
+
+-- The record ends with a scan whose looks found no transaction at a live port, and these sights of the next one show
+-- each live node as done, with as many events as that scan saw of it.
+pub record IsSeenTwice (r : List Entry) (now : List Sight) : Type 0 where
+  pub front : List Entry
+  pub begins : Bool
+  pub moved : Bool
+  pub first : List Sight
+  pub found : List Found
+  pub ends : r ≡ front ++ scan_entries begins moved first found
+  pub at_ports : ports_of found ≡ all_ports (config_of r)
+  pub idle : list_all (is_idle_if_live (config_of r)) found ≡ true
+  pub as_long : list_all (is_seen_as_before first now) (live_nodes (config_of r)) ≡ true
+  pub done : list_all (is_seen_done (config_of r) (seen_in now)) (live_nodes (config_of r)) ≡ true
+
+-- What a scan adds to the records of a board, and what it answers. It answers `done` only where it saw all at rest. A
+-- board that is alone, which gets every node, sights each one, and answers so exactly then. Elsewhere nodes go on
+-- between two sights, so there the scan before it must have seen the same.
 pub record AddsScan {B : Type 0} (S : B → List Entry → Type 0) (alone : Bool) (old new : B) (begins : Bool) (s : Scan)
     : Type 0 where
   pub sights : List Sight
@@ -57,5 +81,7 @@ pub record AddsScan {B : Type 0} (S : B → List Entry → Type 0) (alone : Bool
   pub adds : Adds S old new (scan_entries begins s.moved sights found)
   pub at_ports : (r : List Entry) → S old r → ports_of found ≡ all_ports (config_of r)
   pub all_sighted : alone ≡ true → (r : List Entry) → S old r → SightsAll (config_of r) sights
-  pub done : (r : List Entry) → S old r → s.done ≡ is_seen_at_rest (config_of r) sights found
+  pub done : alone ≡ true → (r : List Entry) → S old r → s.done ≡ is_seen_at_rest (config_of r) sights found
+  pub at_rest : (r : List Entry) → S old r → s.done ≡ true → is_seen_at_rest (config_of r) sights found ≡ true
+  pub twice : alone ≡ false → (r : List Entry) → S old r → s.done ≡ true → IsSeenTwice r sights
   pub ended : s.ended ≡ ended_in found

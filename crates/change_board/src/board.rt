@@ -23,7 +23,8 @@ use txn_records::Look;
 pub struct Scan {
     /// Whether a turn that it gave moved.
     pub moved: bool,
-    /// Whether it saw each live node done and each live port idle.
+    /// Whether it saw each live node done and each live port idle. Where nodes take turns elsewhere too, it says so only
+    /// where the scan before it saw the same.
     pub done: bool,
     /// How many transactions had ended, by its looks at the ports.
     pub ended: u64,

@@ -5,7 +5,6 @@ use Rattle.std.proofs.lemmas.List.{append-nil}
 use Rattle.change_law.specs.Members.{lines_of_events}
 use Rattle.report_types.specs.declared.report.HistoryLine.{HistoryLine}
 use Rattle.quiesce_core.specs.declared.event.Event.{Event}
-use Rattle.txn_records.specs.declared.entry.Entry.{Entry}
 use Rattle.change_board.specs.Doing.{DoesEvents}
 use Rattle.change_board.specs.Steps.{entries_of}
 use Rattle.change_board.specs.Transcripts.{said, entries, lines}

@@ -33,9 +33,10 @@ use Rattle.txn_records.specs.declared.entry.Entry.{Entry}
 use Rattle.txn_records.specs.declared.entry.Entry.TheVariants.{Did}
 use Rattle.txn_records.specs.Notes.{is_noted}
 use Rattle.txn_records.specs.Records.{IsRecord}
+use Rattle.change_board.specs.declared.board.Board.{Ghosts as BoardWords}
 use Rattle.change_board.specs.Steps.{HasRoomForAll, Deed, MayDoAll, Room, events_of}
 use Rattle.change_board.specs.Transcripts.{Item, entries, lines, said}
-use Rattle.change_board.proofs.StepLaws.{config_more}
+use Rattle.txn_records.proofs.EntryLaws.{config_did}
 use Rattle.change_engine.specs.Carrying.{CarriesOut, deed_items}
 use Rattle.change_engine.specs.Breaking.{BrokeInRound, IsClosedStill}
 use Rattle.change_engine.specs.Calls.{HasAbandoned, HasBrokenOff, HasCommitted, HasLeft, HasPassivated}
@@ -62,8 +63,7 @@ use Rattle.change_engine.proofs.Quieting.{passivation_events}
 use Rattle.change_engine.proofs.StartLemmas.{deeds_events}
 use Rattle.change_engine.proofs.StayingLemmas.{stays_closed}
 use Rattle.change_engine.proofs.ItemLaws.{entries_both, lines_both, carried_entries}
-use Rattle.change_board.specs.declared.board.Board.{Ghosts as BoardWords}
-use Rattle.change_engine.proofs.PassivationLaws.{same_here, closed_links, closed_live}
+use Rattle.change_law.proofs.PortLaws.{closed_links, closed_live, same_here}
 
 -- The roots that are left, as they are told: they are no entries.
 said_roots : (xs : List LeftRoot) → map said (map root_line xs) ≡ map root_item xs
@@ -119,7 +119,7 @@ opens_may c (p ∷ ps) r h same =
     let d = config_of r in (
       live_same c d p same ∙ here,
       opens_may c ps (r ++ Did (event.Reopen p) ∷ []) (All-tail (λ q. is_live_port c q ≡ true) p ps h)
-          (subst (SameLinks c) (sym (config_more r (event.Reopen p))) (same_turned c d p false (subst (λ n. p < n) (sym same.long) (live_port c p here).made) same)),
+          (subst (SameLinks c) (sym (config_did r (event.Reopen p))) (same_turned c d p false (subst (λ n. p < n) (sym same.long) (live_port c p here).made) same)),
     )
 
 opens_fit : (ps : List ℕ) (room : Room) → HasRoomForAll room (map event.Reopen ps)

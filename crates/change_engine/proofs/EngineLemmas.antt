@@ -1,5 +1,5 @@
 -- An engine between changes.
-use Rattle.std.proofs.Common.{◌≡◌, ◌≤◌, ◌-◌, ◌^◌, ℕ, Bool, true, List, [], ◌∷◌, ◌++◌, length, map, refl, sym, ap, ◌∙◌, subst}
+use Rattle.std.proofs.Common.{◌≡◌, ◌≤◌, ◌-◌, ◌^◌, ℕ, true, List, [], ◌∷◌, ◌++◌, length, map, refl, sym, ap, ◌∙◌, subst}
 use Rattle.std.specs.Prelude.{IfOk, Result, Ok, Err}
 use Rattle.std.specs.List.{AllByRecursion, range_with_len}
 use Rattle.base.specs.Each.{Each}
@@ -20,11 +20,11 @@ use Rattle.quiesce_core.proofs.RunLaws.{runs_are_well_formed}
 use Rattle.txn_records.specs.Entries.{config_of, event_in, events_in}
 use Rattle.txn_records.specs.declared.entry.Entry.{Entry}
 use Rattle.txn_records.specs.Records.{Adds, IsRecord, events}
+use Rattle.change_board.specs.declared.board.Board.{Ghosts as BoardWords}
 use Rattle.change_board.specs.Scans.{Found, look_entry}
 use Rattle.change_board.specs.Transcripts.{Item, entries, lines, said}
 use Rattle.txn_records.proofs.RecordLaws.{config_is}
 use Rattle.change_board.specs.declared.board.Collected.{Collected}
-use Rattle.quiesce_core.specs.declared.event.Event.{Event}
 use Rattle.change_engine.specs.Calls.{Continues, HasFinished, HasRun, HasStopped}
 use Rattle.change_engine.specs.Ending.{unfinished_after}
 use Rattle.change_engine.specs.Running.{Counts, RunsOn, ScansUntil, ended_since, are_enough}
@@ -40,7 +40,6 @@ use Rattle.change_engine.proofs.Growing.{adds_both}
 use Rattle.change_lists.proofs.LayoutLaws.{live_ports_are}
 use Rattle.change_engine.proofs.Passing.{config_quiet, looks_quiet}
 use Rattle.change_engine.proofs.Scanning.{all_quiet}
-use Rattle.change_board.specs.declared.board.Board.{Ghosts as BoardWords}
 use Rattle.change_engine.proofs.ItemLaws.{entries_both, lines_both, silent_entries, silent_lines, said_entries, said_lines}
 
 -- the configuration that a record makes is a sound one
@@ -112,6 +111,7 @@ module _ {B : Type 0} (W : BoardWords B) where
     scans = x.scans;
     few = x.few;
     are_scans = λ t h. x.are_scans (entries t) h.tells.board;
+    twice = λ is t h. x.twice is (entries t) h.tells.board;
     rounds_are = x.rounds_are;
     ends = x.ends;
     goes = continues W e f (silent_items (all_entries x.scans) ++ said (to.Finish n rounds) ∷ []) x.grew
@@ -129,6 +129,7 @@ module _ {B : Type 0} (W : BoardWords B) where
         at_ports = λ t h. x.at_ports ∙ ap (range_with_len 0) (many t h);
         are_scans = λ t h. subst (λ c. AllByRecursion (IsScanIn W.alone c) y.scans) (config_quiet (entries t) looks (looks_quiet x.looks))
             (y.are_scans (entries t ++ looks) (x.adds (entries t) h.tells.board));
+        twice = λ is t h. y.twice is (entries t ++ looks) (x.adds (entries t) h.tells.board);
         go_on = subst (λ n. Each (RunsOn W.alone k n) y.scans) x.ended_is y.go_on;
         ends = subst (λ n. are_enough W.alone k n y.scans ≡ true) x.ended_is y.ends;
         ended_is = subst (λ n. ended ≡ ended_since n y.scans) x.ended_is y.ended_is;

@@ -2,7 +2,7 @@
 use Rattle.std.proofs.Common.{◌≡◌, ℕ, Bool, true, false, cond, not, List, [], ◌∷◌, ◌++◌, append_assoc, map, refl, sym, ap, ◌∙◌, subst, inl, inr}
 use Rattle.std.specs.Prelude.{◌==◌, ◌&&◌, ◌||◌, flat_map, fold}
 use Rattle.std.specs.List.{list_any}
-use Rattle.std.proofs.lemmas.Bool.{eqb-true, not-true}
+use Rattle.std.proofs.lemmas.Bool.{eqb-true, not-true, or_parts}
 use Rattle.std.proofs.lemmas.List.{append-nil, map-append}
 use Rattle.std.proofs.lemmas.List.Concat.{flat_map-cons}
 use Rattle.std.proofs.lemmas.List.Elements.{filter_map-append}
@@ -101,10 +101,6 @@ others_miss p (f ∷ found) h =
     apart false e = refl
     apart true e = absurd (h f.port (inl refl) (eqb-true f.port p e))
 
-never_and_found : (a b : Bool) → (a || b) ≡ false → (a ≡ false) × (b ≡ false)
-never_and_found false b h = (refl, h)
-never_and_found true b h = cc
-
 busy_and : (b w : Bool) → w ≡ false → (false || (b && w)) ≡ false
 busy_and false w h = refl
 busy_and true w h = h
@@ -113,7 +109,7 @@ not_noted_on : (r : List Entry) (p w : ℕ) (found : List Found) → is_noted r 
     → is_noted (r ++ Looked p w ∷ map look_entry found) p ≡ false
 not_noted_on r p w found none_ busy apart =
     let all = r ++ Looked p w ∷ map look_entry found in
-    let parts = never_and_found (is_never_reopened r p) (is_found_drained r p) none_ in
+    let parts = or_parts (is_never_reopened r p) (is_found_drained r p) none_ in
     let quiet : events_in all ≡ events_in r =
     filter_map-append event_in r (Looked p w ∷ map look_entry found) ∙ ap (λ es. events_in r ++ es) (looks_quiet found) ∙ append-nil (events_in r) in
     let found_ : is_found_drained all p ≡ false =

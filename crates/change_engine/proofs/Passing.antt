@@ -14,6 +14,7 @@ use Rattle.quiesce_core.specs.Rules.{is_live_port}
 use Rattle.quiesce_core.specs.State.{Configuration, empty, is_live, owner}
 use Rattle.report_types.specs.declared.report.HistoryLine.{HistoryLine}
 use Rattle.report_types.specs.declared.report.HistoryLine.TheVariants as to
+use Rattle.change_board.specs.declared.board.Board.{Ghosts as BoardWords}
 use Rattle.change_board.specs.declared.board.Scan.{Scan}
 use Rattle.txn_records.specs.declared.looking.Look.TheVariants.{Drained, Busy}
 use Rattle.txn_records.specs.Entries.{config_of, event_in, events_in}
@@ -29,8 +30,7 @@ use Rattle.change_engine.specs.Passivating.{AreLivePorts, AreMadePorts, IsPassiv
 use Rattle.change_engine.specs.declared.passivating.LeftRoot.{LeftRoot}
 use Rattle.change_engine.proofs.Growing.{grew_both}
 use Rattle.change_engine.proofs.ItemLaws.{entries_both, look_entries, silent_entries, silent_lines, close_lines}
-use Rattle.change_board.specs.declared.board.Board.{Ghosts as BoardWords}
-use Rattle.change_engine.proofs.PassivationLaws.{same_here, closed_links}
+use Rattle.change_law.proofs.PortLaws.{closed_links, same_here}
 
 abbrev pub closes : List ℕ → List Entry
 closes ps = map (λ p. Did (event.Close p)) ps

@@ -1,23 +1,11 @@
--- The lines of passivations: what their looks find drained, and which roots they leave; and the ports that are closed stay where they
--- are.
-use Rattle.std.proofs.Common.{◌≡◌, ◌∙◌, ℕ, zero, suc, ◌+◌, ◌<◌, ◌≤◌, Bool, true, false, not, cond, List, [], ◌∷◌, ◌++◌, append_assoc, length, map, refl, sym, ap, subst, arith}
-use Rattle.std.specs.Prelude.{◌&&◌, ◌||◌, filter, filter_map, flat_map, nat_lt}
-use Rattle.std.specs.List.{AllByRecursion, cons_option, range_with_len}
-use Rattle.std.proofs.lemmas.Bool.{and_from, both_ways, lt-ltb}
+-- The lines of passivations: what their looks find drained, and which roots they leave.
+use Rattle.std.proofs.Common.{◌≡◌, ◌∙◌, ℕ, Bool, true, false, not, cond, List, [], ◌∷◌, ◌++◌, append_assoc, map, refl, sym, ap}
+use Rattle.std.specs.Prelude.{◌&&◌, ◌||◌, filter, flat_map}
+use Rattle.std.specs.List.{cons_option}
+use Rattle.std.proofs.lemmas.Bool.{both_ways}
 use Rattle.std.proofs.lemmas.List.{map-append}
-use Rattle.std.proofs.lemmas.List.Elements.{All-from_recursion, All-head, All-tail}
 use Rattle.std.proofs.lemmas.List.Sums.{fold_push}
-use Rattle.change_plan.specs.declared.plan_data.Plan.{Plan}
-use Rattle.quiesce_commit_laws.specs.Steps.{change_all}
-use Rattle.quiesce_commit_laws.proofs.TurningLaws.{SameLinks, live_port, same_turned}
-use Rattle.config_graph.specs.Graph.{Graph}
-use Rattle.change_plan_laws.specs.Commit.{is_one_of, ports_to_close}
-use Rattle.quiesce_core.specs.Effect.{with_closed}
-use Rattle.quiesce_core.specs.Rules.{is_live_port}
-use Rattle.quiesce_core.specs.State.{Configuration, is_live, owner}
-use Rattle.quiesce_core.specs.declared.event.Event.TheVariants as event
 use Rattle.change_law.specs.Changes.{drained_lines, seen_in_all}
-use Rattle.change_law.specs.Members.{event_of, lines_of_events}
 use Rattle.change_law.specs.Scene.{Seen, drained_line, root_line}
 use Rattle.report_types.specs.declared.report.HistoryLine.TheVariants as to
 use Rattle.txn_records.specs.declared.entry.Entry.TheVariants.{Looked}
@@ -25,9 +13,8 @@ use Rattle.txn_records.specs.Looks.{is_drained_word, serial_of}
 use Rattle.change_board.specs.Scans.{Found, scan_entries}
 use Rattle.change_board.specs.Transcripts.{silent, told, line_in, lines}
 use Rattle.change_engine.specs.Draining.{root_item}
-use Rattle.change_engine.specs.Passivating.{AreLivePorts, Passivation, WaitingRound, close_item, left_after, look_item, passivation_items, roots_of, round_items, silent_items}
+use Rattle.change_engine.specs.Passivating.{Passivation, WaitingRound, close_item, left_after, look_item, passivation_items, roots_of, round_items, silent_items}
 use Rattle.change_engine.specs.declared.passivating.LeftRoot.{LeftRoot}
-use Rattle.change_lists.proofs.LayoutLaws.{one_live}
 use Rattle.change_engine.proofs.ItemLaws.{close_lines, lines_both, silent_lines}
 
 -- ---- what looks find
@@ -107,30 +94,6 @@ pub root_lines : (xs : List LeftRoot) → lines (map root_item xs) ≡ map root_
 root_lines [] = refl
 root_lines (r ∷ xs) = ap (λ ls. to.Root r.port r.serial ∷ ls) (root_lines xs)
 
-pub reopen_lines : (ps : List ℕ) → lines_of_events (map event.Reopen ps) ≡ map to.Reopen ps
-reopen_lines [] = refl
-reopen_lines (p ∷ ps) = ap (λ ls. to.Reopen p ∷ ls) (reopen_lines ps)
-
--- ---- ports that are closed
-
-pub closed_events : (ps : List ℕ) → filter_map event_of (map to.Close ps) ≡ map event.Close ps
-closed_events [] = refl
-closed_events (p ∷ ps) = ap (λ es. event.Close p ∷ es) (closed_events ps)
-
-pub no_events_drained : (ds : List Seen) → filter_map event_of (map drained_line ds) ≡ []
-no_events_drained [] = refl
-no_events_drained (d ∷ ds) = no_events_drained ds
-
-pub same_here : (c : Configuration) → SameLinks c c
-same_here c = record { slots = refl; long = refl; owners = λ q. refl; requirements = λ q. refl; targets = λ q. refl }
-
-pub closed_links : (c d : Configuration) (ps : List ℕ) → AreLivePorts c ps → SameLinks c d → SameLinks c (change_all d (map event.Close ps))
-closed_links c d [] h same = same
-closed_links c d (p ∷ ps) h same =
-    let here = All-head (λ q. is_live_port c q ≡ true) p ps h in
-    closed_links c (with_closed d p true) ps (All-tail (λ q. is_live_port c q ≡ true) p ps h)
-    (same_turned c d p true (subst (λ n. p < n) (sym same.long) (live_port c p here).made) same)
-
 -- ---- a word that isn't drained, at a port that is closed
 
 pub root_by : (closed idle within : Bool) → closed ≡ true → (closed && (idle || within)) ≡ false → (not idle && not within) ≡ true
@@ -138,20 +101,3 @@ root_by true true within e h = absurd (both_ways true h refl)
 root_by true false true e h = absurd (both_ways true h refl)
 root_by true false false e h = refl
 root_by false idle within e h = absurd (both_ways false refl e)
-
--- ---- ports of frozen nodes are live
-
-pub closed_live : (g : Graph) (plan : Plan) (c : Configuration) → AreLivePorts c (ports_to_close g plan c)
-closed_live g plan c = All-from_recursion (λ p. is_live_port c p ≡ true) (ports_to_close g plan c) (from 0 (length c.gates) (omega arith))
-  where
-    test : ℕ → Bool
-    test p = is_one_of g plan.freeze c (owner c p)
-
-    from : (a n : ℕ) → a + n ≤ length c.gates → AllByRecursion (λ p. is_live_port c p ≡ true) (filter test (range_with_len a n))
-    from a zero few = tt
-    from a (suc n) few = by (test a) refl (from (a + 1) n (omega (arith, few)))
-      where
-        by : (b : Bool) → test a ≡ b → AllByRecursion (λ p. is_live_port c p ≡ true) (filter test (range_with_len (a + 1) n))
-            → AllByRecursion (λ p. is_live_port c p ≡ true) (cond b (a ∷ filter test (range_with_len (a + 1) n)) (filter test (range_with_len (a + 1) n)))
-        by true e rest = (and_from (nat_lt a (length c.gates)) (is_live c (owner c a)) (lt-ltb a (length c.gates) (omega (arith, few))) (one_live g plan.freeze c (owner c a) e), rest)
-        by false e rest = rest

@@ -21,7 +21,7 @@ use Rattle.quiesce_core.specs.State.{Configuration}
 use Rattle.txn_records.specs.Entries.{config_of}
 use Rattle.txn_records.specs.declared.entry.Entry.{Entry}
 use Rattle.txn_records.specs.Records.{Adds, IsRecord}
-use Rattle.change_board.specs.Steps.{HasRoomForAll, Room}
+use Rattle.change_board.specs.Steps.{HasRoomForAll}
 use Rattle.change_board.specs.Transcripts.{Item, entries, said}
 use Rattle.change_engine.specs.Calls.{Continues, HasPrepared}
 use Rattle.change_engine.specs.Engines.{HasPlace, IsFor, IsIdle, IsPlanned, IsPrepared, IsLaidOut}

@@ -18,6 +18,7 @@ use Rattle.quiesce_core.specs.State.{Configuration}
 use Rattle.txn_records.specs.Entries.{config_of, event_in, events_in}
 use Rattle.txn_records.specs.declared.entry.Entry.{Entry}
 use Rattle.txn_records.specs.Records.{AreAllNoted}
+use Rattle.change_board.specs.declared.board.Board.{Ghosts as BoardWords}
 use Rattle.change_board.specs.Transcripts.{entries}
 use Rattle.change_engine.specs.Growing.{Grew, telling}
 use Rattle.change_engine.specs.Passivating.{AreLivePorts, IsPassivation, Passivation, WaitingRound, close_item, left_after, look_item, passivation_items, round_items}
@@ -26,8 +27,7 @@ use Rattle.change_engine.proofs.Breaking.{stop_told}
 use Rattle.change_engine.proofs.Noting.{passivated_noted}
 use Rattle.change_engine.proofs.Passing.{close_entries, closes_events, config_over, live_same, looks_quiet, round_quiet}
 use Rattle.change_engine.proofs.ItemLaws.{entries_both, look_entries}
-use Rattle.change_board.specs.declared.board.Board.{Ghosts as BoardWords}
-use Rattle.change_engine.proofs.PassivationLaws.{same_here, closed_links}
+use Rattle.change_law.proofs.PortLaws.{closed_links, same_here}
 
 -- the events of a passivation are its closes
 pub rounds_quiet : (rounds : List WaitingRound) → events_in (entries (flat_map round_items rounds)) ≡ []

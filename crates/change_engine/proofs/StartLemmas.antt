@@ -26,7 +26,6 @@ use Rattle.quiesce_core.specs.declared.event.Event.TheVariants.{Link}
 use Rattle.quiesce_core.proofs.GraphLaws.{graph_started}
 use Rattle.quiesce_laws.specs.Starts.{link_of, make_of, reopen_of, start_of}
 use Rattle.txn_records.specs.Entries.{config_of, event_in, events_in}
-use Rattle.txn_records.specs.declared.entry.Entry.{Entry}
 use Rattle.txn_records.specs.Records.{Adds}
 use Rattle.change_board.specs.Sights.{Sight, sight_entry}
 use Rattle.change_board.specs.Steps.{HasRoomForAll, Deed, Room, deed_entries, entries_of, less_one, events_of}

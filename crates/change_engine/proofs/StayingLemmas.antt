@@ -26,7 +26,7 @@ use Rattle.change_engine.specs.Breaking.{IsClosedOr, IsClosedStill}
 use Rattle.change_engine.specs.Passivating.{AreLivePorts}
 use Rattle.change_engine.proofs.Passing.{closes, closes_events, config_over}
 use Rattle.change_engine.proofs.Rooting.{shut_behind}
-use Rattle.change_engine.proofs.PassivationLaws.{same_here}
+use Rattle.change_law.proofs.PortLaws.{same_here}
 
 none_of_change : (es : List Event) → All (λ e. is_of_change e ≡ false) es → filter is_of_change es ≡ []
 none_of_change [] h = refl

@@ -1,5 +1,5 @@
 -- What each call of an engine does: the transcript that it adds, with all that it saw.
-use Rattle.std.specs.Prelude.{◌≡◌, ◌≤◌, ◌<◌, ◌-◌, ◌^◌, ℕ, ℤ, Bool, true, List, [], ◌∷◌, ◌++◌, map, flat_map, length}
+use Rattle.std.specs.Prelude.{◌≡◌, ◌≤◌, ◌<◌, ◌-◌, ◌^◌, ℕ, ℤ, true, false, List, [], ◌∷◌, ◌++◌, map, flat_map, length}
 use Rattle.std.specs.List.{AllByRecursion}
 use Rattle.base.specs.Each.{Each}
 use Rattle.change_plan.specs.declared.plan_data.Move.{Move}
@@ -26,7 +26,7 @@ use Rattle.change_engine.specs.Carrying.{deed_items}
 use Rattle.change_engine.specs.Draining.{pending_items}
 use Rattle.change_engine.specs.Ending.{unfinished_after}
 use Rattle.change_engine.specs.Engines.{IsIdle, IsOpen, IsPlanned, IsPrepared, IsReadyToCommit, MayAbandon}
-use Rattle.change_engine.specs.Finishing.{EndsAfter, IsScanIn, ScanSeen, all_entries, rounds_in}
+use Rattle.change_engine.specs.Finishing.{EndsAfter, IsScanIn, SawTwice, ScanSeen, all_entries, rounds_in}
 use Rattle.change_engine.specs.Leaving.{IsRootLeft}
 use Rattle.change_engine.specs.Passivating.{IsPassivation, Passivation, last_look, left_after, passivation_items, silent_items}
 use Rattle.change_engine.specs.Running.{RunsOn, ended_since, are_enough}
@@ -63,6 +63,8 @@ pub record HasRun {B : Type 0} (words : BoardWords B) (old new : Engine B) (k en
   pub scans : List ScanSeen
   pub at_ports : (t : List Item) → IsIdle words old t → ports_of looks ≡ all_ports (config_of (entries t))
   pub are_scans : (t : List Item) → IsIdle words old t → AllByRecursion (IsScanIn words.alone (config_of (entries t))) scans
+  pub twice : words.alone ≡ false → (t : List Item) → IsIdle words old t
+      → Each (SawTwice (entries t ++ map look_entry looks)) scans
   pub go_on : Each (RunsOn words.alone k (ended_in looks)) scans
   pub ends : are_enough words.alone k (ended_in looks) scans ≡ true
   pub ended_is : ended ≡ ended_since (ended_in looks) scans
@@ -76,6 +78,7 @@ pub record HasFinished {B : Type 0} (words : BoardWords B) (old new : Engine B) 
   pub scans : List ScanSeen
   pub few : length scans ≤ n
   pub are_scans : (t : List Item) → IsIdle words old t → AllByRecursion (IsScanIn words.alone (config_of (entries t))) scans
+  pub twice : words.alone ≡ false → (t : List Item) → IsIdle words old t → Each (SawTwice (entries t)) scans
   pub rounds_are : rounds ≡ rounds_in scans
   pub ends : EndsAfter words.alone n scans
   pub goes : Continues words old new (silent_items (all_entries scans) ++ said (to.Finish n rounds) ∷ [])

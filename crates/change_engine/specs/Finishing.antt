@@ -1,6 +1,7 @@
 -- How a system is run until it is done: scans in which nodes may begin transactions.
 use Rattle.std.specs.Prelude.{◌≡◌, ◌⊎◌, ◌≤◌, ℕ, Bool, true, false, not, ◌&&◌, ◌||◌, List, [], ◌∷◌, ◌++◌, flat_map, length, if◌then◌else◌}
 use Rattle.std.specs.List.{AllByRecursion, sum_by}
+use Rattle.base.specs.Each.{Each}
 use Rattle.report_types.specs.declared.report.HistoryLine.TheVariants as to
 use Rattle.quiesce_core.specs.State.{Configuration}
 use Rattle.change_board.specs.declared.board.Board.{Ghosts as BoardWords}
@@ -8,7 +9,7 @@ use Rattle.change_board.specs.declared.board.Scan.{Scan}
 use Rattle.txn_records.specs.Entries.{config_of}
 use Rattle.txn_records.specs.declared.entry.Entry.{Entry}
 use Rattle.txn_records.specs.Records.{Adds}
-use Rattle.change_board.specs.Scans.{Found, SightsAll, all_ports, ended_in, is_seen_at_rest, ports_of, scan_entries}
+use Rattle.change_board.specs.Scans.{Found, IsSeenTwice, SightsAll, all_ports, ended_in, is_seen_at_rest, ports_of, scan_entries}
 use Rattle.change_board.specs.Sights.{Sight}
 use Rattle.change_board.specs.Transcripts.{said}
 use Rattle.change_engine.specs.Growing.{Grew, Telling}
@@ -26,12 +27,18 @@ seen_entries w = scan_entries true w.answer.moved w.sights w.found
 abbrev pub all_entries : List ScanSeen → List Entry
 all_entries scans = flat_map seen_entries scans
 
--- the answer tells what was seen, in this configuration; on a board that is alone, each node was
+-- the answer tells what was seen, in this configuration; on a board that is alone, each node was seen, and it is exact
 pub record IsScanIn (alone : Bool) (c : Configuration) (w : ScanSeen) : Type 0 where
   pub all_sighted : alone ≡ true → SightsAll c w.sights
   pub at_ports : ports_of w.found ≡ all_ports c
-  pub done : w.answer.done ≡ is_seen_at_rest c w.sights w.found
+  pub done : alone ≡ true → w.answer.done ≡ is_seen_at_rest c w.sights w.found
+  pub at_rest : w.answer.done ≡ true → is_seen_at_rest c w.sights w.found ≡ true
   pub ended : w.answer.ended ≡ ended_in w.found
+
+-- Behind such a record, a scan that answers that all is at rest saw the same as the scan before it: so it is on a board
+-- that isn't alone.
+abbrev pub SawTwice : List Entry → List ScanSeen → ScanSeen → Type 0
+SawTwice r before w = w.answer.done ≡ true → IsSeenTwice (r ++ all_entries before) w.sights
 
 -- a scan that moved nothing and saw all at rest is no round
 abbrev pub count_of : Scan → ℕ
@@ -63,6 +70,7 @@ pub record Scans {B : Type 0} (words : BoardWords B) (old new : B) (n rounds : �
   pub scans : List ScanSeen
   pub few : length scans ≤ n
   pub are_scans : (r : List Entry) → words.stands_for old r → AllByRecursion (IsScanIn words.alone (config_of r)) scans
+  pub twice : words.alone ≡ false → (r : List Entry) → words.stands_for old r → Each (SawTwice r) scans
   pub rounds_are : rounds ≡ rounds_in scans
   pub ends : EndsAfter words.alone n scans
   pub adds : Adds words.stands_for old new (all_entries scans)
@@ -72,6 +80,7 @@ pub record Finished {B : Type 0} (words : BoardWords B) (old new : Telling B) (n
   pub scans : List ScanSeen
   pub few : length scans ≤ n
   pub are_scans : (r : List Entry) → words.stands_for old.board r → AllByRecursion (IsScanIn words.alone (config_of r)) scans
+  pub twice : words.alone ≡ false → (r : List Entry) → words.stands_for old.board r → Each (SawTwice r) scans
   pub rounds_are : rounds ≡ rounds_in scans
   pub ends : EndsAfter words.alone n scans
   pub grew : Grew words old new (silent_items (all_entries scans) ++ said (to.Finish n rounds) ∷ [])

@@ -12,7 +12,7 @@ use Rattle.txn_records.specs.declared.entry.Entry.{Entry}
 use Rattle.txn_records.specs.Looks.{ended_in_word}
 use Rattle.txn_records.specs.Records.{Adds}
 use Rattle.change_board.specs.Scans.{Found, ended_in, look_entry, ports_of}
-use Rattle.change_engine.specs.Finishing.{IsScanIn, ScanSeen, all_entries}
+use Rattle.change_engine.specs.Finishing.{IsScanIn, SawTwice, ScanSeen, all_entries}
 
 -- how many transactions a look shows as ended
 abbrev pub ended_by : Look → ℕ
@@ -48,6 +48,7 @@ pub record Counts {B : Type 0} (words : BoardWords B) (old new : B) (ports ended
 pub record ScansUntil {B : Type 0} (words : BoardWords B) (old new : B) (shown k ended : ℕ) : Type 0 where
   pub scans : List ScanSeen
   pub are_scans : (r : List Entry) → words.stands_for old r → AllByRecursion (IsScanIn words.alone (config_of r)) scans
+  pub twice : words.alone ≡ false → (r : List Entry) → words.stands_for old r → Each (SawTwice r) scans
   pub go_on : Each (RunsOn words.alone k shown) scans
   pub ends : are_enough words.alone k shown scans ≡ true
   pub ended_is : ended ≡ ended_since shown scans

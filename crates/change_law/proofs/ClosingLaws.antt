@@ -1,4 +1,4 @@
--- Which lists close no port: those of a start, and what ends a change.
+-- Which lists close no port, and which tell no root: those of a start, and what ends a change.
 use Rattle.std.proofs.Common.{◌≡◌, ◌∙◌, ℕ, Bool, true, false, List, [], ◌∷◌, ◌++◌, map, Some, refl, sym, ap, inl, inr}
 use Rattle.std.specs.Prelude.{◌⊎◌, ℤ, filter_map}
 use Rattle.std.specs.List.{enumerate_from, list_any}
@@ -22,7 +22,7 @@ use Rattle.report_types.specs.declared.report.HistoryLine.{HistoryLine}
 use Rattle.report_types.specs.declared.report.HistoryLine.TheVariants as to
 use Rattle.change_law.specs.Changes.{IsCommitted, IsGivenUp, commit_lines, drained_lines, pending_lines, seen_in_all}
 use Rattle.change_law.specs.Follows.{start_lines}
-use Rattle.change_law.specs.Members.{is_close, lines_of_events}
+use Rattle.change_law.specs.Members.{is_close, is_root, lines_of_events}
 use Rattle.change_law.specs.Scene.{drained_line, root_line}
 use Rattle.change_law.proofs.TestLaws.{none_both, none_mapped}
 
@@ -84,14 +84,48 @@ commit_closes_none old new plan c =
     (none_both closes does (map work.link_new links) (work_closes_none (commit.work old new plan c)) (none_mapped closes work.link_new (λ x. refl) links))
     (none_mapped closes event.Reopen (λ x. refl) ports)
 
+pub commit_lines_close_none : (old new : Graph) (plan : Plan) (c : Configuration) → list_any is_close (commit_lines old new plan c) ≡ false
+commit_lines_close_none old new plan c =
+    none_both is_close (lines_of_events (commit_events old new plan c)) (to.Commit ∷ []) (none_of_events (commit_events old new plan c) (commit_closes_none old new plan c)) refl
+
 pub ends_close_none : (old new : Graph) (plan : Plan) (within : ℕ) (c : Configuration) (closed : List ℕ) (rest : List HistoryLine)
     → IsCommitted old new plan within c rest ⊎ IsGivenUp closed within rest → list_any is_close rest ≡ false
 ends_close_none old new plan within c closed rest (inl e) =
     ap (list_any is_close) e.are
     ∙ none_both is_close (drained_lines e.looks) (commit_lines old new plan c) (none_mapped is_close drained_line (λ d. refl) (seen_in_all e.looks))
-    (none_both is_close (lines_of_events (commit_events old new plan c)) (to.Commit ∷ []) (none_of_events (commit_events old new plan c) (commit_closes_none old new plan c)) refl)
+    (commit_lines_close_none old new plan c)
 ends_close_none old new plan within c closed rest (inr e) =
     ap (list_any is_close) e.are
     ∙ none_both is_close (drained_lines e.looks) (pending_lines within e.left closed) (none_mapped is_close drained_line (λ d. refl) (seen_in_all e.looks))
     (none_both is_close (map root_line e.left ++ map to.Reopen closed) (to.Abandon ∷ [])
     (none_both is_close (map root_line e.left) (map to.Reopen closed) (none_mapped is_close root_line (λ d. refl) e.left) (none_mapped is_close to.Reopen (λ p. refl) closed)) refl)
+
+pub reopen_lines : (ps : List ℕ) → lines_of_events (map event.Reopen ps) ≡ map to.Reopen ps
+reopen_lines [] = refl
+reopen_lines (p ∷ ps) = ap (λ ls. to.Reopen p ∷ ls) (reopen_lines ps)
+
+-- no event tells a root
+
+pub no_roots : (es : List Event) → list_any is_root (lines_of_events es) ≡ false
+no_roots [] = refl
+no_roots (event.Close p ∷ es) = no_roots es
+no_roots (event.Make n node from ∷ es) = no_roots es
+no_roots (event.Link p n x ∷ es) = no_roots es
+no_roots (event.Unlink p ∷ es) = no_roots es
+no_roots (event.Remove n ∷ es) = no_roots es
+no_roots (event.Reopen p ∷ es) = no_roots es
+no_roots (event.Begin p k v ∷ es) = no_roots es
+no_roots (event.Call p k v ∷ es) = no_roots es
+no_roots (event.Miss p ∷ es) = no_roots es
+no_roots (event.Take p k v ∷ es) = no_roots es
+no_roots (event.Give p k v ∷ es) = no_roots es
+no_roots (event.More p k v ∷ es) = no_roots es
+no_roots (event.Ask p k v ∷ es) = no_roots es
+no_roots (event.Hear p k v ∷ es) = no_roots es
+no_roots (event.End p k v ∷ es) = no_roots es
+
+pub commit_roots_none : (old new : Graph) (plan : Plan) (c : Configuration) → list_any is_root (commit_lines old new plan c) ≡ false
+commit_roots_none old new plan c = none_both is_root (lines_of_events (commit_events old new plan c)) (to.Commit ∷ []) (no_roots (commit_events old new plan c)) refl
+
+pub start_roots_none : (name : List ℕ) (args : List ℤ) (g : Graph) → list_any is_root (start_lines name args g) ≡ false
+start_roots_none name args g = none_both is_root (lines_of_events (starts.start_of g)) (to.Commit ∷ []) (no_roots (starts.start_of g)) refl

@@ -1,11 +1,10 @@
 -- A report that was found lawful is so.
 use Rattle.std.proofs.Common.{◌≡◌, ◌∙◌, ℕ, ◌+◌, ◌-◌, Bool, true, false, not, ◌&&◌, ◌||◌, cond, List, [], ◌∷◌, ◌++◌, append_assoc, map, length, take, drop, Option, Some, None, refl, sym, ap, subst, ⊎_elim, inl, inr, arith}
-use Rattle.std.specs.Prelude.{◌==◌, ◌⊎◌, All, nat_le, nat_lt}
+use Rattle.std.specs.Prelude.{◌==◌, All, nat_le, nat_lt}
 use Rattle.std.specs.List.{count_by, list_all, list_any, range_with_len}
 use Rattle.std.specs.Option.{option_map_or}
 use Rattle.std.proofs.lemmas.Bool.{and_parts, both_ways, eqb-true, leb-true, ltb-true, or_cases, or_parts}
-use Rattle.std.proofs.lemmas.List.{length-append, take-append-drop}
-use Rattle.std.proofs.Math.Seq.{take-append_seam}
+use Rattle.std.proofs.lemmas.List.{take-append-drop}
 use Rattle.std.proofs.lemmas.List.Elements.{All-cons, All-nil}
 use Rattle.base.specs.Each.{Each, EachAfter}
 use Rattle.base.proofs.EachLaws.{each_joined}
@@ -29,7 +28,7 @@ use Rattle.report_types.specs.declared.report.Report.{Report}
 use Rattle.change_law.specs.Endings.{moved_to}
 use Rattle.change_law.specs.Follows.{Follows}
 use Rattle.change_law.specs.Found.{IsFound, came_to_rest, held_at, held_since, is_drained_at, is_ended_at, is_few_at, is_finish_at, is_graph_at, is_line, is_of_its_kind, is_run_at, last_of_log, passes_each, since_line, up_to_line}
-use Rattle.change_law.specs.Lawful.{CameToRest, EndedSince, EndsAs, HeldSince, StoodOpen, StoodOpenWhereSaid, IsDrainedAt, IsEndedAt, IsFewAt, IsFinishAt, IsGraphAt, IsGraphDescribed, IsLawfulBy, IsOfItsKind, IsRunAt, Lawful, LawfulInRounds, LawfulOnThreads, Merge, described, is_done, is_idle_after}
+use Rattle.change_law.specs.Lawful.{CameToRest, EndedSince, EndsAs, HeldSince, StoodOpen, StoodOpenWhereSaid, IsDrainedAt, IsEndedAt, IsFewAt, IsFinishAt, IsGraphAt, IsGraphDescribed, IsLawfulBy, IsOfItsKind, IsRunAt, Lawful, LawfulInRounds, LawfulOnThreads, Merge, NumbersInRounds, described, is_done, is_idle_after}
 use Rattle.change_law.specs.Members.{Member, by_node, of_history, events, is_close, is_root, lines, state_at, without_roots}
 use Rattle.change_law.specs.Opening.{fold_of_node}
 use Rattle.quiesce_commit_laws.specs.Steps.{live_ports}
@@ -210,6 +209,12 @@ module _ (statements : List Statement) (ts : List Told) (seen : List Seen) (m : 
   pub found_lawful : Lawful statements report
   found_lawful = record { follows = follows_so; members = m; by_them = found_so }
 
+  in_rounds : passes_each is_ended_at [] m ≡ true → passes_each is_few_at [] m ≡ true → NumbersInRounds m
+  in_rounds ended few = record { ended = each_by IsEndedAt is_ended_at ended_at [] m ended; few = each_by IsFewAt is_few_at few_at [] m few }
+
+  pub found_numbers : passes_each is_ended_at [] m ≡ true → passes_each is_few_at [] m ≡ true → (lawful : Lawful statements report) × NumbersInRounds lawful.members
+  found_numbers ended few = (record { follows = follows_so; members = m; by_them = found_so }, in_rounds ended few)
+
   pub found_on_threads : passes_each is_run_at [] m ≡ true → passes_each is_finish_at [] m ≡ true → LawfulOnThreads statements report
   found_on_threads runs finishes = record {
     lawful = record { follows = follows_so; members = m; by_them = found_so };
@@ -219,6 +224,6 @@ module _ (statements : List Statement) (ts : List Told) (seen : List Seen) (m : 
   pub found_in_rounds : (serial : Serial statements report) → passes_each is_ended_at [] m ≡ true → passes_each is_few_at [] m ≡ true → events m ≡ serial.world.events → LawfulInRounds statements report serial
   found_in_rounds serial ended few order = record {
     lawful = record { follows = follows_so; members = m; by_them = found_so };
-    numbers = record { ended = each_by IsEndedAt is_ended_at ended_at [] m ended; few = each_by IsFewAt is_few_at few_at [] m few };
+    numbers = in_rounds ended few;
     order = order;
   }

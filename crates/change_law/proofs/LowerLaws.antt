@@ -17,6 +17,7 @@ use Rattle.quiesce_core.specs.State.{Configuration, State, slot}
 use Rattle.quiesce_core.proofs.AlterLaws.{reconfigured}
 use Rattle.quiesce_core.proofs.ConfigurationLaws.{slots_stay}
 use Rattle.quiesce_core.proofs.InductionLaws.{always}
+use Rattle.quiesce_core.proofs.SourceLaws.{new_slot}
 
 pub record SourcesAreLower (c : Configuration) : Type 0 where
   pub lower : (n k : ℕ) (m : Slot) → slot c n ≡ Some m → m.from ≡ Some k → k < n
@@ -28,9 +29,6 @@ source_there c node from k may is =
     let found = map_or_true (λ (m : Slot). not m.live && is_kind m.node.kind node.kind) (slot c k)
     (and_parts (option_map_or (λ (m : Slot). not m.live && is_kind m.node.kind node.kind) (slot c k) false) (not (was_moved c k)) here).0 in
     slice_get-below c.slots k found.0 found.1
-
-abbrev pub new_slot : Configuration → Node → Option ℕ → Slot
-new_slot c node from = record { node = node; first_port = length c.gates; from = from; live = true }
 
 lower_made : (c : Configuration) (n : ℕ) (node : Node) (from : Option ℕ) → CanMake c n node from → SourcesAreLower c → SourcesAreLower (with_node c node from)
 lower_made c n node from l h = record {

@@ -1,19 +1,16 @@
 -- A plan that was computed is the plan, and there is one.
-use Rattle.std.proofs.Common.{◌≡◌, ◌∙◌, ℕ, zero, suc, ◌<◌, Bool, true, false, not, ◌&&◌, ◌||◌, List, map, length, Option, Some, None, refl, sym, ap, subst, ⊎_elim, arith, get_or, Contains, Decides}
-use Rattle.std.specs.Prelude.{◌==◌, AllPairs, Any, bytes_eq, nat_lt, option_map, slice_get, take}
+use Rattle.std.proofs.Common.{◌≡◌, ◌∙◌, ℕ, zero, suc, ◌<◌, Bool, true, false, not, ◌&&◌, ◌||◌, List, map, length, Option, Some, None, refl, sym, ap, subst, ⊎_elim, arith, Contains, Decides}
+use Rattle.std.specs.Prelude.{◌==◌, Any, bytes_eq, nat_lt, option_map, slice_get, take}
 use Rattle.std.specs.List.{list_all, list_any, range_with_len}
 use Rattle.std.specs.Option.{option_map_or}
-use Rattle.std.specs.List.Sorted.{IsStrictlyIncreasing}
 use Rattle.std.proofs.lemmas.Bool.{and_from, and_parts, both_ways, eqb-true, ltb-true, not-true, or_cases, or_left, or_right}
 use Rattle.std.proofs.lemmas.Bool.Decides.{Decides-and, Decides-eqb, Decides-like, Decides-not, Decides-or}
-use Rattle.std.proofs.lemmas.List.{get_or-map, length-map}
 use Rattle.std.proofs.lemmas.List.Folds.{list_any_at}
-use Rattle.std.proofs.lemmas.List.Kept.{AllPairs-from_increasing, IsStrictlyIncreasing-filter}
+use Rattle.std.proofs.lemmas.List.Kept.{IsStrictlyIncreasing-filter}
 use Rattle.std.proofs.lemmas.Option.{none-some, same_Some, slice_get_within}
 use Rattle.std.proofs.lemmas.Slice.Eq.{bytes_eq-Decides}
 use Rattle.base.proofs.ContainsLaws.{Contains-filter, Contains-flat_map, Contains-from_filter, Contains-map}
 use Rattle.base.proofs.FindLaws.{find-some}
-use Rattle.base.proofs.OrderedLaws.{one_order}
 use Rattle.base.proofs.RangeLaws.{all_in_range, any_in_range, range_has}
 use Rattle.config_graph.specs.Cycles.{depends_at, graph_wiring}
 use Rattle.config_graph.specs.Graph.{Graph, begins_at, link_at, requires_at, target_of}
@@ -24,17 +21,17 @@ use Rattle.config_graph.specs.declared.node.Node.{Node}
 use Rattle.config_graph.specs.declared.node.Port.{Port}
 use Rattle.config_graph.specs.declared.node.Target.{Target}
 use Rattle.config_graph.proofs.SameLaws.{kind_decides, node_decides}
-use Rattle.change_plan.specs.Differences.{GoneLinks, GoneNodes, IsGone, IsKeptLink, IsSameLink, IsTwin, link_port}
+use Rattle.change_plan.specs.Differences.{GoneLinks, GoneNodes, IsGone, IsKeptLink, IsSameLink, IsTwin}
 use Rattle.change_plan.specs.Moves.{IsFit, IsGoneAt, IsShift, IsShifts, MayMove, MayMoveAll, MoveLeads}
 use Rattle.change_plan.specs.Plans.{HasStepsBetween, IsPlanOf}
 use Rattle.change_plan.specs.Touched.{Frozen, HasNewTarget, IsTouched, SameTarget}
 use Rattle.change_plan.specs.declared.plan_data.Move.{Move}
-use Rattle.change_plan.specs.declared.plan_data.Plan.{Plan}
 use Rattle.change_plan.specs.declared.plan_data.Shift.{Shift}
-use Rattle.change_plan.proofs.SelectsLaws.{Contains-places, Selects-one}
+use Rattle.change_plan.proofs.SelectsLaws.{Contains-places}
 use Rattle.change_law.specs.Planning.{all_shifts, are_one, can_be_planned, gone_links, gone_nodes, have_one_kind, is_fit, is_fit_as, is_frozen, is_gone, is_gone_at, is_kept_link, is_lacking, is_led, is_node, is_relinked, is_relinked_as, is_same_link, is_same_target, is_shift, is_touched, is_twin, leads_elsewhere, leads_no_further, leads_to, leads_within, may_move, may_move_all, may_move_at, planned, rises, shifts, shifts_to}
 use Rattle.quiesce_commit_laws.proofs.MemberLaws.{any_if, any_of}
-use Rattle.change_law.proofs.TestLaws.{all_have, range_rises, rise_if, selects_by}
+use Rattle.change_law.proofs.TestLaws.{range_rises, rise_if, selects_by}
+use Rattle.base.proofs.ListLaws.{all_have}
 
 -- nodes and links of both graphs
 
@@ -344,29 +341,3 @@ pub moves_lead_so : (old new : Graph) (asked : List Move) → can_be_planned old
 moves_lead_so old new asked h k m low at =
     let passes = all_in_range (may_move_at old new asked) 0 (length asked) k (and_parts (may_move_all old new asked) _ h).0 (omega arith) (omega (arith, low)) in
     may_if old new (take k asked) m (sym (ap (λ o. option_map_or (may_move old new (take k asked)) o true) at) ∙ passes)
-
--- there is one plan with given moves
-
-ports_apart : (x y : ℕ) → x < y → y < x → ⊥
-ports_apart x y a b = omega (arith, a, b)
-
-shifts_rise : (shifts : List Shift) → IsStrictlyIncreasing (map (λ (s : Shift). s.new) shifts) → AllPairs (λ (s t : Shift). s.new < t.new) shifts
-shifts_rise shifts rise i j d below inside =
-    let news = map (λ (s : Shift). s.new) shifts in
-    let low : get_or news i d.new < get_or news j d.new = AllPairs-from_increasing news rise i j d.new below (omega (arith, inside, length-map shifts (λ (s : Shift). s.new))) in
-    omega (arith, low, get_or-map (λ (s : Shift). s.new) shifts i d d.new (omega (arith, below, inside)), get_or-map (λ (s : Shift). s.new) shifts j d d.new (omega (arith, inside)))
-
-pub one_plan : (old new : Graph) (moves : List Move) (p q : Plan) → IsPlanOf old new moves p → IsPlanOf old new moves q → p ≡ q
-one_plan old new moves p q a b =
-    let freeze : p.freeze ≡ q.freeze =
-    one_order (λ x y. x < y) ports_apart p.freeze q.freeze (AllPairs-from_increasing p.freeze a.freeze_rises) (AllPairs-from_increasing q.freeze b.freeze_rises)
-    (λ i held. (b.steps.freeze i).1 ((a.steps.freeze i).0 held)) (λ i held. (a.steps.freeze i).1 ((b.steps.freeze i).0 held)) in
-    let unlink : p.unlink ≡ q.unlink =
-    a.steps.unlink.2 ∙ ap (map link_port) (Selects-one (λ k. ¬ IsKeptLink old new k) old.links a.steps.unlink.0 b.steps.unlink.0 a.steps.unlink.1 b.steps.unlink.1) ∙ sym b.steps.unlink.2 in
-    let remove : p.remove ≡ q.remove = Selects-one (IsGone old new) (range_with_len 0 (length old.nodes)) p.remove q.remove a.steps.remove b.steps.remove in
-    let create : p.create ≡ q.create = Selects-one (IsGone new old) (range_with_len 0 (length new.nodes)) p.create q.create a.steps.create b.steps.create in
-    let link : p.link ≡ q.link = Selects-one (λ k. ¬ IsKeptLink new old k) new.links p.link q.link a.steps.link b.steps.link in
-    let shifts : p.moves ≡ q.moves =
-    one_order (λ (s t : Shift). s.new < t.new) (λ s t x y. omega (arith, x, y)) p.moves q.moves (shifts_rise p.moves a.moves.rise) (shifts_rise q.moves b.moves.rise)
-    (λ s held. b.moves.complete s (a.moves.sound s held)) (λ s held. a.moves.complete s (b.moves.sound s held)) in
-    λ i. record { unlink = unlink i; remove = remove i; create = create i; link = link i; moves = shifts i; freeze = freeze i }

@@ -1,6 +1,6 @@
 -- The ports that a change closes: they are live, they rise, and closing them leaves which they are. And configurations
 -- behind lines.
-use Rattle.std.proofs.Common.{◌≡◌, ◌∙◌, ℕ, zero, suc, ◌+◌, ◌<◌, ◌≤◌, Bool, true, false, ◌&&◌, cond, List, [], ◌∷◌, ◌++◌, length, map, Option, Some, None, refl, sym, ap, subst, ⊎_elim, arith}
+use Rattle.std.proofs.Common.{◌≡◌, ◌∙◌, ℕ, zero, suc, ◌+◌, ◌<◌, ◌≤◌, Bool, true, false, cond, List, [], ◌∷◌, ◌++◌, length, map, Option, Some, None, refl, sym, ap, subst, ⊎_elim, arith}
 use Rattle.std.specs.Prelude.{All, filter, filter_map, nat_lt}
 use Rattle.std.specs.List.{AllByRecursion, range_with_len}
 use Rattle.std.specs.List.Sorted.{IsStrictlyIncreasing}
@@ -20,8 +20,9 @@ use Rattle.quiesce_core.specs.State.{Configuration, empty, is_live, owner, slot}
 use Rattle.quiesce_core.specs.declared.event.Event.TheVariants as event
 use Rattle.quiesce_core.specs.declared.state.Slot.{Slot}
 use Rattle.report_types.specs.declared.report.HistoryLine.{HistoryLine}
+use Rattle.report_types.specs.declared.report.HistoryLine.TheVariants as to
 use Rattle.change_law.specs.Members.{event_of}
-use Rattle.change_law.specs.Scene.{config_after}
+use Rattle.change_law.specs.Scene.{Seen, config_after, drained_line}
 use Rattle.change_law.proofs.TestLaws.{range_rises}
 
 -- ---- ports that are closed
@@ -89,3 +90,11 @@ still_to_close old plan c =
 
 pub config_more : (xs ys : List HistoryLine) → config_after (xs ++ ys) ≡ change_all (config_after xs) (filter_map event_of ys)
 config_more xs ys = ap (change_all empty.config) (filter_map-append event_of xs ys) ∙ fold-append change_next empty.config (filter_map event_of xs) (filter_map event_of ys)
+
+pub closed_events : (ps : List ℕ) → filter_map event_of (map to.Close ps) ≡ map event.Close ps
+closed_events [] = refl
+closed_events (p ∷ ps) = ap (λ es. event.Close p ∷ es) (closed_events ps)
+
+pub no_events_drained : (ds : List Seen) → filter_map event_of (map drained_line ds) ≡ []
+no_events_drained [] = refl
+no_events_drained (d ∷ ds) = no_events_drained ds

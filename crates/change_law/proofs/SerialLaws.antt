@@ -22,7 +22,7 @@ use Rattle.change_law.specs.Members.{is_pending}
 use Rattle.quiesce_commit_laws.specs.Steps.{live_ports}
 use Rattle.change_law.specs.Serial.{ChangesTo, FinishesAt, IsPlayed, Played, Plays, RunsTo, Serial, ShowsGraph, StopsAt, after_changes, end_events, end_lines, finish_ends, is_none_left, lines_played, looks_after, report_of, run_ends, wait_ends, world_after}
 use Rattle.change_law.specs.Statements.{Statement, start, change, run, finish, show}
-use Rattle.change_law.proofs.PlanningLaws.{one_plan}
+use Rattle.change_plan.proofs.PlanLaws.{one_plan}
 use Rattle.change_law.proofs.FirstLemmas.{one_first}
 
 -- a change that was tried, by its rounds
@@ -107,8 +107,15 @@ one_course before (p ∷ parts) (q ∷ parts') a b same =
     (tails_are p.statement q.statement (map (λ (x : Played). x.statement) parts) (map (λ (x : Played). x.statement) parts') same) in
     λ i. first i ∷ rest i
 
-pub one_serial : (statements : List Statement) (r s : Report) → Serial statements r → Serial statements s → r ≡ s
-one_serial statements r s a b =
-    let parts : a.parts ≡ b.parts = one_course [] a.parts b.parts a.played b.played (a.statements_are ∙ sym b.statements_are) in
-    let stop = one_stop (world_after b.parts) a.stop b.stop a.world b.world (subst (λ ps. StopsAt (world_after ps) a.stop a.world) parts a.stops) b.stops in
-    a.report_is ∙ (λ i. report_of statements (lines_played (parts i) ++ stop.lines_are i) (stop.worlds_are i)) ∙ sym b.report_is
+module _ (statements : List Statement) (r s : Report) (a : Serial statements r) (b : Serial statements s) where
+  one_parts : a.parts ≡ b.parts
+  one_parts = one_course [] a.parts b.parts a.played b.played (a.statements_are ∙ sym b.statements_are)
+
+  one_end : Same a.stop b.stop a.world b.world
+  one_end = one_stop (world_after b.parts) a.stop b.stop a.world b.world (subst (λ ps. StopsAt (world_after ps) a.stop a.world) one_parts a.stops) b.stops
+
+  pub one_world : a.world ≡ b.world
+  one_world = one_end.worlds_are
+
+  pub one_serial : r ≡ s
+  one_serial = a.report_is ∙ (λ i. report_of statements (lines_played (one_parts i) ++ one_end.lines_are i) (one_world i)) ∙ sym b.report_is

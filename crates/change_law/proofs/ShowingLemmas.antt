@@ -159,6 +159,11 @@ none_shapes (to.Finish n r ∷ ls) b e h = none_shapes ls b e.1 h
 none_shapes (to.Show g ∷ ls) b e h = none_shapes ls b e.1 h
 none_shapes (to.Stop ∷ ls) b e h = none_shapes ls b e.1 h
 
+-- so it is behind the last commit
+pub none_shapes_behind : (statements : List Statement) (front later : List HistoryLine) → Follows statements (front ++ later) → list_any is_commit later ≡ false → list_any is_shaping (filter_map event_of later) ≡ false
+none_shapes_behind statements front later follows none =
+    let w = parted front later false false (history_leads statements (front ++ later) follows) in (none_shapes later w.0 w.2 none).1
+
 pub shown_is_described : (statements : List Statement) (report : Report) (m : List Member) → Follows statements report.history → IsLawfulBy statements report m → (x y after : List Member) (g : Graph)
     → m ≡ x ++ of_history to.Commit ∷ (y ++ of_history (to.Show g) ∷ after) → list_any is_commit (lines y) ≡ false → described statements (lines x) ≡ Some g
 shown_is_described statements report m follows by x y after g parts none =

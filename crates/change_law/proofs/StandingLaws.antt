@@ -28,7 +28,7 @@ use Rattle.change_law.specs.Planning.{are_one, is_node}
 use Rattle.change_law.specs.Standing.{are_links, are_links_listed, comes_before, has_link, is_graph_of, is_in_graph, is_less, is_link_listed, is_linked_somewhere, is_listed, is_live_as, is_somewhere, is_target, leads_so, paths_rise, stands}
 use Rattle.change_law.proofs.Checking.{all_by}
 use Rattle.quiesce_commit_laws.proofs.MemberLaws.{any_of}
-use Rattle.change_law.proofs.TestLaws.{all_have}
+use Rattle.base.proofs.ListLaws.{all_have}
 
 less : (o : Ordering) → is_less o ≡ true → o ≡ Less
 less Less h = refl

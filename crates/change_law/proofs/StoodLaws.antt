@@ -34,7 +34,7 @@ use Rattle.quiesce_laws.proofs.RootLaws.{closed_stays, root_since}
 use Rattle.report_types.specs.declared.report.HistoryLine.{HistoryLine}
 use Rattle.report_types.specs.declared.report.HistoryLine.TheVariants as to
 use Rattle.change_law.specs.Lawful.{IsOfItsKind, StoodOpen}
-use Rattle.change_law.specs.Members.{Member, by_node, of_history, event_in, event_of, events, lines, state_at}
+use Rattle.change_law.specs.Members.{Member, by_node, of_history, event_in, event_of, events, lines}
 use Rattle.change_law.specs.Roots.{StoodSinceClose}
 use Rattle.change_law.proofs.MemberLaws.{all_parts, events_parts}
 use Rattle.change_law.proofs.TestLaws.{none_both}

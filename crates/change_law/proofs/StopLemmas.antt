@@ -33,7 +33,8 @@ use Rattle.change_law.specs.Lawful.{IsDrainedAt, IsOfItsKind, Merge}
 use Rattle.change_law.specs.Members.{Member, of_history, event_of, events, is_root, lines, state_at, without_roots}
 use Rattle.change_law.specs.Scene.{Seen, config_after, drained_line}
 use Rattle.change_law.specs.Statements.{Statement}
-use Rattle.change_law.proofs.TestLaws.{counted_some, some_counted}
+use Rattle.change_law.proofs.TestLaws.{counted_some}
+use Rattle.base.proofs.ListLaws.{count_by-some}
 use Rattle.change_law.proofs.MemberLaws.{all_parts, LineIn, Split, config_of_lines, events_parts, events_without_roots, line_there, none_happens, split}
 
 kept_here : {A : Type 0} (t u : A → Bool) (x : A) (xs left : List A) (b d : Bool) → t x ≡ b → u x ≡ d → (list_any (λ y. t y && u y) xs ≡ true → list_any u left ≡ true)
@@ -156,7 +157,7 @@ module _ (m : List Member) (before stop : List HistoryLine) (run : IsRun (events
       (range_has (λ q. is_live_port c q && q == p) 0 (length c.gates) p (omega arith) (omega (arith, made_before))
       (and_from (is_live_port c p) (p == p) live_port (eq-eqb p p refl))) in
       let seen : list_any (λ (d : Seen). d.port == p) is.seen ≡ true =
-      counted_some (λ (d : Seen). d.port == p) is.seen (omega (arith, is.all_seen p, some_counted (λ q. q == p) ports listed)) in
+      counted_some (λ (d : Seen). d.port == p) is.seen (omega (arith, is.all_seen p, count_by-some (λ q. q == p) ports listed)) in
       line_there (is_sighting p) parted.back
       (ap (list_any (is_sighting p)) (parted.back_lines ∙ is.are) ∙ list_any-append (is_sighting p) (closings ports) (sightings is.seen)
       ∙ or_right (list_any (is_sighting p) (closings ports)) (list_any (is_sighting p) (sightings is.seen)) (list_any-map (is_sighting p) drained_line is.seen ∙ seen))

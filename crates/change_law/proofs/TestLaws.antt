@@ -1,23 +1,15 @@
 -- Tests that decide, of lists and of parts of lists.
-use Rattle.std.proofs.Common.{◌≡◌, ◌∙◌, ℕ, zero, suc, ◌+◌, ◌<◌, get_or, ◌≤◌, Bool, true, false, ◌||◌, cond, List, [], ◌∷◌, ◌++◌, filter, map, refl, sym, ap, subst, ⊎_elim, arith, Contains, Decides}
+use Rattle.std.proofs.Common.{◌≡◌, ◌∙◌, ℕ, zero, suc, ◌+◌, ◌<◌, get_or, ◌≤◌, Bool, true, false, ◌||◌, cond, List, [], ◌∷◌, ◌++◌, filter, map, refl, ap, subst, arith, Decides}
 use Rattle.std.specs.Prelude.{nat_lt}
-use Rattle.std.specs.List.{count_by, list_all, list_any, range_with_len}
+use Rattle.std.specs.List.{count_by, list_any, range_with_len}
 use Rattle.std.specs.List.Sorted.{IsStrictlyIncreasing}
 use Rattle.std.proofs.lemmas.Bool.{and_parts, both_ways, ltb-true}
 use Rattle.std.proofs.lemmas.List.Folds.{list_any-append}
 use Rattle.std.proofs.lemmas.List.Sums.{sum_by-cons}
 use Rattle.std.proofs.lemmas.List.FromFn.{get_or-range_with_len, length-range_with_len}
-use Rattle.base.proofs.ContainsLaws.{Contains-cons_cases, Contains-nil}
 use Rattle.change_plan.specs.Selects.{Selects}
 use Rattle.change_plan.specs.Selects.Selects.{ends, skips, takes}
 use Rattle.change_law.specs.Planning.{rises}
-
--- each of a list passes
-pub all_have : {A : Type 0} (p : A → Bool) (xs : List A) → list_all p xs ≡ true → (x : A) → Contains xs x → p x ≡ true
-all_have p [] h x there = absurd (Contains-nil x there)
-all_have p (y ∷ xs) h x there =
-    let w = and_parts (p y) (list_all p xs) h in
-    ⊎_elim (λ (here : x ≡ y). ap p here ∙ w.0) (λ (later : Contains xs x). all_have p xs w.1 x later) (Contains-cons_cases y xs x there)
 
 -- those of a list that pass are those that have what the test decides
 pub selects_by : {A : Type 0} (P : A → Type 0) (p : A → Bool) → ((x : A) → Decides (p x) (P x)) → (xs : List A) → Selects P xs (filter p xs)
@@ -48,16 +40,6 @@ range_rises a n k low =
 
 -- counts of those that pass a test
 
-pub some_counted : {A : Type 0} (t : A → Bool) (xs : List A) → list_any t xs ≡ true → 1 ≤ count_by t xs
-some_counted t [] h = absurd (both_ways false refl h)
-some_counted t (x ∷ xs) h = by (t x) refl (some_counted t xs)
-  where
-    by : (b : Bool) → t x ≡ b → (list_any t xs ≡ true → 1 ≤ count_by t xs) → 1 ≤ count_by t (x ∷ xs)
-    by true e rest = let one = sum_by-cons (λ y. cond (t y) 1 0) x xs ∙ ap (λ b. cond b 1 0 + count_by t xs) e in omega (arith, one)
-    by false e rest =
-        let one = sum_by-cons (λ y. cond (t y) 1 0) x xs ∙ ap (λ b. cond b 1 0 + count_by t xs) e in
-        omega (arith, one, rest (sym (ap (λ b. b || list_any t xs) e) ∙ h))
-
 pub counted_some : {A : Type 0} (t : A → Bool) (xs : List A) → 1 ≤ count_by t xs → list_any t xs ≡ true
 counted_some t [] h = absurd (omega (arith, h))
 counted_some t (x ∷ xs) h = by (t x) refl (counted_some t xs)
@@ -76,10 +58,3 @@ none_both t xs ys a b = list_any-append t xs ys ∙ (λ i. a i || b i)
 pub none_mapped : {A B : Type 0} (t : B → Bool) (f : A → B) → ((x : A) → t (f x) ≡ false) → (xs : List A) → list_any t (map f xs) ≡ false
 none_mapped t f h [] = refl
 none_mapped t f h (x ∷ xs) = (λ i. h x i || list_any t (map f xs)) ∙ none_mapped t f h xs
-
-pub none_counted : {A : Type 0} (t : A → Bool) (xs : List A) → list_any t xs ≡ false → count_by t xs ≡ 0
-none_counted {A} t xs h = by (count_by t xs) refl
-  where
-    by : (n : ℕ) → count_by t xs ≡ n → n ≡ 0
-    by zero e = refl
-    by (suc n) e = absurd (both_ways (list_any t xs) h (counted_some t xs (omega (arith, e))))

@@ -26,7 +26,8 @@ use Rattle.change_law.proofs.Checking.{all_by}
 use Rattle.change_law.proofs.PlanningLaws.{moves_lead_so, planned_so}
 use Rattle.change_law.proofs.StandingLaws.{graph_by}
 use Rattle.quiesce_commit_laws.proofs.MemberLaws.{any_of}
-use Rattle.change_law.proofs.TestLaws.{all_have, none_counted, rise_if}
+use Rattle.change_law.proofs.TestLaws.{rise_if}
+use Rattle.base.proofs.ListLaws.{all_have, count_by-none}
 
 abbrev all_ports : List ℕ → List Seen → List ℕ
 all_ports ports seen = ports ++ map (λ (d : Seen). d.port) seen
@@ -43,8 +44,8 @@ seen_if ports seen h p = ⊎_elim
     (λ (none : list_any (λ q. q == p) (all_ports ports seen) ≡ false).
     let w = or_parts (list_any (λ q. q == p) ports) (list_any (λ q. q == p) (map (λ (d : Seen). d.port) seen))
     (sym (list_any-append (λ q. q == p) ports (map (λ (d : Seen). d.port) seen)) ∙ none) in
-    none_counted (λ (d : Seen). d.port == p) seen (sym (list_any-map (λ q. q == p) (λ (d : Seen). d.port) seen) ∙ w.1)
-    ∙ sym (none_counted (λ q. q == p) ports w.0))
+    count_by-none (λ (d : Seen). d.port == p) seen (sym (list_any-map (λ q. q == p) (λ (d : Seen). d.port) seen) ∙ w.1)
+    ∙ sym (count_by-none (λ q. q == p) ports w.0))
     (cases_Bool (list_any (λ q. q == p) (all_ports ports seen)))
 
 looks_if : (within : ℕ) (looks : List (List Seen)) → are_looks within looks ≡ true → AreLooks within looks

@@ -1,6 +1,6 @@
 //! Laws of lawful reports: what follows from being one run, and what from their lines.
 
-ghost use Rattle.std.specs.Prelude.{◌≡◌, ◌<◌, ℕ, Bool, true, false, List, [], ◌∷◌, ◌++◌, length, slice_get, All, Some, option_and_then, option_map};
+ghost use Rattle.std.specs.Prelude.{◌≡◌, ◌<◌, ℕ, Bool, true, false, List, [], ◌∷◌, ◌++◌, filter_map, length, slice_get, All, Some, option_and_then, option_map};
 ghost use Rattle.std.specs.List.{list_any};
 ghost use Rattle.base.specs.Each.{Each};
 ghost use Rattle.change_plan.specs.Moves.{MayMoveAll};
@@ -9,6 +9,7 @@ ghost use Rattle.change_plan.specs.declared.plan_data.Move.{Move};
 ghost use Rattle.change_plan.specs.declared.plan_data.Plan.{Plan};
 ghost use Rattle.component_trait.specs.States.{NodeState};
 ghost use Rattle.config_graph.specs.Graph.{Graph};
+ghost use Rattle.quiesce_commit_laws.specs.Steps.{is_shaping};
 ghost use Rattle.quiesce_core.specs.declared.event.Event.{Event};
 ghost use Rattle.quiesce_core.specs.Live.{IsGraphOf};
 ghost use Rattle.quiesce_core.specs.Runs.{IsRun, done_by, is_open_after, state_after};
@@ -23,7 +24,7 @@ ghost use Rattle.change_law.specs.Follows.{Follows, lines_of};
 ghost use Rattle.change_law.specs.Consistent.{Consistent};
 ghost use Rattle.change_law.specs.Found.{IsFound, is_ended_at, is_few_at, is_finish_at, is_run_at, passes_each};
 ghost use Rattle.change_law.specs.Lawful.{IsDrainedAt, IsEndedOnce, IsLawfulBy, IsOfItsKind, IsQuiescentAt, Lawful, LawfulInRounds, LawfulOnThreads, Merge, NumbersInRounds, NumbersOnThreads, StoodOpen, described};
-ghost use Rattle.change_law.specs.Members.{Member, of_history, events, is_commit, lines, without_roots};
+ghost use Rattle.change_law.specs.Members.{Member, of_history, event_of, events, is_commit, lines, without_roots};
 ghost use Rattle.change_law.specs.Opening.{fold_at, fold_of_node, fold_within};
 ghost use Rattle.change_law.specs.Planning.{can_be_planned, planned};
 ghost use Rattle.change_law.specs.Roots.{StoodSinceClose};
@@ -61,9 +62,12 @@ pub fn a_first_number_is_one()
     ensures one { (test : ℕ → Bool) (m n : ℕ) → FirstAt test m → FirstAt test n → m ≡ n }
 {}
 
-/// A script has one report on one thread: what `Serial` says of a report determines it. So does what a plan must be.
+/// A script has one report on one thread: what `Serial` says of a report determines it, and the world in which the
+/// rounds end. So does what a plan must be.
 pub fn there_is_one_report_of_rounds()
     ensures report { (statements : List Statement) (r s : Report) → Serial statements r → Serial statements s → r ≡ s }
+    ensures world { (statements : List Statement) (r s : Report) (a : Serial statements r) (b : Serial statements s)
+        → a.world ≡ b.world }
     ensures plan { (old new : Graph) (moves : List Move) (p q : Plan) → IsPlanOf old new moves p
         → IsPlanOf old new moves q → p ≡ q }
 {}
@@ -74,13 +78,16 @@ pub fn a_configuration_has_one_graph()
 {}
 
 /// At a `show` the graph is the described one of the last commit before it: between the two nothing is made, linked,
-/// unlinked or removed.
+/// unlinked or removed. So it is behind the last commit.
 pub fn a_show_is_of_the_last_commit()
     ensures shown { (statements : List Statement) (report : Report) (m : List Member)
         → Follows statements report.history
         → IsLawfulBy statements report m → (x y after : List Member) (g : Graph)
         → m ≡ x ++ of_history Commit ∷ (y ++ of_history (Show g) ∷ after) → list_any is_commit (lines y) ≡ false
         → described statements (lines x) ≡ Some g }
+    ensures unshaped { (statements : List Statement) (front later : List HistoryLine)
+        → Follows statements (front ++ later)
+        → list_any is_commit later ≡ false → list_any is_shaping (filter_map event_of later) ≡ false }
 {}
 
 /// Each `close` before the lines of the stop is one of those with which a change begins: of the change whose line
@@ -122,6 +129,11 @@ pub fn lawful_reports_are_found_by_tests()
     ensures lawful { (statements : List Statement) (ts : List Told) (seen : List Seen) (m : List Member)
         (report : Report)
         → IsFound statements ts seen m report → Lawful statements report }
+    ensures numbers { (statements : List Statement) (ts : List Told) (seen : List Seen) (m : List Member)
+        (report : Report)
+        → IsFound statements ts seen m report → passes_each is_ended_at [] m ≡ true
+        → passes_each is_few_at [] m ≡ true
+        → (lawful : Lawful statements report) × NumbersInRounds lawful.members }
     ensures on_threads { (statements : List Statement) (ts : List Told) (seen : List Seen) (m : List Member)
         (report : Report)
         → IsFound statements ts seen m report → passes_each is_run_at [] m ≡ true

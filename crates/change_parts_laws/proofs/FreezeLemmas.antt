@@ -18,8 +18,8 @@ use Rattle.change_parts_laws.specs.Freezing.{IsFrozenAt}
 use Rattle.change_parts_laws.specs.Groups.{IsIn}
 use Rattle.change_parts_laws.specs.Stages.{AreLinkedAfter, IsAfter, IsNodeAfter}
 use Rattle.change_parts_laws.specs.Ties.{AreConnected, IsCreated, IsTouchedNode}
-use Rattle.change_parts_laws.proofs.LinkedLemmas.{connected_if_same, linked_at, removed_touched, same_if_connected, to_contained, turned}
-use Rattle.change_parts_laws.proofs.StageLemmas.{connection_linked, end_of_stage, in_left, link_of_stage, linked_connection, node_of_stage, stays_in_stage}
+use Rattle.change_parts_laws.proofs.LinkedLaws.{connected_if_same, linked_at, removed_touched, same_if_connected, to_contained, turned}
+use Rattle.change_parts_laws.proofs.StageLaws.{connection_linked, end_of_stage, in_left, link_of_stage, linked_connection, node_of_stage, stays_in_stage}
 
 not_not : (P : Type 0) → ¬ (¬ (P ⊎ (¬ P)))
 not_not P never = never (inr (λ p. never (inl p)))

@@ -1,9 +1,9 @@
-pub mod LinkedLemmas
-pub mod TieLemmas
-pub mod StageLemmas
+pub mod LinkedLaws
+pub mod TieLaws
+pub mod StageLaws
 pub mod FreezeLemmas
-pub mod PartLemmas
+pub mod PartLaws
 pub mod OneLemmas
 pub mod CountLemmas
 pub mod MovingLemmas
-pub mod RoomLemmas
+pub mod RoomLaws

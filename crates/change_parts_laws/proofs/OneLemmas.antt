@@ -17,7 +17,7 @@ use Rattle.change_parts_laws.specs.Parts.ArePartsFrom.{none_left, then_}
 use Rattle.change_parts_laws.specs.Stages.{AreLinkedAfter, IsAfter, IsNodeAfter}
 use Rattle.change_parts_laws.specs.Ties.Joined.{itself}
 use Rattle.change_parts_laws.specs.declared.part.Part.{Part}
-use Rattle.change_parts_laws.proofs.TieLemmas.{one_group}
+use Rattle.change_parts_laws.proofs.TieLaws.{one_group}
 
 -- a list that begins with two lists, of which one is longer
 front_of : {A : Type 0} (xs xs' ys ys' : List A) → xs ++ xs' ≡ ys ++ ys' → length xs ≤ length ys → take (length xs) ys ≡ xs

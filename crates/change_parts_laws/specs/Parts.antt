@@ -1,10 +1,11 @@
 -- A change in parts: each part takes the fewest groups after which there is no cycle of dependent services.
-use Rattle.std.specs.Prelude.{◌<◌, ◌≡◌, ℕ, List, [], ◌∷◌, ◌++◌, length, take, Some, slice_get, zero, suc}
+use Rattle.std.specs.Prelude.{⊤, ◌<◌, ◌≡◌, ℕ, List, [], ◌∷◌, ◌++◌, length, take, Some, slice_get, zero, suc}
 use Rattle.config_graph.specs.Cycles.{HasCycle, graph_wiring}
 use Rattle.config_graph.specs.Graph.{Graph}
 use Rattle.config_graph.specs.Wiring.{HasNoCycle}
 use Rattle.config_graph.specs.declared.node.Node.{Node}
 use Rattle.change_plan.specs.Applying.{IsAtOneOf}
+use Rattle.change_plan.specs.PlanWithin.{IsPlanWithin}
 use Rattle.change_plan.specs.Plans.{IsPlanOf}
 use Rattle.change_plan.specs.Selects.{Selects}
 use Rattle.change_plan.specs.declared.plan_data.Move.{Move}
@@ -65,3 +66,8 @@ pub record StandsInOne (P : ℕ → Type 0) : Type 0 where
   pub part : ℕ
   pub stands : P part
   pub only : (k : ℕ) → P k → k ≡ part
+
+-- the places in each part's plan are in range: of the stage before it, and of the one after it
+abbrev pub ArePlansWithin : Graph → List Part → Type 0
+ArePlansWithin stage [] = ⊤
+ArePlansWithin stage (p ∷ ps) = IsPlanWithin stage p.next p.plan × ArePlansWithin p.next ps

@@ -50,7 +50,8 @@ use Rattle.change_law.specs.Scene.{Seen, config_after, drained_line, root_line}
 use Rattle.change_law.specs.Scripts.{more_made}
 use Rattle.change_law.specs.Statements.{Statement, start, change, run, finish, show, graph_of}
 use Rattle.change_law.proofs.MemberLaws.{all_parts, changes_are_lines, config_of_lines, events_without_roots, lines_parts}
-use Rattle.change_law.proofs.TestLaws.{none_both, none_counted, none_mapped}
+use Rattle.change_law.proofs.TestLaws.{none_both, none_mapped}
+use Rattle.base.proofs.ListLaws.{count_by-none}
 use Rattle.change_round_laws.specs.Described.{IsLeftAt, LeavesDescribed}
 use Rattle.change_round_laws.specs.SoundStatements.{named_by, AreSound, ChangesSoundly, GoOnSoundly, IsSoundGraph, StartsSoundly, made_of_graph}
 use Rattle.change_round_laws.proofs.AloneLaws.{changes_run}
@@ -132,7 +133,7 @@ pushed_heads done s h ls n heads own one =
     ∙ sym (ap (λ (xs : List Graph). length xs) (filter_map-append graph_of done (s ∷ [])))
 
 one_head : (l : HistoryLine) (xs : List HistoryLine) → is_head l ≡ true → list_any is_head xs ≡ false → count_by is_head (l ∷ xs) ≡ 1
-one_head l xs yes_ none = count_by-append is_head (l ∷ []) xs ∙ (λ i. first i + none_counted is_head xs none i)
+one_head l xs yes_ none = count_by-append is_head (l ∷ []) xs ∙ (λ i. first i + count_by-none is_head xs none i)
   where
     first : count_by is_head (l ∷ []) ≡ 1
     first = rw yes_ refl
@@ -170,7 +171,7 @@ calm_onward statements done s h ls rest g made graphless eventless commitless he
       made = made;
       each = free statements h ls commitless;
       fits = record {
-        heads = pushed_heads done s h ls 0 fits.heads (none_counted is_head ls headless) (ap (λ o. length (cons_option o [])) graphless);
+        heads = pushed_heads done s h ls 0 fits.heads (count_by-none is_head ls headless) (ap (λ o. length (cons_option o [])) graphless);
         sound = fits.sound;
         stands = λ none.
             let before = fits.stands (not_pending h ls none).0 in
@@ -310,7 +311,7 @@ module _ (each_may : EachMayCommit) (by_config : CommitsByConfiguration) (leaves
           let tail = drained_lines looks ++ lines_of_events (commit_events old new plan (config_after (h ++ o))) in
           let s = change name args new within moves in
           let heads : count_by is_head (h ++ (o ++ tail)) ≡ length (filter_map graph_of done) + 1 = count_by-append is_head h (o ++ tail) ∙ (λ i. fits.heads i + front_heads i) in
-          let own : count_by is_head ls ≡ 1 = ap (count_by is_head) are ∙ count_by-append is_head (o ++ tail) (to.Commit ∷ []) ∙ (λ i. front_heads i + none_counted is_head (to.Commit ∷ []) refl i) in
+          let own : count_by is_head ls ≡ 1 = ap (count_by is_head) are ∙ count_by-append is_head (o ++ tail) (to.Commit ∷ []) ∙ (λ i. front_heads i + count_by-none is_head (to.Commit ∷ []) refl i) in
           let all : changes ls ≡ map event.Close (ports_to_close old plan (config_after h)) ++ commit_events old new plan (config_after (h ++ o)) = ap changes (are ∙ append_assoc o tail (to.Commit ∷ [])) ∙ whole_changes in
           let last : config_after (h ++ ls) ≡ config_after (h ++ (o ++ tail)) =
           ap (λ xs. config_after (h ++ xs)) are ∙ ap config_after (sym (append_assoc h (o ++ tail) (to.Commit ∷ []))) ∙ config_more (h ++ (o ++ tail)) (to.Commit ∷ []) in
@@ -438,7 +439,7 @@ module _ (each_may : EachMayCommit) (by_config : CommitsByConfiguration) (leaves
     begun ls are =
         let front = to.Start name args ∷ lines_of_events (start_of g) in
         let heads : count_by is_head front ≡ 1 = one_head (to.Start name args) (lines_of_events (start_of g)) refl (heads_in_events (start_of g)) in
-        let own : count_by is_head ls ≡ 1 = ap (count_by is_head) are ∙ count_by-append is_head front (to.Commit ∷ []) ∙ (λ i. heads i + none_counted is_head (to.Commit ∷ []) refl i) in
+        let own : count_by is_head ls ≡ 1 = ap (count_by is_head) are ∙ count_by-append is_head front (to.Commit ∷ []) ∙ (λ i. heads i + count_by-none is_head (to.Commit ∷ []) refl i) in
         let there : config_after ls ≡ (started g).config = ap config_after are ∙ config_more front (to.Commit ∷ []) ∙ start_config in
         let graph : IsGraphOf (started g).config g = graph_started g says.graph.sound few_nodes few_ports in
         record {
@@ -510,7 +511,7 @@ module _ (each_may : EachMayCommit) (by_config : CommitsByConfiguration) (leaves
   rootless_heads [] = refl
   rootless_heads (l ∷ xs) = ⊎_elim
       (λ (e : is_root l ≡ true).
-      let none : count_by is_head (l ∷ []) ≡ 0 = none_counted is_head (l ∷ []) (rw (root_headless l e) refl) in
+      let none : count_by is_head (l ∷ []) ≡ 0 = count_by-none is_head (l ∷ []) (rw (root_headless l e) refl) in
       let same : count_by is_head xs ≡ count_by is_head (l ∷ []) + count_by is_head xs = omega (arith, none) in
       ap (count_by is_head) (rooted l xs e) ∙ rootless_heads xs ∙ same ∙ sym (count_by-append is_head (l ∷ []) xs))
       (λ (e : is_root l ≡ false).

@@ -1,9 +1,8 @@
 -- The events of a transaction stand in the logs of the two nodes that it engages.
-use Rattle.std.proofs.Common.{◌≡◌, ◌∙◌, ℕ, zero, suc, ◌+◌, ◌<◌, ◌≤◌, Bool, true, false, cond, ◌||◌, List, [], ◌∷◌, ◌++◌, length, map, Option, Some, None, refl, sym, ap, subst, ⊎_elim, arith, inl, inr}
-use Rattle.std.specs.Prelude.{◌⊎◌, ◌==◌, ◌&&◌, All, filter, filter_map, nat_lt, option_map}
+use Rattle.std.proofs.Common.{◌≡◌, ◌∙◌, ℕ, zero, suc, ◌+◌, ◌<◌, ◌≤◌, Bool, true, false, cond, ◌||◌, List, [], ◌∷◌, ◌++◌, length, map, Some, refl, sym, ap, subst, ⊎_elim, arith}
+use Rattle.std.specs.Prelude.{◌==◌, filter, nat_lt}
 use Rattle.std.specs.List.{count_by, list_any, range_with_len}
-use Rattle.std.proofs.lemmas.Bool.{and_parts, both_ways, cases_Bool, cases_eq, eq-eqb, eqb-true, or_left, or_right}
-use Rattle.std.proofs.lemmas.Option.{same_Some}
+use Rattle.std.proofs.lemmas.Bool.{and_parts, both_ways, cases_eq, eq-eqb, eqb-true, or_left, or_right}
 use Rattle.base.proofs.MapLaws.{list_any-map}
 use Rattle.base.proofs.OptionLaws.{option_map_some}
 use Rattle.base.proofs.PlaceLaws.{slice_get-below}
@@ -15,7 +14,6 @@ use Rattle.quiesce_core.specs.Runs.{Begun, IsRun, done_by, initiator, is_begin_o
 use Rattle.quiesce_core.specs.State.{Configuration, State, is_live, owner, slot, target}
 use Rattle.quiesce_core.specs.declared.event.Event.{Event}
 use Rattle.quiesce_core.specs.declared.event.Event.TheVariants as event
-use Rattle.quiesce_core.specs.declared.state.Slot.{Slot}
 use Rattle.quiesce_core.proofs.EngagedLaws.{targets_are_engaged}
 use Rattle.quiesce_core.proofs.InductionLaws.{place}
 use Rattle.quiesce_core.proofs.TableLaws.{live_made}

@@ -25,14 +25,14 @@ use Rattle.quiesce_core.specs.declared.state.Slot.{Slot}
 use Rattle.quiesce_core.proofs.AlterLaws.{reconfigured}
 use Rattle.quiesce_core.proofs.LegalLaws.{legal}
 use Rattle.quiesce_core.proofs.RunLaws.{changes_are_of_no_node, done_by_more, node_events_keep_the_configuration, runs_are_consistent, state_more}
-use Rattle.quiesce_core.proofs.SourceLaws.{sources_are_gone}
+use Rattle.quiesce_core.proofs.SourceLaws.{new_slot, sources_are_gone}
 use Rattle.node_turn_laws.proofs.TurnLaws.{turns_do}
 use Rattle.node_turn_laws.specs.Hints.{after_move, without_hints}
 use Rattle.node_turn_laws.specs.Turn.{turn}
 use Rattle.node_turn_laws.specs.World.{World, first_port, opened, state_of, with_event, with_event_of}
 use Rattle.node_turn_laws.specs.Reached.{IsReached}
 use Rattle.node_turn_laws.proofs.ReachedLaws.{HoldsIn, TurnGoesOn, holds_where_reached, turn_goes_on}
-use Rattle.change_law.proofs.LowerLaws.{lower_after, new_slot, source_there}
+use Rattle.change_law.proofs.LowerLaws.{lower_after, source_there}
 use Rattle.change_law.specs.Opening.{argument_of, fold_at, fold_of_node, fold_within}
 use Rattle.component_trait.specs.Making.{argument_or_0}
 

@@ -1,4 +1,5 @@
 pub mod AloneLaws
+pub mod AskedLaws
 pub mod ClosedPortLaws
 pub mod ClosingLaws
 pub mod CommitGraphLaws

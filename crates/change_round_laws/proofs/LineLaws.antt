@@ -3,8 +3,6 @@ use Rattle.std.proofs.Common.{◌≡◌, ◌∙◌, ℕ, Bool, false, List, [], 
 use Rattle.std.specs.Prelude.{filter, filter_map, fold}
 use Rattle.std.specs.List.{cons_option, list_any}
 use Rattle.std.proofs.lemmas.List.Elements.{filter_map-append}
-use Rattle.quiesce_commit_laws.specs.Steps.{change_all}
-use Rattle.quiesce_commit_laws.proofs.CommitLaws.{after_both}
 use Rattle.quiesce_core.specs.declared.event.Event.{Event}
 use Rattle.quiesce_core.specs.declared.event.Event.TheVariants as event
 use Rattle.quiesce_core.specs.Doers.{is_of_change}
@@ -15,8 +13,9 @@ use Rattle.quiesce_core.proofs.RunLaws.{changes_make_the_configuration}
 use Rattle.report_types.specs.declared.report.HistoryLine.{HistoryLine}
 use Rattle.report_types.specs.declared.report.HistoryLine.TheVariants as to
 use Rattle.change_law.specs.Members.{event_of, line_of, lines_of_events}
-use Rattle.change_law.specs.Scene.{Seen, config_after, drained_line, root_line}
+use Rattle.change_law.specs.Scene.{Seen, config_after, root_line}
 use Rattle.change_law.proofs.MemberLaws.{kept_change}
+pub use Rattle.change_law.proofs.PortLaws.{closed_events as changes_of_closes, config_more, no_events_drained as changes_of_looks}
 
 -- the events of lines
 abbrev pub changes : List HistoryLine → List Event
@@ -33,20 +32,9 @@ changes_both h k = filter_map-append event_of h k
 pub config_of : (h : List HistoryLine) → (state_after (changes h)).config ≡ config_after h
 config_of h = changes_make_the_configuration (changes h) ∙ ap (λ es. fold change_next empty.config es) (all_changes h)
 
-pub config_more : (h k : List HistoryLine) → config_after (h ++ k) ≡ change_all (config_after h) (changes k)
-config_more h k = ap (change_all empty.config) (changes_both h k) ∙ after_both empty.config (changes h) (changes k)
-
-pub changes_of_closes : (ports : List ℕ) → changes (map to.Close ports) ≡ map event.Close ports
-changes_of_closes [] = refl
-changes_of_closes (p ∷ ports) = ap (λ es. event.Close p ∷ es) (changes_of_closes ports)
-
 pub changes_of_reopens : (ports : List ℕ) → changes (map to.Reopen ports) ≡ map event.Reopen ports
 changes_of_reopens [] = refl
 changes_of_reopens (p ∷ ports) = ap (λ es. event.Reopen p ∷ es) (changes_of_reopens ports)
-
-pub changes_of_looks : (seen : List Seen) → changes (map drained_line seen) ≡ []
-changes_of_looks [] = refl
-changes_of_looks (d ∷ seen) = changes_of_looks seen
 
 pub changes_of_roots : (left : List Seen) → changes (map root_line left) ≡ []
 changes_of_roots [] = refl

@@ -1,15 +1,13 @@
 -- What is named as open is what the last look left.
 use Rattle.std.proofs.Common.{◌≡◌, ◌∙◌, ℕ, zero, suc, Bool, true, false, cond, not, List, [], ◌∷◌, ◌++◌, append_assoc, length, map, refl, sym, ap, subst, arith}
 use Rattle.std.specs.Prelude.{◌==◌, ℤ, filter}
-use Rattle.std.specs.List.{list_any}
 use Rattle.std.proofs.lemmas.Bool.{ne_eqb, not-true}
 use Rattle.std.proofs.lemmas.List.Elements.{filter-append}
 use Rattle.base.specs.Each.{Each, EachAfter}
 use Rattle.base.proofs.EachLaws.{each_pushed}
 use Rattle.config_graph.specs.Graph.{Graph}
 use Rattle.change_law.specs.Changes.{commit_lines, drained_lines, opening_lines, pending_lines, seen_in_all}
-use Rattle.change_law.specs.Follows.{start_lines}
-use Rattle.change_law.specs.Members.{is_pending, is_root, lines_of_events}
+use Rattle.change_law.specs.Members.{is_root, lines_of_events}
 use Rattle.change_law.specs.Scene.{Seen, drained_line, root_line}
 use Rattle.change_law.specs.Serial.{ChangesTo, IsPlayed, Played, Plays, StopsAt, looks_after, seen_at, world_after}
 use Rattle.change_law.specs.Statements.{Statement, start, change, run, finish, show}
@@ -19,7 +17,7 @@ use Rattle.report_types.specs.declared.report.HistoryLine.{HistoryLine}
 use Rattle.report_types.specs.declared.report.HistoryLine.TheVariants as to
 use Rattle.quiesce_commit_laws.specs.Lists.{In}
 use Rattle.change_plan_laws.specs.Commit.{commit_events, ports_to_close}
-use Rattle.quiesce_core.specs.State.{Configuration, State, exchange, gate}
+use Rattle.quiesce_core.specs.State.{Configuration, exchange, gate}
 use Rattle.quiesce_core.specs.declared.event.Event.{Event}
 use Rattle.quiesce_core.specs.declared.event.Event.TheVariants as event
 use Rattle.quiesce_laws.specs.Drained.{is_drained}

@@ -45,7 +45,7 @@ use Rattle.change_law.specs.Endings.{moved_to}
 use Rattle.change_law.specs.Follows.{Follows, IsRight, IsStop, Part, lines_of}
 use Rattle.change_law.specs.Lawful.{EndsAs, IsDrainedAt, IsEndedAt, IsEndedOnce, IsFewAt, IsFolded, IsGraphAt, IsGraphDescribed, IsLawfulBy, IsLogIn, IsOfItsKind, IsQuiescentAt, Merge, NumbersInRounds, is_unfinished, unfinished_of}
 use Rattle.change_law.specs.Lawful as lawful
-use Rattle.change_law.specs.Members.{Member, of_history, event_of, events, lines, made_slot}
+use Rattle.change_law.specs.Members.{Member, of_history, event_of, events, made_slot}
 use Rattle.change_law.specs.Opening.{fold_of_node}
 use Rattle.change_law.specs.Serial.{IsPlayed, Played, Plays, Serial, is_left_undone, last_of, lines_played, log_of, report_of, unfinished_in, world_after}
 use Rattle.change_law.specs.Statements.{Statement, start, change, run, finish, show, is_finish}

@@ -30,7 +30,7 @@ use Rattle.quiesce_commit_laws.specs.Steps.{live_ports}
 use Rattle.quiesce_commit_laws.proofs.GateLaws.{live_listed}
 use Rattle.change_law.specs.Serial.{after_changes, looks_after}
 use Rattle.change_law.proofs.MemberLaws.{all_parts, events_of_nodes, events_parts}
-use Rattle.change_law.proofs.TestLaws.{some_counted}
+use Rattle.base.proofs.ListLaws.{count_by-some}
 use Rattle.change_round_laws.specs.Courses.{Course}
 use Rattle.change_round_laws.specs.Existing.{StopsEnd}
 use Rattle.change_round_laws.proofs.ClosingLaws.{shut, shut_at}
@@ -75,7 +75,7 @@ advances_or_begins (e ∷ es) h =
 
 none_begins : (es : List Event) → count_by is_begin es ≡ 0 → list_any is_begin es ≡ false
 none_begins es none = ⊎_elim
-    (λ (h : list_any is_begin es ≡ true). let some_ = some_counted is_begin es h in absurd (omega (arith, none, some_)))
+    (λ (h : list_any is_begin es ≡ true). let some_ = count_by-some is_begin es h in absurd (omega (arith, none, some_)))
     (λ (h : list_any is_begin es ≡ false). h)
     (cases_Bool (list_any is_begin es))
 

@@ -17,7 +17,10 @@ pub use engaging::two_logs_have_each_transaction;
 pub use folding::states_are_folds_of_own_events;
 pub use planning::{a_sound_script_has_a_report_where_stops_end, sound_scripts_have_plans};
 pub use rounds::{reports_of_rounds_are_lawful, runs_come_to_an_end};
-pub use saying::{a_script_has_one_list_of_statements, sound_scripts_have_sound_statements};
+pub use saying::{
+    a_script_has_one_list_of_statements, sound_scripts_have_sound_statements,
+    what_may_be_asked_has_sound_statements,
+};
 pub use waiting::{
     changes_drain_within_what_is_left, open_lines_name_what_the_last_look_saw,
     rounds_drain_what_is_left,

@@ -4,8 +4,11 @@ ghost use Rattle.std.specs.Prelude.{◌≡◌, ℕ, ℤ, List, Option, Some};
 ghost use Rattle.config_graph.specs.Graph.{Graph};
 ghost use Rattle.change_script.specs.ScriptFiles.{IsScript};
 ghost use Rattle.report_types.specs.declared.script.Script.{Script};
+ghost use Rattle.change_law.specs.Asked.{CanDoAll, CanStart, after_start, statements_of};
 ghost use Rattle.change_law.specs.Scripts.{StatementsOf};
 ghost use Rattle.change_law.specs.Statements.{Statement};
+ghost use Rattle.change_law.specs.declared.steps.Start.{Start};
+ghost use Rattle.change_law.specs.declared.steps.Step.{Step};
 ghost use Rattle.change_round_laws.specs.SoundStatements.{AreSound, IsSoundGraph, elaborates_by};
 
 /// A script has at most one list of statements, where each description elaborates to at most one graph.
@@ -21,4 +24,10 @@ pub fn sound_scripts_have_sound_statements()
         → ((file name : List ℕ) (args : List ℤ) (g : Graph) → elab file name args ≡ Some g → IsSoundGraph g)
         → (text : List ℕ) (script : Script) → IsScript text script → (statements : List Statement)
         → StatementsOf (elaborates_by elab) script statements → AreSound statements }
+{}
+
+/// So are those of steps, where the system may be started and each step may be asked for.
+pub fn what_may_be_asked_has_sound_statements()
+    ensures sound { (start : Start) (steps : List Step) → CanStart start → CanDoAll (after_start start) steps
+        → AreSound (statements_of start steps) }
 {}

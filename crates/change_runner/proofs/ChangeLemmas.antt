@@ -11,8 +11,7 @@ use Rattle.quiesce_core.specs.Live.{IsGraphOf}
 use Rattle.quiesce_core.specs.declared.event.Event.TheVariants as event
 use Rattle.report_types.specs.declared.report.HistoryLine.TheVariants as to
 use Rattle.change_law.specs.Scripts.{more_made}
-use Rattle.txn_records.specs.declared.entry.Entry.{Entry}
-use Rattle.change_board.specs.Steps.{Room, events_of}
+use Rattle.change_board.specs.Steps.{events_of}
 use Rattle.change_board.specs.Transcripts.{Item, said}
 use Rattle.change_engine.specs.Calls.{HasAbandoned, HasCommitted, HasLeft, HasPassivated, HasPrepared}
 use Rattle.change_engine.specs.Carrying.{deed_items}

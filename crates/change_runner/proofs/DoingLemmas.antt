@@ -4,7 +4,7 @@ use Rattle.std.specs.Prelude.{◌||◌, IfOk}
 use Rattle.std.proofs.lemmas.Bool.{both_ways}
 use Rattle.change_plan_laws.specs.Committing.{made_in}
 use Rattle.report_types.specs.declared.report.HistoryLine.TheVariants as to
-use Rattle.txn_records.specs.declared.entry.Entry.{Entry}
+use Rattle.change_board.specs.declared.board.Board.{Ghosts as BoardWords}
 use Rattle.change_board.specs.Scans.{look_entry}
 use Rattle.change_board.specs.Transcripts.{Item, said}
 use Rattle.change_engine.specs.Calls.{HasFinished, HasRun, HasShown, HasSkipped, skip_items}
@@ -18,7 +18,6 @@ use Rattle.change_transcript_laws.proofs.PendingLaws.{pending_both, quiet_none}
 use Rattle.change_runner.specs.Doing.{Carried, is_given_up}
 use Rattle.change_law.specs.declared.steps.Replacement.{Replacement}
 use Rattle.change_law.specs.declared.steps.Step.TheVariants as steps
-use Rattle.change_board.specs.declared.board.Board.{Ghosts as BoardWords}
 use Rattle.std.proofs.Math.Bool.{or-false}
 
 pub in_ok : {A E : Type 0} (P Q : A → Type 0) → ((x : A) → P x → Q x) → (r : Result A E) → IfOk r P → IfOk r Q
@@ -34,7 +33,7 @@ module _ {B : Type 0} (W : BoardWords B) (e f : Engine B) where
       let es = map look_entry x.looks ++ all_entries x.scans in
       record {
         items = silent_items es ++ said (to.Run k ended) ∷ [];
-        done = record { looks = x.looks; at_ports = x.at_ports t idle; scans = x.scans; are_scans = x.are_scans t idle; go_on = x.go_on; ends = x.ends; ended = ended; ended_is = x.ended_is; are = refl };
+        done = record { looks = x.looks; at_ports = x.at_ports t idle; scans = x.scans; are_scans = x.are_scans t idle; twice = λ is. x.twice is t idle; go_on = x.go_on; ends = x.ends; ended = ended; ended_is = x.ended_is; are = refl };
         told = quiet_commits_none es (to.Run k ended) refl;
         idle = x.goes t idle;
         flag = flag ∙ sym (kept t (silent_items es ++ said (to.Run k ended) ∷ []) (quiet_none es (to.Run k ended) refl));
@@ -51,6 +50,7 @@ module _ {B : Type 0} (W : BoardWords B) (e f : Engine B) where
           scans = x.scans;
           few = x.few;
           are_scans = x.are_scans t idle;
+          twice = λ is. x.twice is t idle;
           ends = x.ends;
           are = ap (λ r. silent_items es ++ said (to.Finish n r) ∷ []) x.rounds_are;
         };

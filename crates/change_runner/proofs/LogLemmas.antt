@@ -1,11 +1,10 @@
 -- Each log of what was carried out is of a node that the history makes once.
-use Rattle.std.proofs.Common.{◌≡◌, ◌∙◌, ◌==◌, ◌+◌, ◌<◌, ℕ, zero, suc, Bool, false, List, [], ◌∷◌, length, map, refl, ap, subst, arith, inl, inr}
+use Rattle.std.proofs.Common.{◌≡◌, ◌∙◌, ◌==◌, ◌+◌, ◌<◌, ℕ, zero, suc, false, List, [], ◌∷◌, length, map, refl, ap, subst, arith, inl, inr}
 use Rattle.std.specs.Prelude.{All, filter, filter_map}
 use Rattle.std.specs.List.{range_with_len}
 use Rattle.std.proofs.lemmas.Bool.{cases_Bool, cond-false, cond-true, eq-eqb, eqb-true}
 use Rattle.std.proofs.lemmas.List.Elements.{All-cons, All-nil}
 use Rattle.base.proofs.PlaceLaws.{heads_are, tails_are}
-use Rattle.quiesce_core.specs.declared.event.Event.{Event}
 use Rattle.report_writing.specs.Reports.{HasOneMake, LogsAreMade, SlotPath, makes}
 use Rattle.report_types.specs.declared.report.HistoryLine.{HistoryLine}
 use Rattle.report_types.specs.declared.report.HistoryLine.TheVariants as to

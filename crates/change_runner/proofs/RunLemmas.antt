@@ -11,13 +11,11 @@ use Rattle.change_plan.specs.Refusals.{CanPlan}
 use Rattle.change_plan_laws.specs.Committing.{made_in}
 use Rattle.quiesce_core.specs.Live.{IsGraphOf}
 use Rattle.quiesce_core.specs.State.{Configuration, empty}
-use Rattle.quiesce_core.specs.declared.event.Event.{Event}
 use Rattle.report_types.specs.declared.report.NodeLog.{NodeLog}
 use Rattle.report_types.specs.declared.report.Report.{Report}
 use Rattle.change_law.specs.Statements as statements
 use Rattle.change_board.specs.Collecting.{IsEndOf, first_undone}
 use Rattle.txn_records.specs.Entries.{config_of}
-use Rattle.txn_records.specs.declared.entry.Entry.{Entry}
 use Rattle.change_board.specs.Transcripts.{Item, entries, lines}
 use Rattle.change_engine.specs.Beginning.{start_items}
 use Rattle.change_engine.specs.Calls.{HasStarted, HasStopped}

@@ -18,7 +18,7 @@ use Rattle.txn_records.proofs.RecordLaws.{config_is}
 use Rattle.quiesce_word.specs.Phases.{is_idle}
 use Rattle.quiesce_word.specs.Words as words
 use Rattle.quiesce_word.specs.declared.word.Word.{Word}
-use Rattle.change_board.specs.Scans.{Found, is_idle_if_live, live_nodes, look_entry, ports_of, scan_entries}
+use Rattle.change_board.specs.Scans.{Found, IsSeenTwice, is_as_long, is_idle_if_live, is_seen_as_before, live_nodes, look_entry, ports_of, scan_entries}
 use Rattle.change_board.specs.Sights.{Sight, is_seen_done, seen_in, sight_entry}
 use Rattle.change_law.specs.Lawful.{is_idle_after}
 use Rattle.quiesce_core.specs.Fields.{fields_of}
@@ -30,7 +30,7 @@ use Rattle.quiesce_core.specs.declared.event.Event.{Event}
 use Rattle.quiesce_core.proofs.RunLaws.{fronts_are_runs, runs_are_well_formed}
 use Rattle.quiesce_core.proofs.TableLaws.{live_made}
 use Rattle.quiesce_core.proofs.WordLaws.{port_words_decode}
-use Rattle.change_transcript_laws.specs.Rests.{AreAtRest, AreByNodes, AreQuiet, IsSeenTwice, is_as_long, is_seen_as_before}
+use Rattle.change_transcript_laws.specs.Rests.{AreAtRest, AreByNodes, AreQuiet}
 use Rattle.change_transcript_laws.proofs.SeenFolds.{seen_is_done, seen_there}
 use Rattle.change_transcript_laws.proofs.Shown.{events_both, log_shown}
 use Rattle.change_transcript_laws.proofs.Still.{by_nodes_parts, gone_log, log_grows, log_same_if, nothing_done, same_config}

@@ -41,9 +41,10 @@ use Rattle.change_engine.specs.Draining.{pending_items}
 use Rattle.change_transcript_laws.specs.Pieces.{AreCommitItems, IsDone, AreAbandonItems, AreStartItems, AreStopItems, IsTranscript, AreChangeItems, Piece, config_at, items_of, opening_items, IsDonePiece}
 use Rattle.change_transcript_laws.proofs.ItemLemmas.{AreFair, fair_both, fair_config, fair_deeds, fair_passivation, fair_run, fair_scans, fair_sights, fair_roots}
 use Rattle.change_transcript_laws.proofs.LookLemmas.{all_are_seen, looks_are, none_left_seen}
-use Rattle.change_law.proofs.PortLaws.{closing_rise, config_more, still_to_close}
+use Rattle.change_law.proofs.PortLaws.{closed_events, closing_rise, config_more, no_events_drained, still_to_close}
 use Rattle.change_engine.proofs.ItemLaws.{lines_both, silent_lines, sight_lines, carried_lines, all_mapped, start_is_of_change}
-use Rattle.change_engine.proofs.PassivationLaws.{closed_events, no_events_drained, looks_of, passivation_lines, seen_root, root_lines, reopen_lines}
+use Rattle.change_engine.proofs.PassivationLaws.{looks_of, passivation_lines, seen_root, root_lines}
+use Rattle.change_law.proofs.ClosingLaws.{reopen_lines}
 use Rattle.change_engine.specs.Stopping.{stop_items}
 
 -- ---- the events of commits are all the change's

@@ -1,14 +1,13 @@
 -- The graphs at the commit lines of a history, as it grows statement by statement.
-use Rattle.std.proofs.Common.{◌≡◌, ◌∙◌, ℕ, ◌+◌, ◌<◌, Bool, true, false, cond, List, [], ◌∷◌, ◌++◌, append_assoc, length, Option, Some, None, refl, sym, ap, subst, ⊎_elim, inl, inr, arith}
-use Rattle.std.specs.Prelude.{◌⊎◌, ◌||◌, ℤ, filter_map, flat_map, map, option_to_list, slice_get}
-use Rattle.std.specs.List.{count_by, list_any}
+use Rattle.std.proofs.Common.{◌≡◌, ◌∙◌, ℕ, ◌+◌, Bool, true, false, cond, List, [], ◌∷◌, ◌++◌, append_assoc, length, Option, Some, None, refl, sym, ap, subst, ⊎_elim, inl, inr, arith}
+use Rattle.std.specs.Prelude.{◌⊎◌, ◌||◌, ℤ, filter_map, flat_map, option_to_list}
+use Rattle.std.specs.List.{list_any}
 use Rattle.std.proofs.lemmas.Bool.{both_ways, or_parts}
 use Rattle.std.proofs.lemmas.List.{append-nil, length-append}
 use Rattle.std.proofs.lemmas.List.Elements.{filter_map-append}
 use Rattle.std.proofs.lemmas.List.Folds.{list_any-append}
 use Rattle.std.proofs.lemmas.List.Sums.{sum_by-cons}
 use Rattle.std.proofs.lemmas.Option.{slice_get_within}
-use Rattle.base.proofs.EachLaws.{each_pushed}
 use Rattle.base.proofs.MapLaws.{count_by-append}
 use Rattle.base.proofs.PlaceLaws.{heads_are, slice_get-append_front, tails_are}
 use Rattle.config_graph.specs.Graph.{Graph}

@@ -25,9 +25,9 @@ mod Still
 mod Shown
 mod SeenFolds
 mod AtOnce
-mod RestCore
 mod RestLaws
 mod Resting
 mod StaysLaws
 mod EndFolds
+mod EarlyLaws
 mod WaitLemmas

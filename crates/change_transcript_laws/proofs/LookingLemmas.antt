@@ -11,7 +11,7 @@ use Rattle.base.proofs.MapLaws.{count_by-append}
 use Rattle.base.proofs.RangeLaws.{range_has}
 use Rattle.quiesce_core.specs.Rules.{is_live_port}
 use Rattle.quiesce_core.specs.State.{Configuration, is_live, owner}
-use Rattle.change_law.proofs.TestLaws.{some_counted}
+use Rattle.base.proofs.ListLaws.{count_by-some}
 use Rattle.txn_records.specs.declared.entry.Entry.{Entry}
 use Rattle.txn_records.specs.declared.entry.Entry.TheVariants.{Scanned}
 use Rattle.change_board.specs.Bearing.{looks_at}
@@ -77,7 +77,7 @@ module _ (p : ℕ) where
     looked_scan : (w : ScanSeen) → IsScanIn alone c w → 1 ≤ looked (seen_entries w)
     looked_scan w is =
         let made = ltb-true p (length c.gates) (and_parts (nat_lt p (length c.gates)) (is_live c (owner c p)) live).0 in
-        let there = some_counted is_port (range_with_len 0 (length c.gates)) (range_has is_port 0 (length c.gates) p (omega arith) (omega (arith, made)) (eq-eqb p p refl)) in
+        let there = count_by-some is_port (range_with_len 0 (length c.gates)) (range_has is_port 0 (length c.gates) p (omega arith) (omega (arith, made)) (eq-eqb p p refl)) in
         let sights = map sight_entry w.sights in
         let looks = map look_entry w.found in
         omega (

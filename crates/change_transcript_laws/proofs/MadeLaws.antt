@@ -2,7 +2,6 @@
 use Rattle.std.proofs.Common.{◌≡◌, ◌∙◌, ℕ, ◌+◌, Bool, true, false, cond, List, [], ◌∷◌, ◌++◌, length, length-append, length-set, set, Option, Some, None, refl, sym, ap, arith}
 use Rattle.std.specs.Prelude.{filter, filter_map, option_and_then}
 use Rattle.std.specs.List.{cons_option, range_with_len, sum_by}
-use Rattle.std.specs.Option.{option_map_or}
 use Rattle.std.proofs.lemmas.Bool.{and_parts, both_ways, eqb-true}
 use Rattle.std.proofs.lemmas.List.{append-nil, length-map}
 use Rattle.std.proofs.lemmas.List.Elements.{filter_map-append}
@@ -19,7 +18,7 @@ use Rattle.quiesce_core.specs.State.{Configuration, State, slot}
 use Rattle.quiesce_core.specs.declared.event.Event.{Event}
 use Rattle.quiesce_core.specs.declared.event.Event.TheVariants.{Begin, Call, Take, Give, End, More, Ask, Hear, Miss, Close, Reopen, Make, Link, Unlink, Remove}
 use Rattle.quiesce_core.specs.declared.state.Gate.{Gate}
-use Rattle.quiesce_core.specs.declared.state.Slot.{Slot}
+use Rattle.quiesce_core.proofs.AlterLaws.{removed_length}
 use Rattle.quiesce_core.proofs.InductionLaws.{IsNext, along, unbarred, none_barred}
 use Rattle.quiesce_core.proofs.RunLaws.{effect_config}
 use Rattle.report_types.specs.declared.report.HistoryLine.{HistoryLine}
@@ -35,16 +34,12 @@ abbrev pub ports_made : Event → ℕ
 ports_made (Make n node from) = length (row node.kind).requires_
 ports_made _ = 0
 
-removed_long : (c : Configuration) (n : ℕ) (o : Option Slot) → length (option_map_or (λ (m : Slot). set c.slots n (record m { live = false })) o c.slots) ≡ length c.slots
-removed_long c n None = refl
-removed_long c n (Some m) = length-set c.slots n (record m { live = false })
-
 same_length : {A : Type 0} (xs : List A) → length xs ≡ length xs + 0
 same_length xs = omega arith
 
 pub slots_next : (c : Configuration) (e : Event) → length (change_next c e).slots ≡ length c.slots + nodes_made e
 slots_next c (Make n node from) = length-append c.slots (record { node = node; first_port = length c.gates; from = from; live = true } ∷ [])
-slots_next c (Remove n) = removed_long c n (slot c n) ∙ same_length c.slots
+slots_next c (Remove n) = removed_length c n (slot c n) ∙ same_length c.slots
 slots_next c _ = same_length c.slots
 
 set_long : (xs : List Gate) (p : ℕ) (g : Gate) → length (set xs p g) ≡ length xs + 0

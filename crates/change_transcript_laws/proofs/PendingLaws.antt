@@ -25,8 +25,8 @@ use Rattle.change_engine.specs.Draining.{pending_items, root_item}
 use Rattle.change_transcript_laws.specs.Pieces.{config_at, opening_items}
 use Rattle.change_transcript_laws.proofs.ItemLemmas.{config_over, is_aside, fair_events, fair_passivation, fair_roots}
 use Rattle.change_transcript_laws.proofs.LineLemmas.{both_lines, none_both, none_deeds, none_passivation, silent_line}
-use Rattle.change_law.proofs.PortLaws.{still_to_close}
-use Rattle.change_engine.proofs.PassivationLaws.{closed_events, no_events_drained, looks_of, passivation_lines}
+use Rattle.change_law.proofs.PortLaws.{closed_events, no_events_drained, still_to_close}
+use Rattle.change_engine.proofs.PassivationLaws.{looks_of, passivation_lines}
 
 abbrev pub is_one_given_up : List Item → Bool
 is_one_given_up t = list_any is_pending (lines t)

@@ -1,6 +1,7 @@
--- Behind a run or a finish whose number is short, all came to rest since the line before: on any board but one that is alone.
+-- Behind a run or a finish whose number is short, all was at rest at one place since the line before: on any board but one
+-- that is alone.
 use Rattle.std.proofs.Common.{◌≡◌, ◌∙◌, ℕ, ◌≤◌, ◌<◌, Bool, true, false, cond, List, [], ◌∷◌, ◌++◌, append_assoc, length, map, Some, None, refl, sym, ap, subst, ⊎_elim, arith, inl, inr}
-use Rattle.std.specs.Prelude.{⊤, ◌⊎◌, ◌||◌, ◌&&◌, All, flat_map, fold, nat_le, nat_lt, not}
+use Rattle.std.specs.Prelude.{⊤, ◌⊎◌, ◌||◌, ◌&&◌, flat_map, fold, nat_le, nat_lt, not}
 use Rattle.std.specs.List.{AllByRecursion, list_any}
 use Rattle.std.proofs.Math.Bool.{or-false}
 use Rattle.std.proofs.lemmas.Bool.{both_ways, cases_Bool, leb-true, ltb-false, ltb-true, or_parts}
@@ -9,36 +10,33 @@ use Rattle.std.proofs.lemmas.List.Elements.{filter_map-append}
 use Rattle.std.proofs.lemmas.List.Sums.{sum_by-cons}
 use Rattle.std.proofs.lemmas.Option.{none-some, same_Some}
 use Rattle.base.specs.Each.{Each, EachAfter}
-use Rattle.base.proofs.EachLaws.{each_carried, each_joined, each_parts, each_weaker}
+use Rattle.base.proofs.EachLaws.{each_carried, each_joined, each_parts, each_pushed, each_weaker}
 use Rattle.quiesce_core.specs.Runs.{IsRun, state_after}
 use Rattle.quiesce_core.specs.State.{is_live}
 use Rattle.quiesce_core.specs.declared.event.Event.{Event}
 use Rattle.report_types.specs.declared.report.HistoryLine.{HistoryLine}
 use Rattle.report_types.specs.declared.report.HistoryLine.TheVariants as to
-use Rattle.change_law.specs.Lawful.{CameToRest, HeldSince, IsEndedAt, IsFinishAt, IsRunAt, NumbersOnThreads, is_done, is_idle_after}
+use Rattle.change_law.specs.Lawful.{CameToRest, HeldSince, IsEndedAt, IsFinishAt, IsRunAt, NumbersOnThreads, is_idle_after}
 use Rattle.change_law.specs.Members as members
 use Rattle.change_law.specs.Members.{Member, by_node, of_history, is_pending}
 use Rattle.change_law.specs.Statements.{Statement, start, change, run, finish, show}
-use Rattle.quiesce_commit_laws.specs.Steps.{live_ports}
 use Rattle.txn_records.specs.Records as records
 use Rattle.txn_records.specs.Records.{IsRecordOf, IsSo, Moment}
 use Rattle.txn_records.specs.declared.entry.Entry.{Entry}
-use Rattle.txn_records.proofs.RecordLaws.{config_is}
-use Rattle.change_board.specs.Scans.{look_entry, all_ports}
+use Rattle.change_board.specs.Scans.{IsSeenTwice, look_entry, all_ports}
 use Rattle.change_board.specs.Sights.{sight_entry}
 use Rattle.change_board.specs.Transcripts.{Item, said, entries, lines}
 use Rattle.change_engine.specs.Carrying.{deed_items, sight_item}
-use Rattle.change_engine.specs.Finishing.{EndsAfter, EndsWith, ScansGoOn, IsScanIn, ScanSeen, all_entries, count_of, rounds_in, seen_entries}
+use Rattle.change_engine.specs.Finishing.{EndsAfter, EndsWith, SawTwice, ScansGoOn, ScanSeen, all_entries, count_of, rounds_in, seen_entries}
 use Rattle.change_engine.specs.Passivating.{silent_items}
 use Rattle.change_engine.specs.Running.{ends_run, is_out_after}
 use Rattle.change_engine.specs.Stopping.{stop_items}
 use Rattle.change_engine.proofs.ItemLaws.{sight_lines, silent_entries}
-use Rattle.quiesce_core.proofs.RunLaws.{fronts_are_runs}
 use Rattle.change_transcript_laws.proofs.Still.{same_config}
 use Rattle.quiesce_core.specs.Rules.{is_live_port}
 use Rattle.change_transcript_laws.specs.Joining.{AreJoined, Joint, of_node, of_line, of_entry, item_of, items_in, member_of, members_in, moment_of, moments_in}
-use Rattle.change_transcript_laws.specs.Pieces.{IsDone, IsTranscript, Piece, config_at, items_of}
-use Rattle.change_transcript_laws.specs.Rests.{AreAtRest, AreByNodes, AreQuiet, IsSeenTwice, RestedAtOnce}
+use Rattle.change_transcript_laws.specs.Pieces.{IsDone, IsTranscript, Piece, items_of}
+use Rattle.change_transcript_laws.specs.Rests.{AreAtRest, AreQuiet, RestedAtOnce, RestedIfShort}
 use Rattle.change_transcript_laws.proofs.Shown.{events_both}
 use Rattle.change_transcript_laws.proofs.AtOnce.{all_through, at_rest, by_nodes_if, split_at, quiet_both, quiet_looks, quiet_sights}
 use Rattle.change_transcript_laws.proofs.FollowLaws.{fair_transcript, items_pushed}
@@ -48,7 +46,6 @@ use Rattle.change_transcript_laws.proofs.LawfulLaws.{all_known, line_there}
 use Rattle.change_transcript_laws.proofs.LineLemmas.{any_line, none_both, none_deeds, none_passivation, none_silent}
 use Rattle.change_transcript_laws.proofs.LookingLemmas.{few_rounds}
 use Rattle.change_transcript_laws.proofs.NumberLaws.{first_line, is_number_line, line_test, no_number_entry, nodes_alone, none_aside, runs_ended, split_items, tried_none}
-use Rattle.change_transcript_laws.proofs.RestCore.{HeldIn, node_rests, ports_rest}
 
 -- ---- scans of which the last saw all at rest
 
@@ -79,10 +76,6 @@ quiet_scans : (scans : List ScanSeen) → AreQuiet (all_entries scans)
 quiet_scans [] = tt
 quiet_scans (w ∷ scans) = quiet_both (seen_entries w) (all_entries scans) (quiet_scan w) (quiet_scans scans)
 
-last_of_all : (P : ScanSeen → Type 0) (bs : List ScanSeen) (w : ScanSeen) → AllByRecursion P (bs ++ w ∷ []) → P w
-last_of_all P [] w h = h.0
-last_of_all P (x ∷ bs) w h = last_of_all P bs w h.1
-
 abbrev one_unless : Bool → ℕ
 one_unless b = cond b 0 1
 
@@ -105,8 +98,7 @@ pub record RestTold (before : List Item) : Type 0 where
   pub quiet : AreQuiet first
   pub scan : ScanSeen
   pub parts : before ≡ pre ++ silent_items (first ++ seen_entries scan)
-  pub is_scan : IsScanIn false (config_at pre) scan
-  pub done : scan.answer.done ≡ true
+  pub twice : IsSeenTwice (entries pre ++ first) scan.sights
 
 abbrev IsRestTold : List Item → Item → Type 0
 IsRestTold before (said (to.Run k n)) = (k ≤ n) ⊎ RestTold before
@@ -123,23 +115,23 @@ all_none before [] h = tt
 all_none before (x ∷ u) h =
     let w = or_parts (line_test x) (any_line is_number_line u) (sym (first_line x u) ∙ h) in (none_here before x w.0, all_none (before ++ x ∷ []) u w.1)
 
-rested : (before : List Item) (looks : List Entry) (scans : List ScanSeen) → AreQuiet looks → AllByRecursion (IsScanIn false (config_at before)) scans → LastDone scans → RestTold (before ++ silent_items (looks ++ all_entries scans))
-rested before looks scans quiet are l = record {
+rested : (before : List Item) (looks : List Entry) (scans : List ScanSeen) → AreQuiet looks → Each (SawTwice (entries before ++ looks)) scans → LastDone scans → RestTold (before ++ silent_items (looks ++ all_entries scans))
+rested before looks scans quiet saw l = record {
   pre = before;
   first = looks ++ all_entries l.bs;
   quiet = quiet_both looks (all_entries l.bs) quiet (quiet_scans l.bs);
   scan = l.w;
   parts = ap (λ k. before ++ silent_items k) (ap (λ k. looks ++ all_entries k) l.parts ∙ ap (λ k. looks ++ k) (all_last l.bs l.w) ∙ sym (append_assoc looks (all_entries l.bs) (seen_entries l.w)));
-  is_scan = last_of_all (IsScanIn false (config_at before)) l.bs l.w (subst (AllByRecursion (IsScanIn false (config_at before))) l.parts are);
-  done = l.done;
+  twice = subst (λ r. IsSeenTwice r l.w.sights) (append_assoc (entries before) looks (all_entries l.bs))
+      (((each_pushed (SawTwice (entries before ++ looks)) l.bs l.w).0 (subst (Each (SawTwice (entries before ++ looks))) l.parts saw)).1 l.done);
 }
 
-finish_told : (before : List Item) (n : ℕ) (scans : List ScanSeen) → length scans ≤ n → AllByRecursion (IsScanIn false (config_at before)) scans → EndsAfter false n scans
+finish_told : (before : List Item) (n : ℕ) (scans : List ScanSeen) → length scans ≤ n → Each (SawTwice (entries before)) scans → EndsAfter false n scans
     → (rounds_in scans ≡ n) ⊎ ((rounds_in scans < n) × RestTold (before ++ silent_items (all_entries scans)))
-finish_told before n scans few are ends = ⊎_elim
+finish_told before n scans few saw ends = ⊎_elim
     (λ (e : EndsWith false scans).
     let l : LastDone scans = record { bs = e.before; w = e.final; parts = e.parts; done = sym (or-false e.final.answer.done) ∙ e.ends } in
-    by (nat_lt (rounds_in scans) n) refl (rested before [] scans tt are l))
+    by (nat_lt (rounds_in scans) n) refl (rested before [] scans tt (subst (λ r. Each (SawTwice r) scans) (sym (append-nil (entries before))) saw) l))
     (λ (e : (length scans ≡ n) × AllByRecursion (ScansGoOn false) scans). inl (all_rounds scans e.1 ∙ e.0))
     ends
   where
@@ -165,12 +157,12 @@ piece_told before (run k) u d =
     by true e = inl (leb-true k d.ended e)
     by false e =
         let short = ap (λ n. nat_le k n) (sym d.ended_is) ∙ e in
-        inr (rested before (map look_entry d.looks) d.scans (quiet_looks d.looks) d.are_scans (last_out d.scans (sym (ap (λ b. b || is_out_after false d.scans) short) ∙ d.ends)))
+        inr (rested before (map look_entry d.looks) d.scans (quiet_looks d.looks) (d.twice refl) (last_out d.scans (sym (ap (λ b. b || is_out_after false d.scans) short) ∙ d.ends)))
 piece_told before (finish n) u d =
     let es = all_entries d.scans in
     subst (EachAfter IsRestTold before) (sym d.are)
     (each_joined IsRestTold before (silent_items es) (said (to.Finish n (rounds_in d.scans)) ∷ []) (all_none before (silent_items es) (none_silent is_number_line es))
-    (finish_told before n d.scans d.few d.are_scans d.ends, tt))
+    (finish_told before n d.scans d.few (d.twice refl) d.ends, tt))
 piece_told before show u d = subst (EachAfter IsRestTold before) (sym d.are) (tt, tt)
 
 pieces_told : (before ps : List Piece) → EachAfter (λ qs (p : Piece). IsDone false (items_of qs) p.statement p.items) before ps → EachAfter IsRestTold (items_of before) (items_of ps)
@@ -235,103 +227,24 @@ stretch before j pre es k parts =
     }
 
 -- a place of the stretch is one since the last line
-record Placed (before : List Member) (es : List Event) : Type 0 where
+record Placed (before : List Member) (es later : List Event) : Type 0 where
   front : List Member
-  later : List Event
   parts : before ≡ front ++ map by_node later
   events_are : members.events front ≡ es
 
 placed : (before : List Joint) (pre : List Item) (es : List Entry) (s : Stretch before pre es) (earlier later : List Event) → records.events (moments_in s.back) ≡ earlier ++ later
-    → Placed (members_in before) (records.events (moments_in s.front) ++ earlier)
+    → Placed (members_in before) (records.events (moments_in s.front) ++ earlier) later
 placed before pre es s earlier later parts = record {
   front = members_in s.front ++ map by_node earlier;
-  later = later;
   parts = s.members_are ∙ ap (λ k. members_in s.front ++ map by_node k) parts ∙ ap (λ k. members_in s.front ++ k) (map_both earlier later) ∙ sym (append_assoc (members_in s.front) (map by_node earlier) (map by_node later));
   events_are = filter_map-append members.event_in (members_in s.front) (map by_node earlier) ∙ ap (λ k. members.events (members_in s.front) ++ k) (node_events earlier) ∙ ap (λ k. k ++ earlier) s.front_events;
 }
 
-held_since : (before : List Joint) (pre : List Item) (es : List Entry) (s : Stretch before pre es) (test : List Event → Bool)
-    → HeldIn (records.events (moments_in s.front)) (records.events (moments_in s.back)) test → HeldSince (members_in before) test
-held_since before pre es s test h =
-    let p = placed before pre es s h.earlier h.later h.parts in
-    record { front = p.front; later = p.later; parts = p.parts; held = subst (λ k. test k ≡ true) (sym p.events_are) h.held }
-
-all_mapped : {A : Type 0} (P Q : A → Type 0) → ((x : A) → P x → Q x) → (xs : List A) → All P xs → All Q xs
-all_mapped P Q f xs all = λ k d within. f _ (all k d within)
-
-came : (before : List Joint) (j : Joint) → IsKnown before j → RestTold (items_in before) → CameToRest (members_in before)
-came before j k x =
-    let es = x.first ++ seen_entries x.scan in
-    let s = stretch before j x.pre es k x.parts in
-    let F = records.events (moments_in s.front) in
-    let B = records.events (moments_in s.back) in
-    let c = config_at x.pre in
-    let same : c ≡ (state_after F).config = config_is (entries x.pre) (moments_in s.front) (record { record_is = s.front_are; runs = fronts_are_runs F B s.runs; so = s.so_front }) in
-    let by_ = by_nodes_if (moments_in s.front) (moments_in s.back) s.so_back (subst AreQuiet (sym s.back_are) (quiet_both x.first (seen_entries x.scan) x.quiet (quiet_scan x.scan))) in
-    let all_same : c ≡ (state_after (members.events (members_in before))).config = same ∙ sym (same_config F B by_) ∙ sym (ap (λ e. (state_after e).config) s.all_events) in
-    let rest = sym x.is_scan.done ∙ x.done in
-    record {
-      nodes = λ n live. held_since before x.pre es s (λ e. is_done e n)
-          (node_rests (moments_in s.front) (moments_in s.back) s.so_back s.runs c same x.first x.quiet true x.scan.answer.moved x.scan.sights x.scan.found s.back_are x.is_scan.at_ports rest n
-          (ap (λ d. is_live d n) all_same ∙ live));
-      ports = subst (λ d. All (λ p. HeldSince (members_in before) (is_idle_after p)) (live_ports d)) all_same
-          (all_mapped (λ p. HeldIn F B (is_idle_after p)) (λ p. HeldSince (members_in before) (is_idle_after p)) (λ p h. held_since before x.pre es s (is_idle_after p) h) (live_ports c)
-          (ports_rest (moments_in s.front) (moments_in s.back) s.so_back s.runs c same x.first x.quiet true x.scan.answer.moved x.scan.sights x.scan.found s.back_are x.is_scan.at_ports rest));
-    }
-
--- ---- the members
-
-abbrev IsRestAt : List Member → Member → Type 0
-IsRestAt before (of_history (to.Run k n)) = (k ≤ n) ⊎ CameToRest before
-IsRestAt before (of_history (to.Finish n r)) = (r ≡ n) ⊎ ((r < n) × CameToRest before)
-IsRestAt before _ = ⊤
-
-line_at : (before : List Joint) (j : Joint) (l : HistoryLine) → IsKnown before j → IsRestTold (items_in before) (said l) → IsRestAt (members_in before) (of_history l)
-line_at before j (to.Run k n) known_ h = ⊎_elim (λ (e : k ≤ n). inl e) (λ (r : RestTold (items_in before)). inr (came before j known_ r)) h
-line_at before j (to.Finish n r) known_ h = ⊎_elim (λ (e : r ≡ n). inl e) (λ (w : (r < n) × RestTold (items_in before)). inr (w.0, came before j known_ w.1)) h
-line_at before j _ known_ h = tt
-
-no_number_member : (before : List Member) (l : HistoryLine) → is_number_line l ≡ false → IsRestAt before (of_history l)
-no_number_member before (to.Run k n) h = absurd (both_ways true h refl)
-no_number_member before (to.Finish n k) h = absurd (both_ways true h refl)
-no_number_member before _ h = tt
-
-member_at : (before : List Joint) (j : Joint) (x : Member) → member_of j ≡ Some x → Lifted item_of IsRestTold before j × IsKnown before j → IsRestAt (members_in before) x
-member_at before (of_node e) x h k = subst (IsRestAt (members_in before)) (same_Some (by_node e) x h) tt
-member_at before (of_line l) x h k = subst (IsRestAt (members_in before)) (sym (line_there l x h)) (line_at before (of_line l) l k.1 (k.0 (said l) refl))
-member_at before (of_entry y None) x h k = absurd (none-some x h)
-member_at before (of_entry y (Some l)) x h k =
-    subst (IsRestAt (members_in before)) (sym (line_there l x h)) (no_number_member (members_in before) l (no_number_entry y l k.1.fair_here.0.1))
-
-rested_at : (statements : List Statement) (t : List Item) (m : List Moment) (ms : List Member) → IsTranscript false statements t → AreJoined t m ms → IsRecordOf (entries t) m → Each IsRestAt ms
-rested_at statements t m ms x j is_of =
-    let js = j.joint in
-    let told_ = lifted item_of IsRestTold [] js (subst (Each IsRestTold) (sym j.items_are) (transcript_told statements t x)) in
-    subst (Each IsRestAt) j.members_are
-    (each_carried member_of (λ before y. Lifted item_of IsRestTold before y × IsKnown before y) IsRestAt (λ before y z e k. member_at before y z e k) [] js
-    (each_both (Lifted item_of IsRestTold) IsKnown [] js told_ (all_known t m ms (fair_transcript false statements t x) j is_of)))
-
-run_at : (before : List Member) (x : Member) → IsEndedAt before x × IsRestAt before x → IsRunAt before x
-run_at before (of_history (to.Run k n)) h = h
-run_at before _ h = tt
-
-finish_at : (before : List Member) (x : Member) → IsRestAt before x → IsFinishAt before x
-finish_at before (of_history (to.Finish n r)) h = h
-finish_at before _ h = tt
-
-pub numbers_on_threads : (statements : List Statement) (t : List Item) (m : List Moment) (ms : List Member) → IsTranscript false statements t → AreJoined t m ms → IsRecordOf (entries t) m → NumbersOnThreads ms
-numbers_on_threads statements t m ms x j is_of =
-    let rest = rested_at statements t m ms x j is_of in
-    record {
-      runs_end = each_weaker (λ ys y. IsEndedAt ys y × IsRestAt ys y) IsRunAt [] ms run_at (each_both IsEndedAt IsRestAt [] ms (runs_ended false statements t m ms x j is_of) rest);
-      finishes_end = each_weaker IsRestAt IsFinishAt [] ms finish_at rest;
-    }
-
 -- ---- rest at one place
 
 -- the place before the mark of the last scan, where that saw the same as the scan before it
-pub at_once : (before : List Joint) (j : Joint) → IsKnown before j → (x : RestTold (items_in before)) → IsSeenTwice (entries x.pre ++ x.first) x.scan.sights → RestedAtOnce (members_in before)
-at_once before j k x twice =
+at_once : (before : List Joint) (j : Joint) → IsKnown before j → RestTold (items_in before) → RestedAtOnce (members_in before)
+at_once before j k x =
     let es = x.first ++ seen_entries x.scan in
     let s = stretch before j x.pre es k x.parts in
     let mf = moments_in s.front in
@@ -344,23 +257,67 @@ at_once before j k x twice =
     events_both (mf ++ w.a) w.b ∙ ap (λ e. e ++ records.events w.b) to_place ∙ append_assoc (records.events mf) (records.events w.a) (records.events w.b) ∙ ap (λ e. records.events mf ++ e) (sym evs) in
     let p = placed before x.pre es s (records.events w.a) (records.events w.b) evs in
     let rest = at_rest (entries x.pre ++ x.first) (mf ++ w.a) w.b true x.scan.answer.moved x.scan.sights (map look_entry x.scan.found) (quiet_looks x.scan.found) so (subst IsRun (sym whole) s.runs)
-    (filter_map-append records.entry_at mf w.a ∙ (λ i. s.front_are i ++ w.a_are i)) w.b_are twice in
-    record { front = p.front; later = p.later; parts = p.parts; rest = subst AreAtRest (to_place ∙ sym p.events_are) rest }
+    (filter_map-append records.entry_at mf w.a ∙ (λ i. s.front_are i ++ w.a_are i)) w.b_are x.twice in
+    let by_ = by_nodes_if (mf ++ w.a) w.b cut.1 (subst AreQuiet (sym w.b_are) (quiet_scan x.scan)) in
+    record { front = p.front; later = records.events w.b; parts = p.parts; by_nodes = by_; rest = subst AreAtRest (to_place ∙ sym p.events_are) rest }
 
 -- rest at one place is rest
 all_of : (P : ℕ → Type 0) → ((p : ℕ) → P p) → (xs : List ℕ) → AllByRecursion P xs
 all_of P h [] = tt
 all_of P h (x ∷ xs) = (h x, all_of P h xs)
 
-pub at_once_came : (before : List Member) (x : RestedAtOnce before) → AreByNodes x.later → CameToRest before
-at_once_came before x by_ =
+pub at_once_came : (before : List Member) → RestedAtOnce before → CameToRest before
+at_once_came before x =
     let F = members.events x.front in
     let evs : members.events before ≡ F ++ x.later = ap members.events x.parts ∙ filter_map-append members.event_in x.front (map by_node x.later) ∙ ap (λ k. F ++ k) (node_events x.later) in
-    let same : (state_after (members.events before)).config ≡ (state_after F).config = ap (λ e. (state_after e).config) evs ∙ same_config F x.later by_ in
+    let same : (state_after (members.events before)).config ≡ (state_after F).config = ap (λ e. (state_after e).config) evs ∙ same_config F x.later x.by_nodes in
     let c = (state_after (members.events before)).config in
     record {
       nodes = λ n live. record { front = x.front; later = x.later; parts = x.parts; held = x.rest.nodes n (sym (ap (λ d. is_live d n) same) ∙ live) };
       ports = all_through (is_live_port c) (λ p. HeldSince before (is_idle_after p)) (all_ports c)
           (all_of (λ p. is_live_port c p ≡ true → HeldSince before (is_idle_after p))
           (λ p live. record { front = x.front; later = x.later; parts = x.parts; held = x.rest.ports p (sym (ap (λ d. is_live_port d p) same) ∙ live) }) (all_ports c));
+    }
+
+-- ---- the members
+
+line_at : (before : List Joint) (j : Joint) (l : HistoryLine) → IsKnown before j → IsRestTold (items_in before) (said l) → RestedIfShort (members_in before) (of_history l)
+line_at before j (to.Run k n) known_ h = ⊎_elim (λ (e : k ≤ n). inl e) (λ (r : RestTold (items_in before)). inr (at_once before j known_ r)) h
+line_at before j (to.Finish n r) known_ h = ⊎_elim (λ (e : r ≡ n). inl e) (λ (w : (r < n) × RestTold (items_in before)). inr (w.0, at_once before j known_ w.1)) h
+line_at before j _ known_ h = tt
+
+no_number_member : (before : List Member) (l : HistoryLine) → is_number_line l ≡ false → RestedIfShort before (of_history l)
+no_number_member before (to.Run k n) h = absurd (both_ways true h refl)
+no_number_member before (to.Finish n k) h = absurd (both_ways true h refl)
+no_number_member before _ h = tt
+
+member_at : (before : List Joint) (j : Joint) (x : Member) → member_of j ≡ Some x → Lifted item_of IsRestTold before j × IsKnown before j → RestedIfShort (members_in before) x
+member_at before (of_node e) x h k = subst (RestedIfShort (members_in before)) (same_Some (by_node e) x h) tt
+member_at before (of_line l) x h k = subst (RestedIfShort (members_in before)) (sym (line_there l x h)) (line_at before (of_line l) l k.1 (k.0 (said l) refl))
+member_at before (of_entry y None) x h k = absurd (none-some x h)
+member_at before (of_entry y (Some l)) x h k =
+    subst (RestedIfShort (members_in before)) (sym (line_there l x h)) (no_number_member (members_in before) l (no_number_entry y l k.1.fair_here.0.1))
+
+pub rested_at : (statements : List Statement) (t : List Item) (m : List Moment) (ms : List Member) → IsTranscript false statements t → AreJoined t m ms → IsRecordOf (entries t) m → Each RestedIfShort ms
+rested_at statements t m ms x j is_of =
+    let js = j.joint in
+    let told_ = lifted item_of IsRestTold [] js (subst (Each IsRestTold) (sym j.items_are) (transcript_told statements t x)) in
+    subst (Each RestedIfShort) j.members_are
+    (each_carried member_of (λ before y. Lifted item_of IsRestTold before y × IsKnown before y) RestedIfShort (λ before y z e k. member_at before y z e k) [] js
+    (each_both (Lifted item_of IsRestTold) IsKnown [] js told_ (all_known t m ms (fair_transcript false statements t x) j is_of)))
+
+run_at : (before : List Member) (x : Member) → IsEndedAt before x × RestedIfShort before x → IsRunAt before x
+run_at before (of_history (to.Run k n)) h = (h.0, ⊎_elim (λ (e : k ≤ n). inl e) (λ (r : RestedAtOnce before). inr (at_once_came before r)) h.1)
+run_at before _ h = tt
+
+finish_at : (before : List Member) (x : Member) → RestedIfShort before x → IsFinishAt before x
+finish_at before (of_history (to.Finish n r)) h = ⊎_elim (λ (e : r ≡ n). inl e) (λ (w : (r < n) × RestedAtOnce before). inr (w.0, at_once_came before w.1)) h
+finish_at before _ h = tt
+
+pub numbers_on_threads : (statements : List Statement) (t : List Item) (m : List Moment) (ms : List Member) → IsTranscript false statements t → AreJoined t m ms → IsRecordOf (entries t) m → NumbersOnThreads ms
+numbers_on_threads statements t m ms x j is_of =
+    let rest = rested_at statements t m ms x j is_of in
+    record {
+      runs_end = each_weaker (λ ys y. IsEndedAt ys y × RestedIfShort ys y) IsRunAt [] ms run_at (each_both IsEndedAt RestedIfShort [] ms (runs_ended false statements t m ms x j is_of) rest);
+      finishes_end = each_weaker RestedIfShort IsFinishAt [] ms finish_at rest;
     }

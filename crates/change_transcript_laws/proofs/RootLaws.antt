@@ -25,7 +25,8 @@ use Rattle.change_law.specs.Lawful.{StoodOpen, StoodOpenWhereSaid}
 use Rattle.change_law.specs.Members.{Member, event_of, is_close, is_pending, is_root, line_of}
 use Rattle.change_law.specs.Scene.{Seen}
 use Rattle.change_law.specs.Statements.{Statement, start, change, run, finish, show}
-use Rattle.change_law.proofs.TestLaws.{counted_some, some_counted}
+use Rattle.change_law.proofs.TestLaws.{counted_some}
+use Rattle.base.proofs.ListLaws.{count_by-some}
 use Rattle.txn_records.specs.declared.entry.Entry.{Entry}
 use Rattle.txn_records.specs.declared.entry.Entry.TheVariants.{Did, Looked, Sighted, Scanned}
 use Rattle.txn_records.specs.Looks.{is_drained_word, serial_of}
@@ -250,7 +251,7 @@ port_closed ports within how xs x ys is h =
     let there : list_any at (seen ++ map seen_root (left_after how.first how.rounds)) ≡ true =
     list_any-append at seen (map seen_root (left_after how.first how.rounds))
     ∙ or_right (list_any at seen) (list_any at (map seen_root (left_after how.first how.rounds))) (ap (λ l. list_any at (map seen_root l)) h ∙ here) in
-    let count = some_counted at (seen ++ map seen_root (left_after how.first how.rounds)) there in
+    let count = count_by-some at (seen ++ map seen_root (left_after how.first how.rounds)) there in
     split_at (λ q. q == x.port) ports
     (counted_some (λ q. q == x.port) ports (subst (λ n. 1 ≤ n) (all_are_seen ports within how is x.port) count))
 

@@ -1,7 +1,7 @@
--- Behind a place at which all was at rest at once, closes alone follow where nothing but closes and nodes' events does.
+-- Behind a place at which all was at rest at once, gates alone are turned where nothing but that and nodes' events follows.
 use Rattle.std.proofs.Common.{◌≡◌, ◌∙◌, ℕ, zero, suc, Bool, true, false, cond, List, [], ◌∷◌, ◌++◌, append_assoc, length, Option, Some, None, refl, sym, ap, subst, ⊎_elim}
 use Rattle.std.specs.Prelude.{not, find, fold, option_map, option_and_then, slice_get}
-use Rattle.std.specs.List.{AllByRecursion, list_any, range_with_len}
+use Rattle.std.specs.List.{list_any, range_with_len}
 use Rattle.std.specs.Option.{option_map_or}
 use Rattle.std.proofs.lemmas.Bool.{both_ways, cases_Bool, eq-eqb}
 use Rattle.base.proofs.FindLaws.{find-none}
@@ -9,12 +9,13 @@ use Rattle.base.proofs.OptionLaws.{map_or_true}
 use Rattle.change_law.specs.Lawful.{is_done, is_unfinished, unfinished_of}
 use Rattle.change_law.specs.Statements.{Statement, is_finish}
 use Rattle.quiesce_core.proofs.StabilityLaws.{busy_is_live}
-use Rattle.change_transcript_laws.specs.Rests.{AreAtRest, AreCalm, HaveFolds, is_calm}
+use Rattle.change_transcript_laws.specs.Rests.{AreAtRest, AreCalm, HaveFolds}
 use Rattle.std.proofs.lemmas.Option.{none-some}
 use Rattle.quiesce_word.specs.Phases.{is_idle}
 use Rattle.quiesce_core.specs.Legal.{Legal}
 use Rattle.std.proofs.lemmas.List.{append-nil}
 use Rattle.quiesce_commit_laws.proofs.AfterRunLaws.{after_run}
+use Rattle.quiesce_commit_laws.specs.Steps.{is_shaping}
 use Rattle.change_law.specs.Opening.{argument_of, fold_at, fold_of_node, fold_within}
 use Rattle.component_trait.specs.Fold.{fold_from, fold_next}
 use Rattle.component_trait.specs.Moves as moves
@@ -26,27 +27,29 @@ use Rattle.quiesce_core.specs.Runs.{IsRun, done_by, done_from, is_doer, state_af
 use Rattle.quiesce_core.specs.State.{State, exchange, is_live, owner, slot}
 use Rattle.quiesce_core.specs.declared.event.Event.{Event}
 use Rattle.quiesce_core.specs.declared.event.Event.TheVariants.{Begin, Close, Reopen, Make, Link, Unlink, Remove}
+use Rattle.quiesce_core.specs.declared.state.Exchange.{Exchange}
 use Rattle.quiesce_core.specs.declared.state.Slot.{Slot}
 use Rattle.quiesce_core.proofs.LegalLaws.{legal}
 use Rattle.quiesce_core.proofs.RunLaws.{fronts_are_runs, runs_are_consistent, runs_are_well_formed, state_more}
-use Rattle.change_transcript_laws.proofs.Doers.{doer_live, gone_does_nothing, log_same}
+use Rattle.quiesce_laws.proofs.DoerLaws.{doer_live, gone_does_nothing}
+use Rattle.change_transcript_laws.proofs.Doers.{log_same}
 use Rattle.change_transcript_laws.proofs.Resting.{begins_none, is_begin, only_begins}
 use Rattle.change_transcript_laws.proofs.Still.{log_parts, one_more}
 
 abbrev slots_after : List Event → List Slot
 slots_after es = (state_after es).config.slots
 
-slots_one : (s : State) (e : Event) → is_calm e ≡ true → (effect s e).config.slots ≡ s.config.slots
+slots_one : (s : State) (e : Event) → is_shaping e ≡ false → (effect s e).config.slots ≡ s.config.slots
 slots_one s (Close p) h = refl
-slots_one s (Reopen p) h = absurd (both_ways false refl h)
-slots_one s (Make n node from) h = absurd (both_ways false refl h)
-slots_one s (Link p n x) h = absurd (both_ways false refl h)
-slots_one s (Unlink p) h = absurd (both_ways false refl h)
-slots_one s (Remove n) h = absurd (both_ways false refl h)
+slots_one s (Reopen p) h = refl
+slots_one s (Make n node from) h = absurd (both_ways true h refl)
+slots_one s (Link p n x) h = absurd (both_ways true h refl)
+slots_one s (Unlink p) h = absurd (both_ways true h refl)
+slots_one s (Remove n) h = absurd (both_ways true h refl)
 slots_one s (Begin p k v) h = refl
 slots_one s _ h = refl
 
-slots_more : (es : List Event) (e : Event) → is_calm e ≡ true → slots_after (es ++ e ∷ []) ≡ slots_after es
+slots_more : (es : List Event) (e : Event) → is_shaping e ≡ false → slots_after (es ++ e ∷ []) ≡ slots_after es
 slots_more es e h = ap (λ (s : State). s.config.slots) (state_more es e) ∙ slots_one (state_after es) e h
 
 pub slots_later : (es later : List Event) → AreCalm later → slots_after (es ++ later) ≡ slots_after es
@@ -136,18 +139,39 @@ AreDone es = (n : ℕ) → is_live (state_after es).config n ≡ true → (st : 
 abbrev pub IsIdleAll : List Event → Type 0
 IsIdleAll es = (p : ℕ) → is_idle (exchange (state_after es) p).phase ≡ true
 
-close_fold : (es : List Event) (q fuel n : ℕ) → fold_within (es ++ Close q ∷ []) fuel n ≡ fold_within es fuel n
-close_fold es q zero n = refl
-close_fold es q (suc fuel) n =
-    ap (λ ss. option_and_then (of_slot (es ++ Close q ∷ []) fuel n) (slice_get ss n)) (slots_more es (Close q) refl) ∙ by (λ k. close_fold es q fuel k) (slot (state_after es).config n)
+-- a gate that is turned
+abbrev is_turn : Event → Bool
+is_turn (Close q) = true
+is_turn (Reopen q) = true
+is_turn _ = false
+
+turn_calm : (e : Event) → is_turn e ≡ true → is_shaping e ≡ false
+turn_calm (Close q) h = refl
+turn_calm (Reopen q) h = refl
+turn_calm _ h = absurd (both_ways false refl h)
+
+turn_log : (s : State) (n : ℕ) (e : Event) → is_turn e ≡ true → is_doer s n e ≡ false
+turn_log s n (Close q) h = refl
+turn_log s n (Reopen q) h = refl
+turn_log s n _ h = absurd (both_ways false refl h)
+
+turn_exchange : (s : State) (e : Event) (p : ℕ) → is_turn e ≡ true → exchange (effect s e) p ≡ exchange s p
+turn_exchange s (Close q) p h = refl
+turn_exchange s (Reopen q) p h = refl
+turn_exchange s _ p h = absurd (both_ways false refl h)
+
+turn_fold : (es : List Event) (e : Event) → is_turn e ≡ true → (fuel n : ℕ) → fold_within (es ++ e ∷ []) fuel n ≡ fold_within es fuel n
+turn_fold es e turn zero n = refl
+turn_fold es e turn (suc fuel) n =
+    ap (λ ss. option_and_then (of_slot (es ++ e ∷ []) fuel n) (slice_get ss n)) (slots_more es e (turn_calm e turn)) ∙ by (λ k. turn_fold es e turn fuel k) (slot (state_after es).config n)
   where
-    opens : ((k : ℕ) → fold_within (es ++ Close q ∷ []) fuel k ≡ fold_within es fuel k) → (m : Slot) (o : Option ℕ) → opened (es ++ Close q ∷ []) fuel m o ≡ opened es fuel m o
+    opens : ((k : ℕ) → fold_within (es ++ e ∷ []) fuel k ≡ fold_within es fuel k) → (m : Slot) (o : Option ℕ) → opened (es ++ e ∷ []) fuel m o ≡ opened es fuel m o
     opens rec m None = refl
     opens rec m (Some k) = ap (option_map (λ (s : NodeState). s.kept)) (rec k)
 
-    by : ((k : ℕ) → fold_within (es ++ Close q ∷ []) fuel k ≡ fold_within es fuel k) → (o : Option Slot) → option_and_then (of_slot (es ++ Close q ∷ []) fuel n) o ≡ option_and_then (of_slot es fuel n) o
+    by : ((k : ℕ) → fold_within (es ++ e ∷ []) fuel k ≡ fold_within es fuel k) → (o : Option Slot) → option_and_then (of_slot (es ++ e ∷ []) fuel n) o ≡ option_and_then (of_slot es fuel n) o
     by rec None = refl
-    by rec (Some m) = (λ i. option_and_then (fold_at m (log_same n es (Close q) refl i)) (opens rec m m.from i))
+    by rec (Some m) = (λ i. option_and_then (fold_at m (log_same n es e (turn_log (state_after es) n e turn) i)) (opens rec m m.from i))
 
 -- no event of a node but a Begin may happen, and none of those has a fold
 no_node_event : (es later : List Event) (e : Event) → is_of_change e ≡ false → IsRun (es ++ e ∷ later) → AreCalm later → IsIdleAll es → AreDone es → HaveFolds (es ++ e ∷ later) → ⊥
@@ -168,26 +192,25 @@ no_node_event es later e by_ run calm idle done folds =
 
 pub stays_done : (es later : List Event) → IsRun (es ++ later) → AreCalm later → IsIdleAll es → AreDone es → HaveFolds (es ++ later) → AreDone (es ++ later)
 stays_done es [] run calm idle done folds = subst AreDone (sym (append-nil es)) done
-stays_done es (e ∷ later) run calm idle done folds = by e refl (λ x. stays_done (es ++ x ∷ []) later)
+stays_done es (e ∷ later) run calm idle done folds = by e calm.0 refl (λ turn. turned turn (stays_done (es ++ e ∷ []) later))
   where
-    close : (q : ℕ) → e ≡ Close q → (IsRun ((es ++ Close q ∷ []) ++ later) → AreCalm later → IsIdleAll (es ++ Close q ∷ []) → AreDone (es ++ Close q ∷ []) → HaveFolds ((es ++ Close q ∷ []) ++ later) → AreDone ((es ++ Close q ∷ []) ++ later))
+    turned : is_turn e ≡ true → (IsRun ((es ++ e ∷ []) ++ later) → AreCalm later → IsIdleAll (es ++ e ∷ []) → AreDone (es ++ e ∷ []) → HaveFolds ((es ++ e ∷ []) ++ later) → AreDone ((es ++ e ∷ []) ++ later))
         → AreDone (es ++ e ∷ later)
-    close q is rec =
-        let whole : es ++ e ∷ later ≡ (es ++ Close q ∷ []) ++ later = ap (λ x. es ++ x ∷ later) is ∙ sym (append_assoc es (Close q ∷ []) later) in
+    turned turn rec =
+        let whole : es ++ e ∷ later ≡ (es ++ e ∷ []) ++ later = sym (append_assoc es (e ∷ []) later) in
         subst AreDone (sym whole)
-        (rec (subst IsRun whole run) calm.1 (λ p. ap (λ (s : State). is_idle (exchange s p).phase) (state_more es (Close q)) ∙ idle p)
-        (λ n live. let d = done n (sym (live_by n (es ++ Close q ∷ []) es (slots_more es (Close q) refl)) ∙ live) in (d.0, close_fold es q (suc n) n ∙ d.1, d.2))
+        (rec (subst IsRun whole run) calm.1 (λ p. ap (λ (s : State). is_idle (exchange s p).phase) (state_more es e) ∙ ap (λ (x : Exchange). is_idle x.phase) (turn_exchange (state_after es) e p turn) ∙ idle p)
+        (λ n live. let d = done n (sym (live_by n (es ++ e ∷ []) es (slots_more es e calm.0)) ∙ live) in (d.0, turn_fold es e turn (suc n) n ∙ d.1, d.2))
         (subst HaveFolds whole folds))
 
-    by : (x : Event) → e ≡ x → ((x : Event) → IsRun ((es ++ x ∷ []) ++ later) → AreCalm later → IsIdleAll (es ++ x ∷ []) → AreDone (es ++ x ∷ []) → HaveFolds ((es ++ x ∷ []) ++ later) → AreDone ((es ++ x ∷ []) ++ later))
-        → AreDone (es ++ e ∷ later)
-    by (Close q) is rec = close q is (rec (Close q))
-    by (Reopen p) is rec = absurd (both_ways (is_calm e) (ap is_calm is) calm.0)
-    by (Make n node from) is rec = absurd (both_ways (is_calm e) (ap is_calm is) calm.0)
-    by (Link p n x) is rec = absurd (both_ways (is_calm e) (ap is_calm is) calm.0)
-    by (Unlink p) is rec = absurd (both_ways (is_calm e) (ap is_calm is) calm.0)
-    by (Remove n) is rec = absurd (both_ways (is_calm e) (ap is_calm is) calm.0)
-    by _ is rec = absurd (no_node_event es later e (ap is_of_change is) run calm.1 idle done folds)
+    by : (x : Event) → is_shaping x ≡ false → e ≡ x → (is_turn e ≡ true → AreDone (es ++ e ∷ later)) → AreDone (es ++ e ∷ later)
+    by (Close q) c is go = go (ap is_turn is)
+    by (Reopen q) c is go = go (ap is_turn is)
+    by (Make n node from) c is go = absurd (both_ways true c refl)
+    by (Link p n x) c is go = absurd (both_ways true c refl)
+    by (Unlink p) c is go = absurd (both_ways true c refl)
+    by (Remove n) c is go = absurd (both_ways true c refl)
+    by _ c is go = absurd (no_node_event es later e (ap is_of_change is) run calm.1 idle done folds)
 
 -- ---- from rest at one place to the end
 

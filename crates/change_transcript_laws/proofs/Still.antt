@@ -1,7 +1,6 @@
 -- What nodes did between two places of a run, by their logs.
 use Rattle.std.proofs.Common.{◌≡◌, ◌∙◌, ℕ, ◌≤◌, Bool, true, false, List, [], ◌∷◌, ◌++◌, append_assoc, length, refl, sym, ap, subst, arith}
 use Rattle.std.specs.Prelude.{◌==◌, fold, if◌then◌else◌}
-use Rattle.std.specs.List.{AllByRecursion}
 use Rattle.std.specs.Option.{option_map_or}
 use Rattle.std.proofs.lemmas.Bool.{eq-eqb}
 use Rattle.std.proofs.lemmas.List.{append-nil, length-append}
@@ -13,7 +12,8 @@ use Rattle.quiesce_core.specs.declared.event.Event.{Event}
 use Rattle.quiesce_core.proofs.LegalLaws.{legal}
 use Rattle.quiesce_core.proofs.RunLaws.{doer_there, fronts_are_runs, last_step, node_events_keep_the_configuration, runs_are_consistent, runs_are_well_formed, state_more}
 use Rattle.change_transcript_laws.specs.Rests.{AreByNodes}
-use Rattle.change_transcript_laws.proofs.Doers.{doer_live, gone_does_nothing, log_more, log_same}
+use Rattle.quiesce_laws.proofs.DoerLaws.{doer_live, gone_does_nothing}
+use Rattle.change_transcript_laws.proofs.Doers.{log_more, log_same}
 
 done_parts : (s : State) (n : ℕ) (xs ys : List Event) → done_from s n (xs ++ ys) ≡ done_from s n xs ++ done_from (fold effect s xs) n ys
 done_parts s n [] ys = refl

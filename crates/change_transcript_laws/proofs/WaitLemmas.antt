@@ -23,9 +23,9 @@ use Rattle.change_board.specs.Scans.{look_entry, scan_entries}
 use Rattle.change_board.specs.Sights.{sight_entry}
 use Rattle.change_board.specs.Transcripts.{Item, silent, told, said, entries, line_in, lines}
 use Rattle.change_engine.specs.Carrying.{deed_items, sight_item}
-use Rattle.change_engine.specs.Draining.{pending_items, root_item}
+use Rattle.change_engine.specs.Draining.{root_item}
 use Rattle.change_engine.specs.Finishing.{all_entries, rounds_in}
-use Rattle.change_engine.specs.Passivating.{Passivation, WaitingRound, close_item, left_after, look_item, passivation_items, round_items, silent_items}
+use Rattle.change_engine.specs.Passivating.{Passivation, WaitingRound, close_item, left_after, look_item, round_items, silent_items}
 use Rattle.change_engine.specs.Stopping.{stop_items}
 use Rattle.change_engine.specs.declared.passivating.LeftRoot.{LeftRoot}
 use Rattle.change_engine.proofs.ItemLaws.{entries_both, sight_lines, silent_entries}

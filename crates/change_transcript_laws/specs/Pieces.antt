@@ -26,7 +26,7 @@ use Rattle.change_engine.specs.Beginning.{start_items}
 use Rattle.change_engine.specs.Calls.{skip_items}
 use Rattle.change_engine.specs.Carrying.{deed_items, sight_item}
 use Rattle.change_engine.specs.Draining.{pending_items}
-use Rattle.change_engine.specs.Finishing.{EndsAfter, IsScanIn, ScanSeen, all_entries, rounds_in}
+use Rattle.change_engine.specs.Finishing.{EndsAfter, IsScanIn, SawTwice, ScanSeen, all_entries, rounds_in}
 use Rattle.change_engine.specs.Passivating.{IsPassivation, Passivation, left_after, passivation_items, silent_items}
 use Rattle.change_engine.specs.Running.{RunsOn, ended_since, are_enough}
 use Rattle.change_engine.specs.Stopping.{stop_items}
@@ -81,11 +81,12 @@ pub record AreChangeItems (before : List Item) (name : List ℕ) (args : List �
 
 -- A run: looks at all ports, and scans in which nodes may begin transactions, until the ports show so many more as
 -- ended, or a scan was the last; and the line that tells how many ended.
-pub record AreRunItems (alone : Bool) (c : Configuration) (k : ℕ) (t : List Item) : Type 0 where
+pub record AreRunItems (alone : Bool) (before : List Item) (k : ℕ) (t : List Item) : Type 0 where
   pub looks : List Found
-  pub at_ports : ports_of looks ≡ all_ports c
+  pub at_ports : ports_of looks ≡ all_ports (config_at before)
   pub scans : List ScanSeen
-  pub are_scans : AllByRecursion (IsScanIn alone c) scans
+  pub are_scans : AllByRecursion (IsScanIn alone (config_at before)) scans
+  pub twice : alone ≡ false → Each (SawTwice (entries before ++ map look_entry looks)) scans
   pub go_on : Each (RunsOn alone k (ended_in looks)) scans
   pub ends : are_enough alone k (ended_in looks) scans ≡ true
   pub ended : ℕ
@@ -93,10 +94,11 @@ pub record AreRunItems (alone : Bool) (c : Configuration) (k : ℕ) (t : List It
   pub are : t ≡ silent_items (map look_entry looks ++ all_entries scans) ++ said (to.Run k ended) ∷ []
 
 -- A finish: scans alone.
-pub record AreFinishItems (alone : Bool) (c : Configuration) (n : ℕ) (t : List Item) : Type 0 where
+pub record AreFinishItems (alone : Bool) (before : List Item) (n : ℕ) (t : List Item) : Type 0 where
   pub scans : List ScanSeen
   pub few : length scans ≤ n
-  pub are_scans : AllByRecursion (IsScanIn alone c) scans
+  pub are_scans : AllByRecursion (IsScanIn alone (config_at before)) scans
+  pub twice : alone ≡ false → Each (SawTwice (entries before)) scans
   pub ends : EndsAfter alone n scans
   pub are : t ≡ silent_items (all_entries scans) ++ said (to.Finish n (rounds_in scans)) ∷ []
 
@@ -111,8 +113,8 @@ IsDone alone before (start name args g) t = AreStartItems before name args g t
 IsDone alone before (change name args g within moves) t =
     (list_any is_pending (lines before) ≡ true → t ≡ skip_items name args)
     × (list_any is_pending (lines before) ≡ false → AreChangeItems before name args g within moves t)
-IsDone alone before (run k) t = AreRunItems alone (config_at before) k t
-IsDone alone before (finish n) t = AreFinishItems alone (config_at before) n t
+IsDone alone before (run k) t = AreRunItems alone before k t
+IsDone alone before (finish n) t = AreFinishItems alone before n t
 IsDone alone before show t = AreShowItems (config_at before) t
 
 -- A stop: the ports of all live nodes are closed, and all are found drained; and then all nodes may be sighted.

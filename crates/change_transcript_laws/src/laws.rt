@@ -8,6 +8,7 @@ ghost use Rattle.txn_records.specs.Records.{IsRecordOf, IsSo, Moment};
 ghost use Rattle.txn_records.specs.declared.entry.Entry.{Entry};
 ghost use Rattle.txn_records.specs.declared.entry.Entry.TheVariants.{Scanned};
 ghost use Rattle.change_board.specs.Bearing.{Bears};
+ghost use Rattle.change_board.specs.Scans.{IsSeenTwice};
 ghost use Rattle.change_board.specs.Sights.{Sight, sight_entry};
 ghost use Rattle.change_board.specs.Transcripts.{Item, entries, lines};
 ghost use Rattle.change_law.specs.Endings.{status_of};
@@ -23,9 +24,9 @@ ghost use Rattle.quiesce_core.specs.Runs.{IsRun, state_after};
 ghost use Rattle.change_transcript_laws.specs.Joining.{AreJoined};
 ghost use Rattle.change_transcript_laws.specs.Pieces.{IsTranscript};
 ghost use Rattle.change_transcript_laws.specs.Reports.{IsReportOfTranscript};
-ghost use Rattle.change_transcript_laws.specs.Rests.{AreAtRest, AreByNodes, AreCalm, AreQuiet, HaveFolds, IsSeenTwice, RestedAtOnce};
+ghost use Rattle.change_transcript_laws.specs.Rests.{AreAtRest, AreCalm, AreQuiet, FinishedEarly, HaveFolds, RestedAtOnce, RestedIfShort};
 
-use change_law::nothing_is_open_at_the_end;
+use change_law::{a_show_is_of_the_last_commit, nothing_is_open_at_the_end};
 
 /// The lines of a transcript are a history that follows the script.
 pub fn transcripts_follow_their_scripts()
@@ -140,19 +141,23 @@ pub fn records_bear_their_reports()
 {}
 
 /// On a board that isn't alone: a run that ended with fewer transactions than it was asked for, and a finish that made
-/// fewer rounds than it was allowed, came to rest since the line before.
+/// fewer rounds than it was allowed, came to rest since the line before, all at one place.
 pub fn runs_and_finishes_end_at_rest()
     ensures numbers { (statements : List Statement) (t : List Item) (m : List Moment) (members : List Member)
         → IsTranscript false statements t → AreJoined t m members → IsRecordOf (entries t) m
         → NumbersOnThreads members }
+    ensures at_once { (statements : List Statement) (t : List Item) (m : List Moment) (members : List Member)
+        → IsTranscript false statements t → AreJoined t m members → IsRecordOf (entries t) m
+        → Each RestedIfShort members }
 {}
 
-/// So the report of such a run is lawful on threads.
+/// So the report of such a run is lawful on threads, by members in which all rested at one place where a run or a finish
+/// fell short.
 pub fn reports_of_threads_are_lawful()
     ensures lawful { (statements : List Statement) (t : List Item) (m : List Moment) (members : List Member)
         (report : Report)
         → IsTranscript false statements t → AreJoined t m members → IsRecordOf (entries t) m → IsReportOfTranscript t m report
-        → LawfulOnThreads statements report }
+        → (l : LawfulOnThreads statements report) × Each RestedIfShort l.lawful.members }
 {
     joined_members_make_a_report_lawful();
     runs_and_finishes_end_at_rest();
@@ -165,10 +170,11 @@ pub fn what_is_seen_twice_rests_at_once()
         → AreQuiet later → Each IsSo (before ++ after) → IsRun (records.events (before ++ after))
         → records.entries after ≡ Scanned begins moved ∷ (map sight_entry now ++ later)
         → IsSeenTwice (records.entries before) now → AreAtRest (records.events before) }
-    ensures came { (before : List Member) (x : RestedAtOnce before) → AreByNodes x.later → CameToRest before }
+    ensures came { (before : List Member) → RestedAtOnce before → CameToRest before }
 {}
 
-/// Behind a place at which all was at rest, where nothing follows but closes and nodes' events, no node is left undone.
+/// Behind a place at which all was at rest, where nothing follows but gates that are turned and nodes' events, no node is
+/// left undone.
 pub fn nothing_is_undone_behind_rest()
     ensures undone { (es later : List Event) → IsRun (es ++ later) → AreCalm later → AreAtRest es
         → HaveFolds (es ++ later) → (statements : List Statement) → unfinished_of statements (es ++ later) ≡ None }
@@ -176,3 +182,13 @@ pub fn nothing_is_undone_behind_rest()
         → map (λ (l : NodeLog). l.slot) logs ≡ range_with_len 0 (length (state_after (events m)).config.slots)
         → HaveFolds (events m) }
 {}
+
+/// So the report of a board that isn't alone names no node as undone, where a finish made fewer rounds than were allowed
+/// and no change was committed behind it.
+pub fn early_finishes_leave_nothing_undone()
+    ensures undone { (statements : List Statement) (t : List Item) (m : List Moment) (report : Report)
+        → IsTranscript false statements t → IsRecordOf (entries t) m → IsReportOfTranscript t m report
+        → FinishedEarly report.history → report.unfinished ≡ None }
+{
+    a_show_is_of_the_last_commit();
+}

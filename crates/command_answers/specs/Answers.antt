@@ -27,7 +27,7 @@ pub data Refusal : Type 0 where
 
 pub data Answer : Type 0 where
   refusal : Refusal → Answer
-  -- the commands with their forms
+  -- the commands with their forms, and the statuses
   help : Answer
   version : Answer
   graph : Graph → Answer
@@ -74,17 +74,31 @@ usage_line = codes "usage" ++ 10 ∷ []
 abbrev pub no_memory_line : List ℕ
 no_memory_line = codes "no memory" ++ 10 ∷ []
 
--- the commands with their forms
+-- the commands with their forms and what each does, the statuses, and what serves for a file
 abbrev pub help_text : List ℕ
 help_text =
-    codes "darwin_run --help\n"
-    ++ codes "darwin_run --version\n"
-    ++ codes "darwin_run flat FILE NAME INT*\n"
-    ++ codes "darwin_run plan FILE NAME INT* -- NAME INT*\n"
-    ++ codes "darwin_run replay FILE EVENTS\n"
-    ++ codes "darwin_run step SCRIPT\n"
-    ++ codes "darwin_run big N\n"
-    ++ codes "darwin_run upgrade FILE\n"
+    codes "darwin_run --help                             write this text\n"
+    ++ codes "darwin_run --version                          write the program's name and version\n"
+    ++ codes "darwin_run flat FILE NAME INT*                write the graph of a component\n"
+    ++ codes "darwin_run plan FILE NAME INT* -- NAME INT*   write the change from the first to the second\n"
+    ++ codes "darwin_run replay FILE EVENTS                 apply events to the system that they start\n"
+    ++ codes "darwin_run step SCRIPT                        run a script on one thread, write its report\n"
+    ++ codes "darwin_run big N                              run and change a system of N lanes (1 to 40)\n"
+    ++ codes "darwin_run upgrade FILE                       write a report in version 2\n"
+    ++ codes "\n"
+    ++ codes "status\n"
+    ++ codes "  0  what was asked for is written\n"
+    ++ codes "  1  the words have no form\n"
+    ++ codes "  2  a description is refused\n"
+    ++ codes "  3  a script, a file of events or a report is refused\n"
+    ++ codes "  4  a file can't be read\n"
+    ++ codes "  5  standard output failed\n"
+    ++ codes "  6  memory ran out\n"
+    ++ codes "  7  a change was given up\n"
+    ++ codes "  8  a node isn't done behind finish\n"
+    ++ codes "  9  an event is denied\n"
+    ++ codes "\n"
+    ++ codes "/dev/stdin serves for a file.\n"
 
 abbrev pub version_text : List ℕ
 version_text = codes "darwin_run 0.1.0\n"

@@ -1,7 +1,7 @@
 -- Lines that are taken, by what the code does for them.
-use Rattle.std.proofs.Common.{◌≡◌, ◌∙◌, ◌++◌, ◌∷◌, [], ℕ, ℤ, Bool, true, false, List, Option, Some, None, Result, Ok, Err, IfOk, IfSome, codes, length, refl, sym, ap, subst, string_bytes}
+use Rattle.std.proofs.Common.{◌≡◌, ◌∙◌, ◌++◌, ◌∷◌, [], ℕ, ℤ, Bool, true, false, List, Option, Some, None, Ok, IfSome, codes, length, refl, sym, ap, subst, string_bytes}
 use Rattle.std.specs.Global.{Vec}
-use Rattle.std.specs.Prelude.{◌||◌, IsSome, is_some, sum_by}
+use Rattle.std.specs.Prelude.{◌||◌, ⊤, IsSome, is_some, sum_by}
 use Rattle.std.specs.Option.{option_map}
 use Rattle.config_graph.specs.Graph.{IsGraph, requires_at}
 use Rattle.config_graph.specs.Sound.{Sound}
@@ -17,18 +17,19 @@ use Rattle.command_answers.specs.DescriptionFaults.{MayRefuse, fault_words}
 use Rattle.command_answers.specs.RefusalLines.{description_line, read_fault_line}
 use Rattle.command_answers.specs.declared.error.DescriptionFault.{DescriptionFault}
 use Rattle.command_answers.specs.declared.status.Status.TheVariants as status
-use Rattle.command_law.specs.Courses.{failed, gives, leads_on, refused, too_long}
+use Rattle.command_law.specs.Courses.{failed, leads_on, refused, too_long}
 use Rattle.command_law.specs.Descriptions.{IsChecked, IsTextRefusal}
 use Rattle.command_law.specs.Fetches.{fetch_of}
-use Rattle.command_law.specs.Lines.{GraphUse, RunLine, calls, changes, does, starts, uses, behind, FollowsLines, IsCallRefusal, Progress, running, with_called_graph, with_description, with_statement}
-use Rattle.command_law.specs.Schedules.{rounds}
+use Rattle.command_law.specs.Leads.{falls_short}
+use Rattle.command_law.specs.Lines.{GraphUse, RunLine, calls, changes, does, starts, uses, FollowsLines, IsCallRefusal, Progress, with_called_graph, with_description, with_statement}
 use Rattle.command_law.specs.declared.fetched.Fetched.TheVariants.{Failed, Held, TooLong}
 use Rattle.darwin_types.specs.Checked as of_checked
 use Rattle.darwin_types.specs.declared.checked.Checked.{Checked}
 use Rattle.command_files.specs.Refusals.{IsRefusalFor}
 use Rattle.command_files.specs.declared.answer.Answer.{Answer}
 use Rattle.command_files.specs.Calls.{LeadsToChange, LeadsToStart}
-use Rattle.command_files.specs.Leading.{LeadOn, Marks, MarksOnward}
+use Rattle.command_files.specs.Leading.{LeadOn, Marks, StopAt}
+use Rattle.command_files.specs.declared.answer.Stop.TheVariants as stops
 use Rattle.command_files.specs.Ways.{CanFollow, HasAdded, HasDescribed, IsAt, IsNoChange, IsAskedSoFar, last_graph, made_with_graph, with_start}
 use Rattle.command_files.specs.declared.way.Way.{Way}
 use Rattle.command_files.proofs.Calls.{begins, does_more, goes_on}
@@ -61,10 +62,10 @@ used_at way next p file d at has = record {
 }
 
 pub used_leads : (way next : Way) (p : Progress) (file bytes : List ℕ) (d : Checked) → IsAt way p → HasDescribed way file d next
-    → IsChecked bytes (of_checked.description d) → LeadOn {E = ℕ} p (uses file ∷ []) (fetch_of file (Held bytes) ∷ []) next (Ok None)
+    → IsChecked bytes (of_checked.description d) → LeadOn {T = ⊤} p (uses file ∷ []) (fetch_of file (Held bytes) ∷ []) next (Ok tt)
 used_leads way next p file bytes d at has checked =
     let tree = of_checked.description d in
-    (with_description p file tree, used_at way next p file d at has, λ rest more_ answer follows. leads_on bytes more_ answer (gives tree more_ answer checked follows))
+    (with_description p file tree, used_at way next p file d at has, (bytes, tree, [], refl, checked, (refl, refl)))
 
 pub used_marks : (way next : Way) (file name : List ℕ) (d : Checked) → HasDescribed way file d next → Marks way next (bodies.File name)
 used_marks way next file name d has = record {
@@ -74,7 +75,7 @@ used_marks way next file name d has = record {
 
 -- a start
 pub started : (way : Way) (p : Progress) (s : Start) (name : List ℕ) (args : List ℤ) → way.start ≡ None → Sound s.graph → HasRoomFor way.made s.graph
-    → LeadsToStart p name args s → IsAt way p → LeadOn {E = ℕ} p (calls starts name args ∷ []) [] (with_start way s) (Ok None)
+    → LeadsToStart p name args s → IsAt way p → LeadOn {T = ⊤} p (calls starts name args ∷ []) [] (with_start way s) (Ok tt)
 started way p s name args none_ sound room leads at =
     let q = with_called_graph p starts name args s.graph (made_with_graph p.made s.graph) in (
       q,
@@ -87,7 +88,7 @@ started way p s name args none_ sound room leads at =
             (subst (λ xs. IsAskedSoFar (Some s) way.steps.items (made_with_graph way.made s.graph) (p.statements ++ start s.name xs s.graph ∷ []) (s.graph ∷ p.graphs)) leads.args_are
             (begins s way.steps.items way.made p.statements p.graphs sound room (subst (λ o. IsAskedSoFar o way.steps.items way.made p.statements p.graphs) none_ at.stands)));
       },
-      λ rest more_ answer follows. gives q more_ answer leads.leads follows,
+      (q, leads.leads, (refl, refl)),
     )
 
 pub start_marks : (way : Way) (s : Start) (name : List ℕ) (args : List ℤ) → Marks way (with_start way s) (bodies.Start name args)
@@ -114,7 +115,7 @@ step_marks way next step m body has no_file no_start = record {
 -- a change
 pub changed : (way next : Way) (p : Progress) (c : Replacement) (name : List ℕ) (args : List ℤ) (within : ℕ) (moves : List Move) → IsSome way.start
     → IfSome way.start (λ s. CanFollow (last_graph s.graph way.steps.items) way.made c) → IsGraph c.graph → LeadsToChange p name args within moves c
-    → HasAdded way (steps.Change c) (made_with_change way.made c) next → IsAt way p → LeadOn {E = ℕ} p (calls (changes within moves) name args ∷ []) [] next (Ok None)
+    → HasAdded way (steps.Change c) (made_with_change way.made c) next → IsAt way p → LeadOn {T = ⊤} p (calls (changes within moves) name args ∷ []) [] next (Ok tt)
 changed way next p c name args within moves some follows_ is_graph leads has at =
     let q = with_called_graph p (changes within moves) name args c.graph (made_with_change p.made c) in
     let told = goes_on way.start way.steps.items way.made p.statements p.graphs c some follows_ is_graph at.stands in
@@ -125,25 +126,25 @@ changed way next p c name args within moves some follows_ is_graph leads has at 
       added_at way next (steps.Change c) p q (subst (λ m. HasAdded way (steps.Change c) m next) (sym has.made_is) has) refl refl at
           (ap (λ m. made_with_change m c) at.made_is ∙ sym has.made_is)
           (subst (λ m. IsAskedSoFar way.start (way.steps.items ++ steps.Change c ∷ []) m q.statements q.graphs) (sym has.made_is) stands),
-      λ rest more_ answer follows. gives q more_ answer leads.leads follows,
+      (q, leads.leads, (refl, refl)),
     )
 
 -- what the run does of itself
 pub did : (way next : Way) (p : Progress) (step : Step) → IsSome way.start → IsNoChange step → HasAdded way step way.made next → IsAt way p
-    → LeadOn {E = ℕ} p (does (statement_of step) ∷ []) [] next (Ok None)
+    → LeadOn {T = ⊤} p (does (statement_of step) ∷ []) [] next (Ok tt)
 did way next p step some none_ has at =
     let q = with_statement p (statement_of step) in
     let told = does_more way.start way.steps.items way.made p.statements p.graphs step some none_ at.stands in (
       q,
       added_at way next step p q (subst (λ m. HasAdded way step m next) (sym has.made_is) has) refl refl at (at.made_is ∙ sym has.made_is)
           (subst (λ m. IsAskedSoFar way.start (way.steps.items ++ step ∷ []) m q.statements q.graphs) (sym has.made_is) told),
-      λ rest more_ answer follows. follows,
+      (refl, refl),
     )
 
 -- a line that is refused
 pub call_refused : (way : Way) (p : Progress) (deed : GraphUse) (name : List ℕ) (args : List ℤ) (fault : DescriptionFault) (answer : Answer) → IsAt way p
     → MayRefuse (IsCallRefusal p deed name args) fault → IsRefusalFor (string_bytes way.file) fault answer
-    → LeadOn {E = ℕ} p (calls deed name args ∷ []) [] way (Ok (Some answer))
+    → StopAt p (calls deed name args ∷ []) [] (stops.Refused answer)
 call_refused way p deed name args fault answer at may is =
     λ rest. record {
       answer = refusal (description p.file (fault_words fault));
@@ -152,14 +153,9 @@ call_refused way p deed name args fault answer at may is =
       has_text = is.text_is ∙ ap (λ f. description_line f (fault_words fault)) (sym at.file_is);
     }
 
-pub found_marks : {E : Type 0} (way next : Way) (body : Body) (r : Result (Option Answer) E) → IfOk r IsSome → MarksOnward way next body r
-found_marks way next body (Ok None) found = absurd (cc found)
-found_marks way next body (Ok (Some answer)) found = tt
-found_marks way next body (Err e) found = tt
-
 -- a description that is refused
 pub text_refused : (file text : List ℕ) (fault : DescriptionFault) (answer : Answer) → MayRefuse (IsTextRefusal text) fault → IsRefusalFor file fault answer → (p : Progress) (rest : List RunLine)
-    → ShowsAnswer (FollowsLines (behind (running rounds)) p (uses file ∷ rest) (fetch_of file (Held text) ∷ [])) answer.status answer.text.items
+    → ShowsAnswer (FollowsLines falls_short p (uses file ∷ rest) (fetch_of file (Held text) ∷ [])) answer.status answer.text.items
 text_refused file text fault answer may is p rest = record {
   answer = refusal (description file (fault_words fault));
   is = leads_on text [] (refusal (description file (fault_words fault))) (refused (fault_words fault) (may is.plain));
@@ -168,11 +164,11 @@ text_refused file text fault answer may is p rest = record {
 }
 
 pub too_long_refused : (file : List ℕ) (p : Progress) (rest : List RunLine)
-    → ShowsAnswer (FollowsLines (behind (running rounds)) p (uses file ∷ rest) (fetch_of file TooLong ∷ [])) status.Description (description_line file (codes "TooLong" ∷ []))
+    → ShowsAnswer (FollowsLines falls_short p (uses file ∷ rest) (fetch_of file TooLong ∷ [])) status.Description (description_line file (codes "TooLong" ∷ []))
 too_long_refused file p rest = record { answer = refusal (description file (codes "TooLong" ∷ [])); is = too_long; has_status = refl; has_text = refl }
 
 pub failed_refused : (file : List ℕ) (p : Progress) (rest : List RunLine)
-    → ShowsAnswer (FollowsLines (behind (running rounds)) p (uses file ∷ rest) (fetch_of file Failed ∷ [])) status.ReadFault (read_fault_line file)
+    → ShowsAnswer (FollowsLines falls_short p (uses file ∷ rest) (fetch_of file Failed ∷ [])) status.ReadFault (read_fault_line file)
 failed_refused file p rest = record { answer = refusal (read_fault file); is = failed; has_status = refl; has_text = refl }
 
 -- room for what a change creates

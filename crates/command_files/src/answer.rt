@@ -6,13 +6,32 @@ ghost use Rattle.command_files.specs.Refusals.{IsLine};
 
 use command_answers::{Status, description_too_long_line, read_fault_line, script_too_long_line};
 use config_graph::NoMemory;
-use std::alloc::Global;
+use std::alloc::{AllocError, Global};
 
 /// A text, and the status with which the run ends where the text is written.
 #[derive(Debug, Drop)]
 pub struct Answer {
     pub status: Status,
     pub text: Vec<u8>,
+}
+
+/// Why there is nothing to go on with.
+#[derive(Debug, Drop)]
+pub enum Stop {
+    /// A file is refused, and this is the answer.
+    Refused(Answer),
+    NoMemory,
+}
+
+impl From<AllocError> for Stop {
+    ghost use Rattle.std.specs.Prelude.{◌≡◌};
+    ghost use Rattle.command_files.specs.declared.answer.Stop.TheVariants.{NoMemory};
+
+    ghost from_gives = { λ _ stop. stop ≡ NoMemory };
+
+    fn from(_error: AllocError) -> Stop {
+        Stop::NoMemory
+    }
 }
 
 /// The line of a file that can't be read.

@@ -17,10 +17,10 @@ mod taking;
 mod used_files;
 mod way;
 
-pub use answer::{Answer, description_too_long, unreadable};
+pub use answer::{Answer, Stop, description_too_long, unreadable};
 pub use describing::{describe, refuse_description};
 pub use description::{checked_of, graph_of};
 pub use fetching::{FILE_LIMIT, REPORT_LIMIT, fetch_file};
 pub use preparing::{Prepared, prepare};
 pub use reports::{answer_run, answer_summary, upgrade};
-pub use scripts::{ReadEvents, ReadScript, read_events, read_script};
+pub use scripts::{read_events, read_script};

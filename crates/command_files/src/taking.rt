@@ -1,6 +1,6 @@
 //! The lines of a script, one after the other.
 
-ghost use Rattle.std.specs.Prelude.{◌≡◌, ◌∷◌, ℕ, ℤ, List as Items, [], false, IfOk, IfSome, IsSome, None, is_some};
+ghost use Rattle.std.specs.Prelude.{◌≡◌, ◌∷◌, ℕ, ℤ, List as Items, [], false, IfErr, IsSome, None, OnOk, is_some};
 ghost use Rattle.std.specs.Str.{IsUtf8};
 ghost use Rattle.command_answers.specs.DescriptionFaults.{MayRefuse};
 ghost use Rattle.change_script.specs.ScriptFiles.{is_file, is_start};
@@ -8,58 +8,51 @@ ghost use Rattle.report_types.specs.declared.script.Body.{Body as Statement};
 ghost use Rattle.command_law.specs.Lines.{GraphUse, IsCallRefusal, Progress, calls, changes, does, starts, uses};
 ghost use Rattle.command_law.specs.Scripts.{lines_of_body, lines_of_script};
 ghost use Rattle.command_files.specs.Fitting.{MayAllStand, MayStand};
-ghost use Rattle.command_files.specs.Leading.{IsOfNoRun, LeadOn, MarksOnward, Took};
+ghost use Rattle.command_files.specs.Leading.{LeadOn, Marks, StopAt, Took};
+ghost use Rattle.command_files.specs.Refusals.{EndsNoRun};
 ghost use Rattle.command_files.specs.Ways.{IsAt, IsNoChange};
 ghost use Rattle.change_law.specs.Asked.{statement_of};
 
 use crate::changing::{change_to, start_with};
-use crate::used_files::{Described, read_description};
+use crate::used_files::read_description;
 use crate::way::Way;
-use crate::{Answer, FILE_LIMIT, fetch_file, refuse_description};
+use crate::{FILE_LIMIT, Stop, fetch_file, refuse_description};
 use cfg_io::Shelf;
 use change_law::Step;
 use change_plan::Move;
 use command_answers::DescriptionFault;
-use config_graph::{List, NoMemory, Text};
+use config_graph::{List, Text};
 use report_types::{Body, ScriptLine};
 use std::alloc::Global;
 
-/// Goes on by these lines, to their end or to the first that is refused. Gives what refuses it.
+/// Goes on by these lines, to their end or to the first that is refused.
 pub fn take_lines<H: Shelf>(
     alloc: Global,
     shelf: &mut H,
     way: &mut Way,
     lines: Vec<ScriptLine>,
-) -> Result<Option<Answer>, NoMemory>
+) -> Result<(), Stop>
     requires { MayAllStand (is_some way.old.used) (is_some way.old.start) lines.items }
     ensures took { (p : Progress) → IsAt way.old p
         → Took (H.files shelf.old) p (lines_of_script lines.items) (H.failed shelf.old) (H.failed shelf.new)
         way.new result }
-    ensures begun { IfOk result (λ found. found ≡ None → IsSome way.new.start) }
-    ensures refuses { IfOk result (λ found. IfSome found IsOfNoRun) }
+    ensures begun { OnOk result (IsSome way.new.start) }
+    ensures refuses { IfErr result EndsNoRun }
     ensures kept { H.files shelf.new ≡ H.files shelf.old }
 {
     for line in lines {
-        let refusal = take_line(alloc, shelf, way, line.body)?;
-        if let Some(answer) = refusal {
-            return Ok(Some(answer));
-        }
+        take_line(alloc, shelf, way, line.body)?;
     }
-    Ok(None)
+    Ok(())
 }
 
-/// Goes on by a line, or gives what refuses it.
-fn take_line<H: Shelf>(
-    alloc: Global,
-    shelf: &mut H,
-    way: &mut Way,
-    body: Body,
-) -> Result<Option<Answer>, NoMemory>
+/// Goes on by a line, unless it is refused.
+fn take_line<H: Shelf>(alloc: Global, shelf: &mut H, way: &mut Way, body: Body) -> Result<(), Stop>
     requires { MayStand (is_some way.old.used) (is_some way.old.start) body }
     ensures took { (p : Progress) → IsAt way.old p
         → Took (H.files shelf.old) p (lines_of_body body) (H.failed shelf.old) (H.failed shelf.new) way.new result }
-    ensures marks { MarksOnward way.old way.new body result }
-    ensures refuses { IfOk result (λ found. IfSome found IsOfNoRun) }
+    ensures marks { OnOk result (Marks way.old way.new body) }
+    ensures refuses { IfErr result EndsNoRun }
     ensures kept { H.files shelf.new ≡ H.files shelf.old }
 {
     match body {
@@ -74,58 +67,44 @@ fn take_line<H: Shelf>(
         Body::Run(k) => do_step(way, Step::Run { k }),
         Body::Finish(n) => do_step(way, Step::Finish { n }),
         Body::Show => do_step(way, Step::Show),
-        Body::Stop => Ok(None),
+        Body::Stop => Ok(()),
     }
 }
 
 /// Fetches a file, whose description the lines below are of.
-fn use_file<H: Shelf>(
-    alloc: Global,
-    shelf: &mut H,
-    way: &mut Way,
-    name: Text,
-) -> Result<Option<Answer>, NoMemory>
+fn use_file<H: Shelf>(alloc: Global, shelf: &mut H, way: &mut Way, name: Text) -> Result<(), Stop>
     requires { IsUtf8 name }
     ensures took { (p : Progress) → IsAt way.old p
         → Took (H.files shelf.old) p (uses name ∷ []) (H.failed shelf.old) (H.failed shelf.new) way.new result }
-    ensures marks { MarksOnward way.old way.new (Body.File name) result }
-    ensures refuses { IfOk result (λ found. IfSome found IsOfNoRun) }
+    ensures marks { OnOk result (Marks way.old way.new (Body.File name)) }
+    ensures refuses { IfErr result EndsNoRun }
     ensures kept { H.files shelf.new ≡ H.files shelf.old }
 {
     let file = str_of(&name);
     let fetched = fetch_file(shelf, file, FILE_LIMIT)?;
-    match read_description(alloc, file, fetched)? {
-        Described::Checked(checked) => {
-            way.describe(String::from_str(alloc, file)?, checked);
-            Ok(None)
-        }
-        Described::Refused(answer) => Ok(Some(answer)),
-    }
+    let checked = read_description(alloc, file, fetched)?;
+    way.describe(String::from_str(alloc, file)?, checked);
+    Ok(())
 }
 
-/// Starts with a component, or gives what refuses it.
-fn start(
-    alloc: Global,
-    way: &mut Way,
-    name: Text,
-    args: List<i32>,
-) -> Result<Option<Answer>, NoMemory>
+/// Starts with a component, unless it is refused.
+fn start(alloc: Global, way: &mut Way, name: Text, args: List<i32>) -> Result<(), Stop>
     requires used { IsSome way.old.used }
     requires unbegun { way.old.start ≡ None }
     ensures lead { (p : Progress) → IsAt way.old p → LeadOn p (calls starts name args ∷ []) [] way.new result }
-    ensures marks { MarksOnward way.old way.new (Body.Start name args) result }
-    ensures refuses { IfOk result (λ found. IfSome found IsOfNoRun) }
+    ensures marks { OnOk result (Marks way.old way.new (Body.Start name args)) }
+    ensures refuses { IfErr result EndsNoRun }
 {
     match start_with(alloc, way, name, args) {
         Ok(start) => {
             way.begin(start);
-            Ok(None)
+            Ok(())
         }
-        Err(fault) => refuse(alloc, way, &fault),
+        Err(fault) => Err(refuse(alloc, way, &fault)),
     }
 }
 
-/// Changes to a component, or gives what refuses it.
+/// Changes to a component, unless it is refused.
 fn change(
     alloc: Global,
     way: &mut Way,
@@ -133,45 +112,43 @@ fn change(
     args: List<i32>,
     within: u32,
     moves: List<Move>,
-) -> Result<Option<Answer>, NoMemory>
+) -> Result<(), Stop>
     requires used { IsSome way.old.used }
     requires begun { IsSome way.old.start }
     ensures lead { (p : Progress) → IsAt way.old p
         → LeadOn p (calls (changes within moves) name args ∷ []) [] way.new result }
-    ensures marks { MarksOnward way.old way.new (Body.Change name args within moves) result }
-    ensures refuses { IfOk result (λ found. IfSome found IsOfNoRun) }
+    ensures marks { OnOk result (Marks way.old way.new (Body.Change name args within moves)) }
+    ensures refuses { IfErr result EndsNoRun }
 {
     match change_to(alloc, way, name, args, within, moves) {
-        Ok(change) => {
-            way.add_change(change)?;
-            Ok(None)
-        }
-        Err(fault) => refuse(alloc, way, &fault),
+        Ok(change) => Ok(way.add_change(change)?),
+        Err(fault) => Err(refuse(alloc, way, &fault)),
     }
 }
 
 /// What the run does of itself.
-fn do_step(way: &mut Way, step: Step) -> Result<Option<Answer>, NoMemory>
+fn do_step(way: &mut Way, step: Step) -> Result<(), Stop>
     requires begun { IsSome way.old.start }
     requires not_change { IsNoChange step }
     ensures lead { (p : Progress) → IsAt way.old p → LeadOn p (does (statement_of step) ∷ []) [] way.new result }
     ensures marks { (body : Statement) → is_file body ≡ false → is_start body ≡ false
-        → MarksOnward way.old way.new body result }
-    ensures refuses { IfOk result (λ found. IfSome found IsOfNoRun) }
+        → OnOk result (Marks way.old way.new body) }
+    ensures refuses { IfErr result EndsNoRun }
 {
-    way.add_step(step)?;
-    Ok(None)
+    Ok(way.add_step(step)?)
 }
 
-/// The line that refuses a start or a change.
-fn refuse(alloc: Global, way: &Way, fault: &DescriptionFault) -> Result<Option<Answer>, NoMemory>
-    ensures found { IfOk result IsSome }
-    ensures refuses { IfOk result (λ found. IfSome found IsOfNoRun) }
-    ensures lead { (p : Progress) (deed : GraphUse) (name : Items ℕ) (args : Items ℤ) → IsAt way.now p
+/// The line that refuses a start or a change, or want of memory.
+fn refuse(alloc: Global, way: &Way, fault: &DescriptionFault) -> Stop
+    ensures refuses { EndsNoRun result }
+    ensures stops { (p : Progress) (deed : GraphUse) (name : Items ℕ) (args : Items ℤ) → IsAt way.now p
         → MayRefuse (IsCallRefusal p deed name args) fault.now
-        → LeadOn p (calls deed name args ∷ []) [] way.now result }
+        → StopAt p (calls deed name args ∷ []) [] result }
 {
-    Ok(Some(refuse_description(alloc, way.file.as_str(), fault)?))
+    match refuse_description(alloc, way.file.as_str(), fault) {
+        Ok(answer) => Stop::Refused(answer),
+        Err(_) => Stop::NoMemory,
+    }
 }
 
 /// The name of a file.

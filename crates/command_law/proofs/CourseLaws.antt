@@ -1,14 +1,16 @@
 -- Courses from what the parts of the program say: of a description that was fetched, of a file of events, of a script, and where
 -- memory ran out.
-use Rattle.std.proofs.Common.{◌≡◌, ℕ, ℤ, List, [], ◌∷◌, Some, codes, refl, sym, subst}
+use Rattle.std.proofs.Common.{◌≡◌, ℕ, ℤ, List, [], ◌∷◌, ◌++◌, Some, append-nil, codes, refl, sym, ap, subst}
 use Rattle.config_graph.specs.Graph.{Graph}
 use Rattle.config_graph.specs.declared.node.Made.{Made}
 use Rattle.darwin_parser.specs.Tree.{Tree}
 use Rattle.change_script.specs.declared.event_files.EventFile.{EventFile}
 use Rattle.change_script.specs.EventFiles.{IsEventFile}
 use Rattle.change_script.specs.ScriptFiles.{IsScript}
+use Rattle.change_law.specs.Statements.{Statement}
+use Rattle.report_types.specs.declared.report.Report.{Report}
 use Rattle.report_types.specs.declared.script.Script.{Script}
-use Rattle.command_answers.specs.Answers.{Answer, ShowsAnswer, description, graph, no_memory, plan, read_fault, refusal, report, script}
+use Rattle.command_answers.specs.Answers.{Answer, ShowsAnswer, description, graph, no_memory, plan, ran, read_fault, refusal, report, script}
 use Rattle.command_answers.specs.RefusalLines.{elaborate_words, plan_words, script_words, report_words}
 use Rattle.command_answers.specs.declared.status.Status.{Status}
 use Rattle.command_words.specs.declared.words.Command.TheVariants as commands
@@ -18,15 +20,17 @@ use Rattle.command_law.specs.declared.fetched.Fetched.TheVariants.{Held}
 use Rattle.command_law.specs.declared.query.Query.{Query}
 use Rattle.command_law.specs.declared.query.Query.TheVariants as queries
 use Rattle.command_law.specs.Commands.{aim_of, calls_of, course_of_query, course_of_script, course_of}
-use Rattle.command_law.specs.Courses.{FetchCourse, not_fetched, fetched_alone, failed, too_long, leads_on, refused, gives, makes}
+use Rattle.command_law.specs.Courses.{FetchCourse, not_fetched, fetched_alone, failed, too_long, leads_on, not_judged, refused, gives, not_made, makes}
 use Rattle.command_law.specs.Descriptions.{IsChecked, IsGraphOfCall, IsDescriptionRefusal, by_text}
 use Rattle.command_law.specs.Descriptions as descriptions
 use Rattle.command_law.specs.Fetches.{Fetch, fetch_of, report_fetch}
-use Rattle.command_law.specs.Lines.{RunLine, calls, GraphUse, draws, starts, changes, Progress, begun, with_description, with_called_graph, Allows, by_elaboration, by_deed, CallLeads, Aim, drawing, planning, replaying, Concludes, behind, FollowsLines, uses}
+use Rattle.command_law.specs.Leads.{falls_short, LeadBy, ScriptLeads}
+use Rattle.command_law.specs.Lines.{RunLine, calls, does, GraphUse, draws, starts, changes, Progress, begun, with_description, with_called_graph, with_statement, Allows, by_elaboration, by_deed, CallLeads, Aim, drawing, planning, replaying, running, Concludes, behind, FollowsLines, uses}
 use Rattle.command_law.specs.Plans.{Starts, RefusesStart, has_no_graph, is_full, HasPlan, RefusesPlan, starts_not, leads_nowhere, gets_full, made_of_graph}
 use Rattle.command_law.specs.Queries.{IsRefused, AnswersQuery}
 use Rattle.command_law.specs.OneFile.{DescriptionAnswers, cannot_read, is_too_long, answered, EventsAnswers, cannot_read_events, events_file_too_long, events_file_at_fault, ScriptAnswers, cannot_read_script, script_file_too_long, script_file_at_fault, ReportAnswers, cannot_read_report, report_too_long, report_at_fault, upgraded}
 use Rattle.command_law.specs.OneFile as files
+use Rattle.command_law.specs.Schedules.{IsReportBy, Schedule}
 use Rattle.command_law.specs.Scripts.{lines_of_script}
 use Rattle.command_law.proofs.Courses.{first_made}
 use Rattle.command_law.proofs.Readings as readings
@@ -231,6 +235,106 @@ module _ (Then : Progress → FetchCourse) (name : List ℕ) where
 
   pub statements_unread : (what : Fetched) → course_of_script Then name (fetch_of name what ∷ []) (refusal no_memory)
   statements_unread what = fetched_alone what
+
+-- lines behind lines that lead on
+pub ways_join :
+    (p : Progress) (lines below : List RunLine) (fetches more_ : List Fetch) (q end : Progress) → LeadBy p lines fetches q → LeadBy q below more_ end
+    → LeadBy p (lines ++ below) (fetches ++ more_) end
+ways_join p [] below fetches more_ q end lead on =
+    subst (λ fs. LeadBy p below (fs ++ more_) end) (sym lead.0) (subst (λ r. LeadBy r below more_ end) lead.1 on)
+ways_join p (uses file ∷ lines) below fetches more_ q end lead on = (
+  lead.0,
+  lead.1,
+  lead.2 ++ more_,
+  ap (λ fs. fs ++ more_) lead.3,
+  lead.4,
+  ways_join (with_description p file lead.1) lines below lead.2 more_ q end lead.5 on,
+)
+ways_join p (calls deed name args ∷ lines) below fetches more_ q end lead on = (lead.0, lead.1, ways_join lead.0 lines below fetches more_ q end lead.2 on)
+ways_join p (does what ∷ lines) below fetches more_ q end lead on = ways_join (with_statement p what) lines below fetches more_ q end lead on
+
+-- memory may run out before any line
+pub ends_short : (p : Progress) (lines : List RunLine) → FollowsLines falls_short p lines [] (refusal no_memory)
+ends_short p [] = (refl, refl)
+ends_short p (uses file ∷ lines) = not_fetched
+ends_short p (calls deed name args ∷ lines) = not_judged
+ends_short p (does what ∷ lines) = ends_short (with_statement p what) lines
+
+-- whatever follows behind lines
+module _ (Then : Progress → FetchCourse) where
+  -- what follows from where lines lead
+  pub lines_lead :
+      (p : Progress) (lines rest : List RunLine) (fetches more_ : List Fetch) (answer : Answer) (end : Progress) → LeadBy p lines fetches end
+      → FollowsLines Then end rest more_ answer → FollowsLines Then p (lines ++ rest) (fetches ++ more_) answer
+  lines_lead p [] rest fetches more_ answer end lead follows =
+      subst (λ fs. FollowsLines Then p rest (fs ++ more_) answer) (sym lead.0) (subst (λ q. FollowsLines Then q rest more_ answer) lead.1 follows)
+  lines_lead p (uses file ∷ lines) rest fetches more_ answer end lead follows =
+      subst (λ fs. FollowsLines Then p (uses file ∷ (lines ++ rest)) (fs ++ more_) answer) (sym lead.3)
+      (leads_on lead.0 (lead.2 ++ more_) answer
+      (gives lead.1 (lead.2 ++ more_) answer lead.4 (lines_lead (with_description p file lead.1) lines rest lead.2 more_ answer end lead.5 follows)))
+  lines_lead p (calls deed name args ∷ lines) rest fetches more_ answer end lead follows =
+      gives lead.0 (fetches ++ more_) answer lead.1 (lines_lead lead.0 lines rest fetches more_ answer end lead.2 follows)
+  lines_lead p (does what ∷ lines) rest fetches more_ answer end lead follows = lines_lead (with_statement p what) lines rest fetches more_ answer end lead follows
+
+  -- and of a script
+  pub script_leads :
+      (name : List ℕ) (fetches more_ : List Fetch) (answer : Answer) (end : Progress) → ScriptLeads name fetches end → Then end more_ answer
+      → course_of_script Then name (fetches ++ more_) answer
+  script_leads name fetches more_ answer end leads then_ =
+      let lines = lines_of_script leads.script.lines in
+      subst (λ fs. course_of_script Then name (fs ++ more_) answer) (sym leads.parts)
+      (statements_read Then name leads.bytes leads.script (leads.later ++ more_) answer leads.is_script
+      (subst (λ ls. FollowsLines Then begun ls (leads.later ++ more_) answer) (append-nil lines) (lines_lead begun lines [] leads.later more_ answer end leads.lead then_)))
+
+  -- an early end, where memory may run out before what follows
+  module _ (short : (p : Progress) → Then p [] (refusal no_memory)) where
+    pub lines_end_early :
+        (p : Progress) (lines : List RunLine) (fetches : List Fetch) (answer : Answer) → FollowsLines falls_short p lines fetches answer
+        → FollowsLines Then p lines fetches answer
+    lines_end_early p [] fetches answer says = subst (λ fs. Then p fs answer) (sym says.0) (subst (Then p []) (sym says.1) (short p))
+    lines_end_early p (uses file ∷ lines) _ _ not_fetched = not_fetched
+    lines_end_early p (uses file ∷ lines) _ _ (fetched_alone given) = fetched_alone given
+    lines_end_early p (uses file ∷ lines) _ _ failed = failed
+    lines_end_early p (uses file ∷ lines) _ _ too_long = too_long
+    lines_end_early p (uses file ∷ lines) _ _ (leads_on bytes _ _ not_judged) = leads_on bytes [] (refusal no_memory) not_judged
+    lines_end_early p (uses file ∷ lines) _ _ (leads_on bytes _ _ (refused words why)) = leads_on bytes [] (refusal (description file words)) (refused words why)
+    lines_end_early p (uses file ∷ lines) _ _ (leads_on bytes _ _ (gives tree fetches answer is follows)) =
+        leads_on bytes fetches answer (gives tree fetches answer is (lines_end_early (with_description p file tree) lines fetches answer follows))
+    lines_end_early p (calls deed name args ∷ lines) _ _ not_judged = not_judged
+    lines_end_early p (calls deed name args ∷ lines) _ _ (refused words why) = refused words why
+    lines_end_early p (calls deed name args ∷ lines) _ _ (gives next fetches answer leads follows) = gives next fetches answer leads (lines_end_early next lines fetches answer follows)
+    lines_end_early p (does what ∷ lines) fetches answer follows = lines_end_early (with_statement p what) lines fetches answer follows
+
+    pub script_ends_early :
+        (name : List ℕ) (fetches : List Fetch) (answer : Answer) → course_of_script falls_short name fetches answer → course_of_script Then name fetches answer
+    script_ends_early name _ _ not_fetched = not_fetched
+    script_ends_early name _ _ (fetched_alone given) = fetched_alone given
+    script_ends_early name _ _ failed = failed
+    script_ends_early name _ _ too_long = too_long
+    script_ends_early name _ _ (leads_on bytes _ _ not_judged) = leads_on bytes [] (refusal no_memory) not_judged
+    script_ends_early name _ _ (leads_on bytes _ _ (refused words why)) = leads_on bytes [] (refusal (script name words)) (refused words why)
+    script_ends_early name _ _ (leads_on bytes _ _ (gives parsed fetches answer is follows)) =
+        leads_on bytes fetches answer (gives parsed fetches answer is (lines_end_early begun (lines_of_script parsed.lines) fetches answer follows))
+
+-- memory may run out before the end of what is wanted
+pub behind_short : (aim : Aim) (p : Progress) → behind aim p [] (refusal no_memory)
+behind_short aim p = not_made
+
+-- the report of a run of what a script asks for
+pub script_ran :
+    (schedule : Schedule) (name : List ℕ) (fetches : List Fetch) (end : Progress) (statements : List Statement) (r : Report) → ScriptLeads name fetches end
+    → end.statements ≡ statements → IsReportBy schedule statements r → course_of_script (behind (running schedule)) name fetches (ran r)
+script_ran schedule name fetches end statements r leads same is =
+    subst (λ fs. course_of_script (behind (running schedule)) name fs (ran r)) (append-nil fetches)
+    (script_leads (behind (running schedule)) name fetches [] (ran r) end leads
+    (makes (ran r) [] (ran r) (r, subst (λ ss. IsReportBy schedule ss r) (sym same) is, refl) (refl, refl)))
+
+-- or memory runs out behind its lines
+pub script_ran_short :
+    (aim : Aim) (name : List ℕ) (fetches : List Fetch) (end : Progress) → ScriptLeads name fetches end → course_of_script (behind aim) name fetches (refusal no_memory)
+script_ran_short aim name fetches end leads =
+    subst (λ fs. course_of_script (behind aim) name fs (refusal no_memory)) (append-nil fetches)
+    (script_leads (behind aim) name fetches [] (refusal no_memory) end leads not_made)
 
 -- what is answered of a report
 pub upgrades :

@@ -1,5 +1,5 @@
 -- What each status of a run says of its words and fetches, from the one relation of runs.
-use Rattle.std.proofs.Common.{◌≡◌, ◌≢◌, ◌∙◌, ◌⊎◌, inl, inr, ℕ, Bool, List, [], ◌∷◌, ◌++◌, Option, Some, append-nil, refl, sym, ap}
+use Rattle.std.proofs.Common.{◌≡◌, ◌≢◌, ◌∙◌, ◌⊎◌, inl, inr, ℕ, Bool, List, [], ◌∷◌, ◌++◌, Option, Some, append-nil, refl, sym, ap, subst}
 use Rattle.std.specs.Prelude.{codes}
 use Rattle.std.specs.List.{AllByRecursion}
 use Rattle.base.specs.Count.{Rose}
@@ -148,7 +148,7 @@ any_failed files (commands.Big lanes) fetches own text answer told some = absurd
 
 module _ (knows : Command → Bool) (seen : Run) (run : Ran knows seen) where
   pub usage : seen.status ≡ status.Usage → HasNoForm knows seen.words × (seen.taken' ≡ with_bytes seen.taken (codes "usage" ++ 10 ∷ []))
-  usage is = by seen.status run.written is
+  usage is = by run.written is
     where
       own : (fetches : List Fetch) (s : Status) (text : List ℕ) → AnswersCommand knows seen.words fetches s text → s ≡ status.Usage → seen.taken' ≡ with_bytes seen.taken text
           → HasNoForm knows seen.words × (seen.taken' ≡ with_bytes seen.taken (codes "usage" ++ 10 ∷ []))
@@ -157,24 +157,24 @@ module _ (knows : Command → Bool) (seen : Run) (run : Ran knows seen) where
           absurd (not_usage s (command_status command fetches s text to) is)
       own _ _ _ (no_memory fetches) is took = cc
 
-      by : (r : Status) → Written run.own run.text seen.taken seen.taken' seen.faults seen.faults' r → r ≡ status.Usage → HasNoForm knows seen.words × (seen.taken' ≡ with_bytes seen.taken (codes "usage" ++ 10 ∷ []))
-      by _ (whole took same) is = own run.fetches run.own run.text run.answers is took
-      by _ (stopped n short took rose) is = cc
+      by : Written run.own run.text seen → seen.status ≡ status.Usage → HasNoForm knows seen.words × (seen.taken' ≡ with_bytes seen.taken (codes "usage" ++ 10 ∷ []))
+      by (whole took same ends) is = own run.fetches run.own run.text run.answers (sym ends ∙ is) took
+      by (stopped n short took rose ends) is = cc (sym ends ∙ is)
 
   pub every_usage : HasNoForm knows seen.words → Ends seen.status status.Usage
-  every_usage none = by seen.status run.written
+  every_usage none = by run.written
     where
       own : (fetches : List Fetch) (s : Status) (text : List ℕ) → AnswersCommand knows seen.words fetches s text → Ends s status.Usage
       own _ _ _ (no_form other) = inl refl
       own _ _ _ (answered_to command fetches s text asks to) = absurd (none command asks)
       own _ _ _ (no_memory fetches) = inr (inl refl)
 
-      by : (r : Status) → Written run.own run.text seen.taken seen.taken' seen.faults seen.faults' r → Ends r status.Usage
-      by _ (whole took same) = own run.fetches run.own run.text run.answers
-      by _ (stopped n short took rose) = inr (inr refl)
+      by : Written run.own run.text seen → Ends seen.status status.Usage
+      by (whole took same ends) = subst (λ s. Ends s status.Usage) (sym ends) (own run.fetches run.own run.text run.answers)
+      by (stopped n short took rose ends) = inr (inr ends)
 
   pub read_fault : seen.status ≡ status.ReadFault → (file : List ℕ) × NamesFile knows (HoldsFile seen.files) seen.words file × (seen.failures' ≡ seen.failures ++ file ∷ []) × (seen.taken' ≡ with_bytes seen.taken (read_fault_line file))
-  read_fault is = by seen.status run.written is
+  read_fault is = by run.written is
     where
       own : (fetches : List Fetch) (s : Status) (text : List ℕ) → AnswersCommand knows seen.words fetches s text → AllByRecursion (Gave seen.files) fetches → s ≡ status.ReadFault → seen.failures' ≡ seen.failures ++ failed_names fetches → seen.taken' ≡ with_bytes seen.taken text
           → (file : List ℕ) × NamesFile knows (HoldsFile seen.files) seen.words file × (seen.failures' ≡ seen.failures ++ file ∷ []) × (seen.taken' ≡ with_bytes seen.taken (read_fault_line file))
@@ -184,13 +184,13 @@ module _ (knows : Command → Bool) (seen : Run) (run : Ran knows seen) where
           (found.0, (command, asks, found.1), noted ∙ ap (λ names. seen.failures ++ names) found.2, took ∙ ap (with_bytes seen.taken) found.3)
       own _ _ _ (no_memory fetches) told is noted took = cc
 
-      by : (r : Status) → Written run.own run.text seen.taken seen.taken' seen.faults seen.faults' r → r ≡ status.ReadFault
+      by : Written run.own run.text seen → seen.status ≡ status.ReadFault
           → (file : List ℕ) × NamesFile knows (HoldsFile seen.files) seen.words file × (seen.failures' ≡ seen.failures ++ file ∷ []) × (seen.taken' ≡ with_bytes seen.taken (read_fault_line file))
-      by _ (whole took same) is = own run.fetches run.own run.text run.answers run.told is run.noted took
-      by _ (stopped n short took rose) is = cc
+      by (whole took same ends) is = own run.fetches run.own run.text run.answers run.told (sym ends ∙ is) run.noted took
+      by (stopped n short took rose ends) is = cc (sym ends ∙ is)
 
   pub every_read_fault : seen.failures' ≢ seen.failures → Ends seen.status status.ReadFault
-  every_read_fault changed = by seen.status run.written
+  every_read_fault changed = by run.written
     where
       no_names : (names : List (List ℕ)) → seen.failures' ≡ seen.failures ++ names → names ≢ []
       no_names names noted is = changed (noted ∙ ap (λ ns. seen.failures ++ ns) is ∙ append-nil seen.failures)
@@ -201,19 +201,19 @@ module _ (knows : Command → Bool) (seen : Run) (run : Ran knows seen) where
           inl (any_failed seen.files command fetches s text to told (no_names (failed_names fetches) noted))
       own _ _ _ (no_memory fetches) told noted = inr (inl refl)
 
-      by : (r : Status) → Written run.own run.text seen.taken seen.taken' seen.faults seen.faults' r → Ends r status.ReadFault
-      by _ (whole took same) = own run.fetches run.own run.text run.answers run.told run.noted
-      by _ (stopped n short took rose) = inr (inr refl)
+      by : Written run.own run.text seen → Ends seen.status status.ReadFault
+      by (whole took same ends) = subst (λ s. Ends s status.ReadFault) (sym ends) (own run.fetches run.own run.text run.answers run.told run.noted)
+      by (stopped n short took rose ends) = inr (inr ends)
 
   pub every_write_fault : seen.status ≢ status.WriteFault → seen.faults' ≡ seen.faults
-  every_write_fault other = by seen.status run.written other
+  every_write_fault other = by run.written other
     where
-      by : (r : Status) → Written run.own run.text seen.taken seen.taken' seen.faults seen.faults' r → r ≢ status.WriteFault → seen.faults' ≡ seen.faults
-      by _ (whole took same) other = same
-      by _ (stopped n short took rose) other = absurd (other refl)
+      by : Written run.own run.text seen → seen.status ≢ status.WriteFault → seen.faults' ≡ seen.faults
+      by (whole took same ends) other = same
+      by (stopped n short took rose ends) other = absurd (other ends)
 
   pub no_memory_written : seen.status ≡ status.NoMemory → seen.taken' ≡ with_bytes seen.taken (codes "no memory" ++ 10 ∷ [])
-  no_memory_written is = by seen.status run.written is
+  no_memory_written is = by run.written is
     where
       own : (fetches : List Fetch) (s : Status) (text : List ℕ) → AnswersCommand knows seen.words fetches s text → s ≡ status.NoMemory → seen.taken' ≡ with_bytes seen.taken text
           → seen.taken' ≡ with_bytes seen.taken (codes "no memory" ++ 10 ∷ [])
@@ -222,15 +222,15 @@ module _ (knows : Command → Bool) (seen : Run) (run : Ran knows seen) where
           absurd (not_no_memory s (command_status command fetches s text to) is)
       own _ _ _ (no_memory fetches) is took = took
 
-      by : (r : Status) → Written run.own run.text seen.taken seen.taken' seen.faults seen.faults' r → r ≡ status.NoMemory → seen.taken' ≡ with_bytes seen.taken (codes "no memory" ++ 10 ∷ [])
-      by _ (whole took same) is = own run.fetches run.own run.text run.answers is took
-      by _ (stopped n short took rose) is = cc
+      by : Written run.own run.text seen → seen.status ≡ status.NoMemory → seen.taken' ≡ with_bytes seen.taken (codes "no memory" ++ 10 ∷ [])
+      by (whole took same ends) is = own run.fetches run.own run.text run.answers (sym ends ∙ is) took
+      by (stopped n short took rose ends) is = cc (sym ends ∙ is)
 
   -- what words give that ask for a text of the program's own
   its_text : (command : Command) (own_text : List ℕ) → AsksOf knows seen.words command
       → ((fetches : List Fetch) (s : Status) (text : List ℕ) → Answer command fetches s text → (s ≡ status.Ok) × (text ≡ own_text))
       → Ends seen.status status.Ok × (seen.status ≡ status.Ok → seen.taken' ≡ with_bytes seen.taken own_text)
-  its_text command own_text asks says = by seen.status run.written
+  its_text command own_text asks says = by run.written
     where
       own : Answer command run.fetches run.own run.text ⊎ (run.own ≡ status.NoMemory) → seen.taken' ≡ with_bytes seen.taken run.text
           → Ends run.own status.Ok × (run.own ≡ status.Ok → seen.taken' ≡ with_bytes seen.taken own_text)
@@ -239,9 +239,11 @@ module _ (knows : Command → Bool) (seen : Run) (run : Ran knows seen) where
           (inl told.0, λ well. took ∙ ap (with_bytes seen.taken) told.1)
       own (inr memory) took = (inr (inl memory), λ well. absurd (not_two run.own status.NoMemory status.Ok memory well memory_ok))
 
-      by : (r : Status) → Written run.own run.text seen.taken seen.taken' seen.faults seen.faults' r → Ends r status.Ok × (r ≡ status.Ok → seen.taken' ≡ with_bytes seen.taken own_text)
-      by _ (whole took same) = own (of_words knows seen.words command run.fetches run.own run.text asks run.answers) took
-      by _ (stopped n short took rose) = (inr (inr refl), λ well. absurd (write_fault_ok well))
+      by : Written run.own run.text seen → Ends seen.status status.Ok × (seen.status ≡ status.Ok → seen.taken' ≡ with_bytes seen.taken own_text)
+      by (whole took same ends) =
+          subst (λ s. Ends s status.Ok × (s ≡ status.Ok → seen.taken' ≡ with_bytes seen.taken own_text)) (sym ends)
+          (own (of_words knows seen.words command run.fetches run.own run.text asks run.answers) took)
+      by (stopped n short took rose ends) = (inr (inr ends), λ well. absurd (write_fault_ok (sym ends ∙ well)))
 
   pub helped : AsksOf knows seen.words commands.Help → Ends seen.status status.Ok × (seen.status ≡ status.Ok → seen.taken' ≡ with_bytes seen.taken help_text)
   helped asks = its_text commands.Help help_text asks (λ fetches s text answer. (answer.0, answer.2))
@@ -251,31 +253,31 @@ module _ (knows : Command → Bool) (seen : Run) (run : Ran knows seen) where
 
   -- no answer of words has this status, and no failing sink gives it
   never : (other : Status) → ((s : Status) → Own s → s ≢ other) → status.Usage ≢ other → status.NoMemory ≢ other → status.WriteFault ≢ other → seen.status ≢ other
-  never other plain not_used not_short not_failed = by seen.status run.written
+  never other plain not_used not_short not_failed = by run.written
     where
       own : (fetches : List Fetch) (s : Status) (text : List ℕ) → AnswersCommand knows seen.words fetches s text → s ≢ other
       own _ _ _ (no_form none) = not_used
       own _ _ _ (answered_to command fetches s text asks to) = plain s (command_status command fetches s text to)
       own _ _ _ (no_memory fetches) = not_short
 
-      by : (r : Status) → Written run.own run.text seen.taken seen.taken' seen.faults seen.faults' r → r ≢ other
-      by _ (whole took same) = own run.fetches run.own run.text run.answers
-      by _ (stopped n short took rose) = not_failed
+      by : Written run.own run.text seen → seen.status ≢ other
+      by (whole took same ends) is = own run.fetches run.own run.text run.answers (sym ends ∙ is)
+      by (stopped n short took rose ends) is = not_failed (sym ends ∙ is)
 
   pub no_other : seen.status ≢ status.Unlawful
   no_other = never status.Unlawful not_unlawful usage_unlawful memory_unlawful write_fault_unlawful
 
 -- what a failing sink took
 pub write_fault : (knows : Command → Bool) (seen : Run) → Runs knows seen → seen.status ≡ status.WriteFault → Rose seen.faults seen.faults' × WroteFront knows seen
-write_fault knows seen run is = by seen.status run.written is
+write_fault knows seen run is = by run.written is
   where
     other : status_of run.answer ≢ status.WriteFault
     other =
         own_no_write_fault knows seen.words run.fetches (status_of run.answer) (text_of run.answer)
         (from_words knows seen.words run.fetches run.answer run.answers)
 
-    by : (r : Status) → Written (status_of run.answer) (text_of run.answer) seen.taken seen.taken' seen.faults seen.faults' r → r ≡ status.WriteFault
+    by : Written (status_of run.answer) (text_of run.answer) seen → seen.status ≡ status.WriteFault
         → Rose seen.faults seen.faults' × WroteFront knows seen
-    by _ (whole took same) is = absurd (other is)
-    by _ (stopped n short took rose) is =
+    by (whole took same ends) is = absurd (other (sym ends ∙ is))
+    by (stopped n short took rose ends) is =
         (rose, record { fetches = run.fetches; answer = run.answer; answers = run.answers; noted = run.noted; told = run.told; other = other; count = n; short = short; front = took })

@@ -21,6 +21,7 @@ use Rattle.command_law.specs.Courses.{FetchCourse, SaysAlone, AfterFetch, not_fe
 use Rattle.command_law.specs.Descriptions.{IsTextRefusal, IsChecked}
 use Rattle.command_law.specs.Failures.{Uses, FailsLast}
 use Rattle.command_law.specs.Fetches.{Fetch, WasHeld, failed_names, fetch_of, file_limit, report_limit}
+use Rattle.command_law.specs.Leads.{falls_short, LeadBy}
 use Rattle.command_law.specs.Lines.{RunLine, uses, calls, does, Aim, drawing, planning, replaying, running, Progress, begun, with_description, with_statement, IsCallRefusal, CallLeads, Concludes, behind, FollowsLines}
 use Rattle.command_law.specs.Outcomes.{NamesFile}
 use Rattle.command_law.specs.Replays.{IsReplayed, one_denied, all_steps}
@@ -117,6 +118,9 @@ module _ (Named : List ℕ → Type 0) where
   of_end aim p _ _ not_made = inl (refl, λ file is. cc)
   of_end aim p _ _ (makes what fetches answer concludes says) = of_says what fetches answer (λ file. concludes_well aim p what (read_fault file) concludes) says
 
+  pub of_short : (p : Progress) (fetches : List Fetch) (answer : Answer) → falls_short p fetches answer → FailsLast Named fetches answer
+  of_short p fetches answer says = of_says (refusal no_memory) fetches answer (λ file is. cc) says
+
   of_aim :
       (aim : Aim) (p : Progress) (lines : List RunLine) (fetches : List Fetch) (answer : Answer) → ((file : List ℕ) → Uses lines file → Named file)
       → FollowsLines (behind aim) p lines fetches answer → FailsLast Named fetches answer
@@ -142,6 +146,13 @@ module _ (Named : List ℕ → Type 0) where
       alone : (other : List ℕ) → (other ≡ file) ⊎ ⊥ → Named other
       alone other (inl is) = subst Named (sym is) named
       alone other (inr never) = absurd never
+
+-- no fetch failed by which lines lead
+pub none_failed_by : (p : Progress) (lines : List RunLine) (fetches : List Fetch) (end : Progress) → LeadBy p lines fetches end → failed_names fetches ≡ []
+none_failed_by p [] fetches end lead = ap failed_names lead.0
+none_failed_by p (uses file ∷ lines) fetches end lead = ap failed_names lead.3 ∙ none_failed_by (with_description p file lead.1) lines lead.2 end lead.5
+none_failed_by p (calls deed name args ∷ lines) fetches end lead = none_failed_by lead.0 lines fetches end lead.2
+none_failed_by p (does what ∷ lines) fetches end lead = none_failed_by (with_statement p what) lines fetches end lead
 
 -- ---- words
 

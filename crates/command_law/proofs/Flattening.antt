@@ -269,17 +269,17 @@ module _ (knows : Command → Bool) (seen : Run) (run : Ran knows seen) where
   found :
       (command : Command) (due : Status) → IsGiven due → AsksOf knows seen.words command → seen.status ≡ due
       → (Answer command run.fetches run.own run.text × (run.own ≡ due)) × (seen.taken' ≡ with_bytes seen.taken run.text)
-  found command due plain asks is = by seen.status run.written is plain
+  found command due plain asks is = by run.written is plain
     where
       own : Answer command run.fetches run.own run.text ⊎ (run.own ≡ status.NoMemory) → (d : Status) → IsGiven d → run.own ≡ d
           → Answer command run.fetches run.own run.text × (run.own ≡ d)
       own (inl answer) d plain is = (answer, is)
       own (inr memory) d plain is = absurd (memory_not_given run.own d plain memory is)
 
-      by : (r : Status) → Written run.own run.text seen.taken seen.taken' seen.faults seen.faults' r → r ≡ due → IsGiven due
+      by : Written run.own run.text seen → seen.status ≡ due → IsGiven due
           → (Answer command run.fetches run.own run.text × (run.own ≡ due)) × (seen.taken' ≡ with_bytes seen.taken run.text)
-      by _ (whole took steady) is plain = (own (of_words knows seen.words command run.fetches run.own run.text asks run.answers) due plain is, took)
-      by _ (stopped n short took rose) is plain = absurd (write_fault_not_given due plain is)
+      by (whole took steady ends) is plain = (own (of_words knows seen.words command run.fetches run.own run.text asks run.answers) due plain (sym ends ∙ is), took)
+      by (stopped n short took rose ends) is plain = absurd (write_fault_not_given due plain (sym ends ∙ is))
 
   pub flattens : (file : List ℕ) (call : TopCall) → AsksOf knows seen.words (commands.Flat file call) → seen.status ≡ status.Ok → Flattened seen.files file call seen.taken seen.taken'
   flattens file call asks is =
@@ -327,7 +327,7 @@ module _ (knows : Command → Bool) (seen : Run) (run : Ran knows seen) where
 
   -- only `replay` is denied
   pub denies : seen.status ≡ status.Denied → (file name : List ℕ) × AsksOf knows seen.words (commands.Replay file name) × Replayed seen.files file name status.Denied seen.taken seen.taken'
-  denies is = by seen.status run.written is
+  denies is = by run.written is
     where
       of : (command : Command) → AsksOf knows seen.words command → Answer command run.fetches run.own run.text → run.own ≡ status.Denied → seen.taken' ≡ with_bytes seen.taken run.text
           → (file name : List ℕ) × AsksOf knows seen.words (commands.Replay file name) × Replayed seen.files file name status.Denied seen.taken seen.taken'
@@ -354,15 +354,15 @@ module _ (knows : Command → Bool) (seen : Run) (run : Ran knows seen) where
       own _ _ _ (answered_to command fetches s text asks to) is go = go command asks to is
       own _ _ _ (no_memory fetches) is go = absurd (memory_denied is)
 
-      by : (r : Status) → Written run.own run.text seen.taken seen.taken' seen.faults seen.faults' r → r ≡ status.Denied
+      by : Written run.own run.text seen → seen.status ≡ status.Denied
           → (file name : List ℕ) × AsksOf knows seen.words (commands.Replay file name) × Replayed seen.files file name status.Denied seen.taken seen.taken'
-      by _ (whole took steady) is = own run.fetches run.own run.text run.answers is (λ command asks answer same. of command asks answer same took)
-      by _ (stopped n short took rose) is = absurd (write_fault_denied is)
+      by (whole took steady ends) is = own run.fetches run.own run.text run.answers (sym ends ∙ is) (λ command asks answer same. of command asks answer same took)
+      by (stopped n short took rose ends) is = absurd (write_fault_denied (sym ends ∙ is))
 
   -- ---- what Description and Script say
 
   pub refuses : seen.status ≡ status.Description → RefusesDescription knows seen
-  refuses is = by seen.status run.written is
+  refuses is = by run.written is
     where
       of : (command : Command) (fetches : List Fetch) (own : Status) (text : List ℕ) → AsksOf knows seen.words command → Answer command fetches own text → own ≡ status.Description
           → AllByRecursion (Gave seen.files) fetches → seen.taken' ≡ with_bytes seen.taken text → RefusesDescription knows seen
@@ -396,12 +396,12 @@ module _ (knows : Command → Bool) (seen : Run) (run : Ran knows seen) where
       own _ _ _ (answered_to command fetches s text asks to) is told took = of command fetches s text asks to is told took
       own _ _ _ (no_memory fetches) is told took = absurd (memory_description is)
 
-      by : (r : Status) → Written run.own run.text seen.taken seen.taken' seen.faults seen.faults' r → r ≡ status.Description → RefusesDescription knows seen
-      by _ (whole took steady) is = own run.fetches run.own run.text run.answers is run.told took
-      by _ (stopped n short took rose) is = absurd (write_fault_description is)
+      by : Written run.own run.text seen → seen.status ≡ status.Description → RefusesDescription knows seen
+      by (whole took steady ends) is = own run.fetches run.own run.text run.answers (sym ends ∙ is) run.told took
+      by (stopped n short took rose ends) is = absurd (write_fault_description (sym ends ∙ is))
 
   pub script : seen.status ≡ status.Script → RefusesFile knows seen
-  script is = by seen.status run.written is
+  script is = by run.written is
     where
       of : (command : Command) (fetches : List Fetch) (own : Status) (text : List ℕ) → AsksOf knows seen.words command → Answer command fetches own text → own ≡ status.Script
           → AllByRecursion (Gave seen.files) fetches → seen.taken' ≡ with_bytes seen.taken text → RefusesFile knows seen
@@ -430,10 +430,10 @@ module _ (knows : Command → Bool) (seen : Run) (run : Ran knows seen) where
       own _ _ _ (answered_to command fetches s text asks to) is told took = of command fetches s text asks to is told took
       own _ _ _ (no_memory fetches) is told took = absurd (memory_script is)
 
-      by : (r : Status) → Written run.own run.text seen.taken seen.taken' seen.faults seen.faults' r → r ≡ status.Script
+      by : Written run.own run.text seen → seen.status ≡ status.Script
           → RefusesFile knows seen
-      by _ (whole took steady) is = own run.fetches run.own run.text run.answers is run.told took
-      by _ (stopped n short took rose) is = absurd (write_fault_script is)
+      by (whole took steady ends) is = own run.fetches run.own run.text run.answers (sym ends ∙ is) run.told took
+      by (stopped n short took rose ends) is = absurd (write_fault_script (sym ends ∙ is))
 
   -- ---- which status must come, where the shelf tells its files and no fetch failed
 
@@ -448,15 +448,15 @@ module _ (knows : Command → Bool) (seen : Run) (run : Ran knows seen) where
     ends :
         (command : Command) (due : Status) → AsksOf knows seen.words command
         → (Answer command run.fetches run.own run.text → run.own ≡ due) → Ends seen.status due
-    ends command due asks of_answer = by seen.status run.written
+    ends command due asks of_answer = by run.written
       where
         own : Answer command run.fetches run.own run.text ⊎ (run.own ≡ status.NoMemory) → Ends run.own due
         own (inl answer) = inl (of_answer answer)
         own (inr memory) = inr (inl memory)
 
-        by : (r : Status) → Written run.own run.text seen.taken seen.taken' seen.faults seen.faults' r → Ends r due
-        by _ (whole took same) = own (of_words knows seen.words command run.fetches run.own run.text asks run.answers)
-        by _ (stopped n short took rose) = inr (inr refl)
+        by : Written run.own run.text seen → Ends seen.status due
+        by (whole took same ends) = subst (λ s. Ends s due) (sym ends) (own (of_words knows seen.words command run.fetches run.own run.text asks run.answers))
+        by (stopped n short took rose ends) = inr (inr ends)
 
     -- the description of an answer to what is wanted of it
     described :
@@ -598,15 +598,15 @@ module _ (knows : Command → Bool) (seen : Run) (run : Ran knows seen) where
         (file : List ℕ) (query : Query) (command : Command) → AsksOf knows seen.words command
         → (Answer command run.fetches run.own run.text → AsGiven file query run.own) → EndsAsGiven query (f file) seen.status
     unfolding AsGiven
-    given_end file query command asks of_answer = by seen.status run.written
+    given_end file query command asks of_answer = by run.written
       where
         own : Answer command run.fetches run.own run.text ⊎ (run.own ≡ status.NoMemory) → EndsAsGiven query (f file) run.own
         own (inl answer) = inl (of_answer answer)
         own (inr memory) = inr (inl memory)
 
-        by : (r : Status) → Written run.own run.text seen.taken seen.taken' seen.faults seen.faults' r → EndsAsGiven query (f file) r
-        by _ (whole took same) = own (of_words knows seen.words command run.fetches run.own run.text asks run.answers)
-        by _ (stopped n short took rose) = inr (inr refl)
+        by : Written run.own run.text seen → EndsAsGiven query (f file) seen.status
+        by (whole took same ends) = subst (EndsAsGiven query (f file)) (sym ends) (own (of_words knows seen.words command run.fetches run.own run.text asks run.answers))
+        by (stopped n short took rose ends) = inr (inr ends)
 
     completes_with :
         (file : List ℕ) (query : Query) → NothingRefuses query (f file)

@@ -318,7 +318,7 @@ pub record Ran (knows : Command → Bool) (r : Run) : Type 0 where
   pub answers : AnswersCommand knows r.words fetches own text
   pub noted : r.failures' ≡ r.failures ++ failed_names fetches
   pub told : AllByRecursion (Gave r.files) fetches
-  pub written : Written own text r.taken r.taken' r.faults r.faults' r.status
+  pub written : Written own text r
 
 pub ran : (knows : Command → Bool) (r : Run) → Runs knows r → Ran knows r
 ran knows r run = record {

@@ -23,7 +23,7 @@ use Rattle.command_answers.specs.declared.status.Status.{Status}
 use Rattle.command_answers.specs.declared.status.Status.TheVariants as status
 use Rattle.command_words.specs.declared.words.Command.TheVariants as commands
 use Rattle.command_law.specs.Known.{AsksOf}
-use Rattle.command_law.specs.Schedules.{Schedule, rounds, IsReportBy}
+use Rattle.command_law.specs.Schedules.{Schedule, rounds, threads, IsReportBy}
 use Rattle.command_law.specs.Fetches.{Fetch, failed_names, file_limit, Gave}
 use Rattle.command_law.specs.Lines.{begun}
 use Rattle.command_law.specs.OneFile.{cannot_read_script, script_file_too_long, script_file_at_fault}
@@ -56,6 +56,7 @@ status_by :
     (schedule : Schedule) (statements : List Statement) (report : Report) → IsReportBy schedule statements report
     → report.status ≡ (if list_any is_pending report.history then 7 else if is_some report.unfinished then 8 else 0)
 status_by rounds statements report is = is.lawful.lawful.by_them.status
+status_by threads statements report is = is.lawful.by_them.status
 
 pub ends_by_report :
     (schedule : Schedule) (show : Report → List ℕ) (files : Option Files) (name : List ℕ) (own : Status) (taken taken' : Option (List ℕ))
@@ -196,7 +197,7 @@ module _ (knows : Command → Bool) (seen : Run) (run : Ran knows seen) where
   -- ---- what Ok, Pending and Unfinished say
 
   pub runs : (name : List ℕ) → AsksOf knows seen.words (commands.Step name) → IsRunStatus seen.status → outcomes.Ran seen.files name seen.status seen.taken seen.taken'
-  runs name asks is = by seen.status run.written is
+  runs name asks is = by run.written is
     where
       own : Answer (commands.Step name) run.fetches run.own run.text ⊎ (run.own ≡ status.NoMemory) → IsRunStatus run.own → seen.taken' ≡ with_bytes seen.taken run.text
           → outcomes.Ran seen.files name run.own seen.taken seen.taken'
@@ -204,12 +205,14 @@ module _ (knows : Command → Bool) (seen : Run) (run : Ran knows seen) where
           reported rounds report_text seen.files name run.fetches seen.taken seen.taken' run.own run.text (script_ends rounds report_text seen.files name run.fetches run.own run.text answer run.told) is took
       own (inr memory) is took = absurd (no_run status.NoMemory for_memory (subst IsRunStatus memory is))
 
-      by : (r : Status) → Written run.own run.text seen.taken seen.taken' seen.faults seen.faults' r → IsRunStatus r → outcomes.Ran seen.files name r seen.taken seen.taken'
-      by _ (whole took same) is = own (of_words knows seen.words (commands.Step name) run.fetches run.own run.text asks run.answers) is took
-      by _ (stopped n short took rose) is = absurd (no_run status.WriteFault for_sink is)
+      by : Written run.own run.text seen → IsRunStatus seen.status → outcomes.Ran seen.files name seen.status seen.taken seen.taken'
+      by (whole took same ends) is =
+          subst (λ s. outcomes.Ran seen.files name s seen.taken seen.taken') (sym ends)
+          (own (of_words knows seen.words (commands.Step name) run.fetches run.own run.text asks run.answers) (subst IsRunStatus ends is) took)
+      by (stopped n short took rose ends) is = absurd (no_run status.WriteFault for_sink (subst IsRunStatus ends is))
 
   pub sums_up : (lanes : ℕ) → AsksOf knows seen.words (commands.Big lanes) → IsRunStatus seen.status → outcomes.SummedUp lanes seen.status seen.taken seen.taken'
-  sums_up lanes asks is = by seen.status run.written is
+  sums_up lanes asks is = by run.written is
     where
       own : Answer (commands.Big lanes) run.fetches run.own run.text ⊎ (run.own ≡ status.NoMemory) → IsRunStatus run.own → seen.taken' ≡ with_bytes seen.taken run.text
           → outcomes.SummedUp lanes run.own seen.taken seen.taken'
@@ -217,14 +220,16 @@ module _ (knows : Command → Bool) (seen : Run) (run : Ran knows seen) where
           reported rounds (summary_text lanes) (Some (made_files lanes)) script_name answer.within seen.taken seen.taken' run.own run.text (big_ends lanes run.fetches run.own run.text answer) is took
       own (inr memory) is took = absurd (no_run status.NoMemory for_memory (subst IsRunStatus memory is))
 
-      by : (r : Status) → Written run.own run.text seen.taken seen.taken' seen.faults seen.faults' r → IsRunStatus r → outcomes.SummedUp lanes r seen.taken seen.taken'
-      by _ (whole took same) is = own (of_words knows seen.words (commands.Big lanes) run.fetches run.own run.text asks run.answers) is took
-      by _ (stopped n short took rose) is = absurd (no_run status.WriteFault for_sink is)
+      by : Written run.own run.text seen → IsRunStatus seen.status → outcomes.SummedUp lanes seen.status seen.taken seen.taken'
+      by (whole took same ends) is =
+          subst (λ s. outcomes.SummedUp lanes s seen.taken seen.taken') (sym ends)
+          (own (of_words knows seen.words (commands.Big lanes) run.fetches run.own run.text asks run.answers) (subst IsRunStatus ends is) took)
+      by (stopped n short took rose ends) is = absurd (no_run status.WriteFault for_sink (subst IsRunStatus ends is))
 
   pub asked_to_run :
       (seen.status ≡ status.Pending) ⊎ (seen.status ≡ status.Unfinished)
       → ((name : List ℕ) × AsksOf knows seen.words (commands.Step name)) ⊎ ((lanes : ℕ) × AsksOf knows seen.words (commands.Big lanes))
-  asked_to_run is = by seen.status run.written is
+  asked_to_run is = by run.written is
     where
       of_script :
           (command : Command) → AsksOf knows seen.words command → ((name : List ℕ) × (command ≡ commands.Step name)) ⊎ ((lanes : ℕ) × (command ≡ commands.Big lanes))
@@ -240,27 +245,29 @@ module _ (knows : Command → Bool) (seen : Run) (run : Ran knows seen) where
       own _ _ _ (no_memory fetches) (inl is) = absurd (memory_pending is)
       own _ _ _ (no_memory fetches) (inr is) = absurd (memory_unfinished is)
 
-      by : (r : Status) → Written run.own run.text seen.taken seen.taken' seen.faults seen.faults' r → (r ≡ status.Pending) ⊎ (r ≡ status.Unfinished)
+      by : Written run.own run.text seen → (seen.status ≡ status.Pending) ⊎ (seen.status ≡ status.Unfinished)
           → ((name : List ℕ) × AsksOf knows seen.words (commands.Step name)) ⊎ ((lanes : ℕ) × AsksOf knows seen.words (commands.Big lanes))
-      by _ (whole took same) is = own run.fetches run.own run.text run.answers is
-      by _ (stopped n short took rose) (inl is) = absurd (write_fault_pending is)
-      by _ (stopped n short took rose) (inr is) = absurd (write_fault_unfinished is)
+      by (whole took same ends) is = own run.fetches run.own run.text run.answers (subst (λ s. (s ≡ status.Pending) ⊎ (s ≡ status.Unfinished)) ends is)
+      by (stopped n short took rose ends) (inl is) = absurd (write_fault_pending (sym ends ∙ is))
+      by (stopped n short took rose ends) (inr is) = absurd (write_fault_unfinished (sym ends ∙ is))
 
   -- the status of an answer to a command, unless memory ran out or the sink failed
   finishes :
       (command : Command) (Due : Status → Type 0) → AsksOf knows seen.words command
       → (Answer command run.fetches run.own run.text → Due run.own)
       → Due seen.status ⊎ (seen.status ≡ status.NoMemory) ⊎ (seen.status ≡ status.WriteFault)
-  finishes command Due asks of_answer = by seen.status run.written
+  finishes command Due asks of_answer = by run.written
     where
       own : Answer command run.fetches run.own run.text ⊎ (run.own ≡ status.NoMemory)
           → Due run.own ⊎ (run.own ≡ status.NoMemory) ⊎ (run.own ≡ status.WriteFault)
       own (inl answer) = inl (of_answer answer)
       own (inr memory) = inr (inl memory)
 
-      by : (r : Status) → Written run.own run.text seen.taken seen.taken' seen.faults seen.faults' r → Due r ⊎ (r ≡ status.NoMemory) ⊎ (r ≡ status.WriteFault)
-      by _ (whole took same) = own (of_words knows seen.words command run.fetches run.own run.text asks run.answers)
-      by _ (stopped n short took rose) = inr (inr refl)
+      by : Written run.own run.text seen → Due seen.status ⊎ (seen.status ≡ status.NoMemory) ⊎ (seen.status ≡ status.WriteFault)
+      by (whole took same ends) =
+          subst (λ s. Due s ⊎ (s ≡ status.NoMemory) ⊎ (s ≡ status.WriteFault)) (sym ends)
+          (own (of_words knows seen.words command run.fetches run.own run.text asks run.answers))
+      by (stopped n short took rose ends) = inr (inr ends)
 
   -- ---- which status must come of a made script
 

@@ -4,6 +4,7 @@ pub mod Descriptions
 pub mod Failures
 pub mod Fetches
 pub mod Known
+pub mod Leads
 pub mod Lines
 pub mod OneFile
 pub mod Outcomes

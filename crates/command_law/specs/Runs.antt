@@ -3,6 +3,8 @@ use Rattle.std.specs.Prelude.{◌≡◌, ◌<◌, ⊤, ℕ, Bool, List, [], ◌+
 use Rattle.std.specs.List.{AllByRecursion}
 use Rattle.cfg_io.specs.Shelf.{Files}
 use Rattle.cfg_io.specs.Sink.{with_bytes}
+use Rattle.cfg_io.specs.declared.shelf.Shelf.{Ghosts as ShelfWords}
+use Rattle.cfg_io.specs.declared.sink.Sink.{Ghosts as SinkWords}
 use Rattle.base.specs.Count.{Rose}
 use Rattle.command_answers.specs.declared.status.Status.{Status}
 use Rattle.command_answers.specs.declared.status.Status.TheVariants.{WriteFault}
@@ -31,13 +33,36 @@ pub record Run : Type 0 where
   -- how the run ended
   pub status : Status
 
+-- the run that these make, of a shelf and a sink as they were and as they are
+abbrev pub run_of : {H K : Type 0} → ShelfWords H → SinkWords K → List (List ℕ) → H → H → K → K → Status → Run
+run_of shelves sinks words shelf shelf' out out' own = record {
+  words = words;
+  files = shelves.files shelf;
+  failures = shelves.failed shelf;
+  failures' = shelves.failed shelf';
+  taken = sinks.taken out;
+  taken' = sinks.taken out';
+  faults = sinks.faults out;
+  faults' = sinks.faults out';
+  status = own;
+}
+
+-- the same run where it wrote to this sink, and ended so
+abbrev pub writing_to : {K : Type 0} → SinkWords K → Run → K → K → Status → Run
+writing_to sinks r out out' own = record r {
+  taken = sinks.taken out;
+  taken' = sinks.taken out';
+  faults = sinks.faults out;
+  faults' = sinks.faults out';
+  status = own;
+}
+
 -- A text was written, and the run ends with its status; or the sink failed, and took no more than a front of the text.
-pub data Written (status : Status) (text : List ℕ) (taken taken' : Option (List ℕ)) (faults faults' : ℕ)
-    : Status → Type 0 where
-  whole : taken' ≡ with_bytes taken text → faults' ≡ faults → Written status text taken taken' faults faults' status
+pub data Written (own : Status) (text : List ℕ) (r : Run) : Type 0 where
+  whole : r.taken' ≡ with_bytes r.taken text → r.faults' ≡ r.faults → r.status ≡ own → Written own text r
   stopped :
-      (n : ℕ) → n < length text → taken' ≡ with_bytes taken (take n text) → Rose faults faults'
-      → Written status text taken taken' faults faults' WriteFault
+      (n : ℕ) → n < length text → r.taken' ≡ with_bytes r.taken (take n text) → Rose r.faults r.faults' → r.status ≡ WriteFault
+      → Written own text r
 
 -- the answer to words with these fetches, by a call that knows these commands: words of no form are refused, and those
 -- that ask for a command have its course; memory may run out as soon as they are read
@@ -58,7 +83,7 @@ pub record RunsWith (Is : Answer → Type 0) (knows : Command → Bool) (r : Run
   pub answers : AnswersWords knows r.words fetches answer
   pub noted : r.failures' ≡ r.failures ++ failed_names fetches
   pub told : AllByRecursion (Gave r.files) fetches
-  pub written : Written (status_of answer) (text_of answer) r.taken r.taken' r.faults r.faults' r.status
+  pub written : Written (status_of answer) (text_of answer) r
 
 abbrev pub IsAny : Answer → Type 0
 IsAny answer = ⊤

@@ -34,7 +34,8 @@ ghost use Rattle.report_texts.specs.declared.error.ReportFault.{ReportFault};
 ghost use Rattle.command_law.specs.Commands.{TellsReport, course_of, course_of_query, course_of_script};
 ghost use Rattle.command_law.specs.Failures.{FailsLast, Uses};
 ghost use Rattle.command_law.specs.Lines.{Aim, RunLine, Progress, FollowsLines, begun, behind};
-ghost use Rattle.command_law.specs.Fetches.{Fetch, WasHeld, fetch_of, file_limit, report_fetch};
+ghost use Rattle.command_law.specs.Fetches.{Fetch, WasHeld, failed_names, fetch_of, file_limit, report_fetch};
+ghost use Rattle.command_law.specs.Leads.{LeadBy, ScriptLeads, falls_short};
 ghost use Rattle.command_law.specs.OneFile.{DescriptionAnswers, EventsAnswers, ReportAnswers, ScriptAnswers};
 ghost use Rattle.command_law.specs.declared.fetched.Fetched.{Fetched};
 ghost use Rattle.command_law.specs.declared.fetched.Fetched.TheVariants.{Held};
@@ -264,7 +265,7 @@ pub fn courses_of_replays_are_by_two_files()
 {}
 
 /// A law: the course of a script, whatever its lines are followed for, is what is answered of it, where it isn't one,
-/// and else that of its lines.
+/// and else that of its lines. It goes on from where these lead, and what ends early ends so whatever would follow.
 pub fn courses_of_runs_are_by_their_lines()
     ensures refused { (aim : Aim) (name : List ℕ) (given : Fetched) (own : Status) (text : List ℕ)
         → ScriptAnswers name given own text
@@ -276,6 +277,11 @@ pub fn courses_of_runs_are_by_their_lines()
     ensures short { (aim : Aim) (name : List ℕ) (given : Fetched)
         → course_of_script (behind aim) name [] (refusal no_memory)
         × course_of_script (behind aim) name (fetch_of name given ∷ []) (refusal no_memory) }
+    ensures leads { (aim : Aim) (name : List ℕ) (fetches more : List Fetch) (answer : Answer) (end : Progress)
+        → ScriptLeads name fetches end → behind aim end more answer
+        → course_of_script (behind aim) name (fetches ++ more) answer }
+    ensures early { (aim : Aim) (name : List ℕ) (fetches : List Fetch) (answer : Answer)
+        → course_of_script falls_short name fetches answer → course_of_script (behind aim) name fetches answer }
 {}
 
 /// A law: the course of a report is what is answered of its file.
@@ -292,6 +298,10 @@ pub fn courses_of_reports_are_by_one_file()
 pub fn a_failed_fetch_is_the_last()
     ensures of_lines { (aim : Aim) (p : Progress) (lines : List RunLine) (fetches : List Fetch) (answer : Answer)
         → FollowsLines (behind aim) p lines fetches answer → FailsLast (Uses lines) fetches answer }
+    ensures early { (p : Progress) (lines : List RunLine) (fetches : List Fetch) (answer : Answer)
+        → FollowsLines falls_short p lines fetches answer → FailsLast (Uses lines) fetches answer }
+    ensures leading { (p : Progress) (lines : List RunLine) (fetches : List Fetch) (end : Progress)
+        → LeadBy p lines fetches end → failed_names fetches ≡ [] }
     ensures of_words { (knows : Command → Bool) (words : List (List ℕ)) (fetches : List Fetch) (answer : Answer)
         → AnswersWords knows words fetches answer
         → FailsLast (NamesFile knows (WasHeld fetches) words) fetches answer }

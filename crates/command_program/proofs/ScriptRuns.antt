@@ -1,7 +1,6 @@
 -- The run of a script, from what was prepared for it.
-use Rattle.std.proofs.Common.{◌≡◌, ◌∙◌, ℕ, Bool, true, false, if◌then◌else◌, List, [], Option, Some, Result, Ok, Err, IfOk, refl, sym, ap, inl, inr}
+use Rattle.std.proofs.Common.{◌≡◌, ◌∙◌, ℕ, Bool, true, false, if◌then◌else◌, List, [], Option, Some, Result, Ok, Err, IfOk, refl, sym, ap}
 use Rattle.std.specs.Prelude.{◌==◌}
-use Rattle.std.specs.Global.{Vec}
 use Rattle.cfg_io.specs.Shelf.{Files}
 use Rattle.change_law.specs.Lawful.{LawfulInRounds}
 use Rattle.change_law.specs.Serial.{Serial}
@@ -16,23 +15,25 @@ use Rattle.command_answers.specs.Summaries.{summary_text}
 use Rattle.command_answers.specs.declared.status.Status.TheVariants as status
 use Rattle.command_law.specs.Commands.{course_of, in_summary, SumsUp}
 use Rattle.command_law.specs.Courses.{not_fetched}
+use Rattle.command_law.specs.Lines.{behind, running}
 use Rattle.command_law.specs.RunReports.{IsReportOf}
+use Rattle.command_law.specs.Schedules.{rounds}
+use Rattle.command_law.proofs.CourseLaws.{behind_short, script_ends_early, script_ran, script_ran_short}
 use Rattle.command_words.specs.declared.words.Command.TheVariants as commands
 use Rattle.command_files.specs.declared.answer.Answer.{Answer}
-use Rattle.command_files.specs.Leading.{IsOfNoRun}
-use Rattle.command_files.specs.Preparing.{EndsRun, Prepares}
-use Rattle.command_files.specs.declared.preparing.Prepared.TheVariants.{Asked, Refused}
-use Rattle.change_law.specs.Asked.{statements_of}
-use Rattle.change_law.specs.declared.steps.Start.{Start}
-use Rattle.change_law.specs.declared.steps.Step.{Step}
-use Rattle.command_program.specs.Coming.{ComesBy, EndsBy, EndsInSummary}
+use Rattle.command_files.specs.declared.answer.Stop.{Stop}
+use Rattle.command_files.specs.declared.answer.Stop.TheVariants as stops
+use Rattle.command_files.specs.Preparing.{Prepares, statements_in}
+use Rattle.command_files.specs.Refusals.{EndsNoRun}
+use Rattle.command_files.specs.declared.preparing.Prepared.{Prepared}
+use Rattle.command_program.specs.Coming.{ComesBy, EndsBy, EndsInReport, EndsInSummary}
 
 module _ {E : Type 0} where
   -- the report of a run is answered
   pub shown : (statements : List Statement) (report : Report) (r : Result Answer E) → IsReportOf statements report → IfOk r (λ a. a.status ≡ run_status report.status)
-      → IfOk r (λ a. a.text.items ≡ report_text report) → IfOk r (λ a. ShowsAnswer (EndsRun statements) a.status a.text.items)
+      → IfOk r (λ a. a.text.items ≡ report_text report) → IfOk r (λ a. ShowsAnswer (EndsInReport statements) a.status a.text.items)
   shown statements report (Ok a) is status text =
-      record { answer = ran report; is = inr (report, is, refl); has_status = status; has_text = text }
+      record { answer = ran report; is = (report, is, refl); has_status = status; has_text = text }
   shown statements report (Err e) is status text = tt
 
 module _ {E : Type 0} where
@@ -50,15 +51,51 @@ module _ {E : Type 0} (lanes : ℕ) where
       record { answer = summary lanes report; is = (report, is, refl); has_status = status; has_text = text }
   summed statements report (Err e) is status text = tt
 
-module _ {E F : Type 0} (files : Option Files) (name : List ℕ) (failures failures' : List (List ℕ)) where
-  -- what a script asks for was run
-  pub asked_by : (start : Start) (steps : Vec Step) (r : Result Answer F) → Prepares {E = E} files name failures failures' (Ok (Asked start steps))
-      → IfOk r (λ a. ShowsAnswer (EndsRun (statements_of start steps.items)) a.status a.text.items) → ComesBy files (course_of (commands.Step name)) failures failures' r
-  asked_by start steps r p shows = record { fetches = p.fetches; noted = p.noted; told = p.told; ends = of r shows }
-    where
-      of : (r : Result Answer F) → IfOk r (λ a. ShowsAnswer (EndsRun (statements_of start steps.items)) a.status a.text.items) → EndsBy (course_of (commands.Step name)) p.fetches r
-      of (Ok a) h = record { answer = h.answer; is = p.leads h.answer h.is; has_status = h.has_status; has_text = h.has_text }
-      of (Err e) h = p.leads (refusal values.no_memory) (inl refl)
+module _ (files : Option Files) (name : List ℕ) (failures failures' : List (List ℕ)) where
+  module _ (asked : Prepared) (p : Prepares files name failures failures' (Ok asked)) where
+    -- what a script asks for was run
+    pub ran_by : (answer : Answer) → ShowsAnswer (EndsInReport (statements_in asked)) answer.status answer.text.items
+        → ComesBy files (course_of (commands.Step name)) failures failures' (Ok answer)
+    ran_by answer shows = record {
+      fetches = p.fetches;
+      noted = p.noted;
+      told = p.told;
+      ends = record {
+        answer = ran shows.is.0;
+        is = script_ran rounds name p.fetches p.lead.0 (statements_in asked) shows.is.0 p.lead.1 p.lead.2 shows.is.1;
+        has_status = shows.has_status ∙ ap status_of shows.is.2;
+        has_text = shows.has_text ∙ ap values.text_of shows.is.2;
+      };
+    }
+
+    -- or there was no memory for it
+    pub short_by : ComesBy files (course_of (commands.Step name)) failures failures' (Err stops.NoMemory)
+    short_by = record {
+      fetches = p.fetches;
+      noted = p.noted;
+      told = p.told;
+      ends = script_ran_short (running rounds) name p.fetches p.lead.0 p.lead.1;
+    }
+
+  -- a script that is refused
+  pub stopped_by : (stop : Stop) → Prepares files name failures failures' (Err stop) → ComesBy files (course_of (commands.Step name)) failures failures' (Err stop)
+  stopped_by (stops.Refused answer) p = record {
+    fetches = p.fetches;
+    noted = p.noted;
+    told = p.told;
+    ends = record {
+      answer = p.lead.answer;
+      is = script_ends_early (behind (running rounds)) (behind_short (running rounds)) name p.fetches p.lead.answer p.lead.is;
+      has_status = p.lead.has_status;
+      has_text = p.lead.has_text;
+    };
+  }
+  stopped_by stops.NoMemory p = record {
+    fetches = p.fetches;
+    noted = p.noted;
+    told = p.told;
+    ends = script_ends_early (behind (running rounds)) (behind_short (running rounds)) name p.fetches (refusal values.no_memory) p.lead;
+  }
 
 -- ---- a script that was made
 
@@ -89,49 +126,44 @@ as_it_is lanes (summary other r) none = refl
 
 -- what is answered to the made script, by fetches of which none failed
 module _ (lanes : ℕ) where
-  no_memory_made : SumsUp lanes [] (refusal values.no_memory)
-  no_memory_made =
+  pub not_made : EndsBy (SumsUp lanes) [] (Err stops.NoMemory)
+  not_made =
       (refl, record { own = []; told = tt; none_failed = refl; made = refusal values.no_memory; course = not_fetched; is = refl })
 
-  pub not_made : {F : Type 0} (f : F) → EndsBy (SumsUp lanes) [] (Err f)
-  not_made f = no_memory_made
+  pub big_ran : (asked : Prepared) (answer : Answer) → Prepares (Some (made_files lanes)) script_name [] [] (Ok asked)
+      → ShowsAnswer (EndsInSummary lanes (statements_in asked)) answer.status answer.text.items → EndsBy (SumsUp lanes) [] (Ok answer)
+  big_ran asked answer p shows = record {
+    answer = shows.answer;
+    is = (
+      refl,
+      record {
+        own = p.fetches;
+        told = p.told;
+        none_failed = sym p.noted;
+        made = ran shows.is.0;
+        course = script_ran rounds script_name p.fetches p.lead.0 (statements_in asked) shows.is.0 p.lead.1 p.lead.2 shows.is.1;
+        is = shows.is.2;
+      },
+    );
+    has_status = shows.has_status;
+    has_text = shows.has_text;
+  }
 
-  module _ {E : Type 0} (F : Type 0) where
-    pub big_asked : (start : Start) (steps : Vec Step) (r : Result Answer F) → Prepares {E = E} (Some (made_files lanes)) script_name [] [] (Ok (Asked start steps))
-        → IfOk r (λ a. ShowsAnswer (EndsInSummary lanes (statements_of start steps.items)) a.status a.text.items) → EndsBy (SumsUp lanes) [] r
-    big_asked start steps (Ok a) p shows = record {
-      answer = shows.answer;
-      is = (
-        refl,
-        record {
-          own = p.fetches;
-          told = p.told;
-          none_failed = sym p.noted;
-          made = ran shows.is.0;
-          course = p.leads (ran shows.is.0) (inr (shows.is.0, shows.is.1, refl));
-          is = shows.is.2;
-        },
-      );
-      has_status = shows.has_status;
-      has_text = shows.has_text;
-    }
-    big_asked start steps (Err e) p shows = no_memory_made
-
-    pub big_refused : (answer : Answer) → Prepares {E = E} (Some (made_files lanes)) script_name [] [] (Ok (Refused answer)) → IsOfNoRun answer
-        → EndsBy {E = F} (SumsUp lanes) [] (Ok answer)
-    big_refused answer p none = record {
-      answer = p.leads.answer;
-      is = (
-        refl,
-        record {
-          own = p.fetches;
-          told = p.told;
-          none_failed = sym p.noted;
-          made = p.leads.answer;
-          course = p.leads.is;
-          is = sym (as_it_is lanes p.leads.answer (ap is_of_run (sym p.leads.has_status) ∙ none));
-        },
-      );
-      has_status = p.leads.has_status;
-      has_text = p.leads.has_text;
-    }
+  pub big_stopped : (stop : Stop) → Prepares (Some (made_files lanes)) script_name [] [] (Err stop) → EndsNoRun stop → EndsBy (SumsUp lanes) [] (Err stop)
+  big_stopped (stops.Refused answer) p none = record {
+    answer = p.lead.answer;
+    is = (
+      refl,
+      record {
+        own = p.fetches;
+        told = p.told;
+        none_failed = sym p.noted;
+        made = p.lead.answer;
+        course = script_ends_early (behind (running rounds)) (behind_short (running rounds)) script_name p.fetches p.lead.answer p.lead.is;
+        is = sym (as_it_is lanes p.lead.answer (ap is_of_run (sym p.lead.has_status) ∙ none));
+      },
+    );
+    has_status = p.lead.has_status;
+    has_text = p.lead.has_text;
+  }
+  big_stopped stops.NoMemory p none = not_made

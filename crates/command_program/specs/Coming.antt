@@ -5,35 +5,51 @@ use Rattle.cfg_io.specs.Shelf.{Files}
 use Rattle.change_law.specs.Statements.{Statement}
 use Rattle.report_types.specs.declared.report.Report.{Report}
 use Rattle.command_answers.specs.Answers as values
-use Rattle.command_answers.specs.Answers.{ShowsAnswer, no_memory, no_memory_line, refusal, summary}
+use Rattle.command_answers.specs.Answers.{ShowsAnswer, no_memory, no_memory_line, ran, refusal, summary}
 use Rattle.command_answers.specs.declared.status.Status.{Status}
 use Rattle.command_answers.specs.declared.status.Status.TheVariants as status
 use Rattle.command_law.specs.Courses.{FetchCourse}
 use Rattle.command_law.specs.Fetches.{Fetch, failed_names, Gave}
 use Rattle.command_law.specs.RunReports.{IsReportOf}
 use Rattle.command_files.specs.declared.answer.Answer.{Answer}
+use Rattle.command_files.specs.declared.answer.Stop.{Stop}
+use Rattle.command_files.specs.declared.answer.Stop.TheVariants as stops
 
 -- the status and the text of an answer, or those for want of memory
-abbrev pub result_status : {E : Type 0} → Result Answer E → Status
-result_status (Ok answer) = answer.status
-result_status (Err _) = status.NoMemory
+abbrev pub stop_status : Stop → Status
+stop_status (stops.Refused answer) = answer.status
+stop_status stops.NoMemory = status.NoMemory
 
-abbrev pub result_text : {E : Type 0} → Result Answer E → List ℕ
+abbrev pub stop_text : Stop → List ℕ
+stop_text (stops.Refused answer) = answer.text.items
+stop_text stops.NoMemory = no_memory_line
+
+abbrev pub result_status : Result Answer Stop → Status
+result_status (Ok answer) = answer.status
+result_status (Err stop) = stop_status stop
+
+abbrev pub result_text : Result Answer Stop → List ℕ
 result_text (Ok answer) = answer.text.items
-result_text (Err _) = no_memory_line
+result_text (Err stop) = stop_text stop
 
 -- these fetches and this answer, or want of memory, are of the course
-abbrev pub EndsBy : {E : Type 0} → FetchCourse → List Fetch → Result Answer E → Type 0
+abbrev pub EndsBy : FetchCourse → List Fetch → Result Answer Stop → Type 0
 EndsBy course fetches (Ok answer) = ShowsAnswer (course fetches) answer.status answer.text.items
-EndsBy course fetches (Err _) = course fetches (refusal no_memory)
+EndsBy course fetches (Err (stops.Refused answer)) = ShowsAnswer (course fetches) answer.status answer.text.items
+EndsBy course fetches (Err stops.NoMemory) = course fetches (refusal no_memory)
 
 -- the same of a shelf
-pub record ComesBy {E : Type 0} (files : Option Files) (course : FetchCourse) (failures failures' : List (List ℕ)) (result : Result Answer E) : Type 0 where
+pub record ComesBy (files : Option Files) (course : FetchCourse) (failures failures' : List (List ℕ)) (result : Result Answer Stop)
+    : Type 0 where
   pub fetches : List Fetch
   pub noted : failures' ≡ failures ++ failed_names fetches
   pub told : AllByRecursion (Gave files) fetches
   pub ends : EndsBy course fetches result
 
--- the answer by which a run of so many lanes ends
+-- the answer by which a run of these statements ends
+abbrev pub EndsInReport : List Statement → values.Answer → Type 0
+EndsInReport statements answer = (r : Report) × IsReportOf statements r × (answer ≡ ran r)
+
+-- and that of a run of so many lanes
 abbrev pub EndsInSummary : ℕ → List Statement → values.Answer → Type 0
 EndsInSummary lanes statements answer = (r : Report) × IsReportOf statements r × (answer ≡ summary lanes r)

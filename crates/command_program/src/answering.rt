@@ -8,20 +8,18 @@ ghost use Rattle.command_law.specs.Known.{on_one_thread};
 ghost use Rattle.command_words.specs.declared.words.Command.TheVariants as commands;
 ghost use Rattle.command_law.specs.Commands.{SumsUp, course_of, course_of_query};
 ghost use Rattle.command_law.specs.RunReports.{IsReportOf};
-ghost use Rattle.command_law.specs.Runs.{Runs};
-ghost use Rattle.command_files.specs.Preparing.{EndsRun};
-ghost use Rattle.change_law.specs.Asked.{CanDoAll, CanStart, after_start, statements_of};
-ghost use Rattle.command_program.specs.Coming.{ComesBy, EndsBy, EndsInSummary};
+ghost use Rattle.command_law.specs.Runs.{Runs, run_of};
+ghost use Rattle.command_files.specs.Preparing.{CanRun, statements_in};
+ghost use Rattle.command_program.specs.Coming.{ComesBy, EndsBy, EndsInReport, EndsInSummary};
 ghost use Rattle.command_program.specs.Naming.{AskForNoFile, NamesNoFile};
 
 use crate::writing::{finish, no_memory, write};
 use crate::{HELP, USAGE, VERSION};
 use cfg_io::{Shelf, Sink};
-use change_law::{Start, Step};
 use change_round_laws::reports_of_rounds_are_lawful;
 use command_answers::Status;
 use command_files::{
-    Answer, FILE_LIMIT, Prepared, REPORT_LIMIT, ReadEvents, answer_run, answer_summary, describe,
+    Answer, FILE_LIMIT, Prepared, REPORT_LIMIT, Stop, answer_run, answer_summary, describe,
     fetch_file, prepare, read_events, upgrade,
 };
 use command_law::Query;
@@ -41,17 +39,8 @@ pub fn run_words<H: Shelf, K: Sink>(
     shelf: &mut H,
     out: &mut K,
 ) -> Status
-    ensures runs { Runs on_one_thread (record {
-      words = map string_bytes words.now;
-      files = H.files shelf.old;
-      failures = H.failed shelf.old;
-      failures' = H.failed shelf.new;
-      taken = K.taken out.old;
-      taken' = K.taken out.new;
-      faults = K.faults out.old;
-      faults' = K.faults out.new;
-      status = result;
-    }) }
+    ensures runs { Runs on_one_thread (run_of H.Shelf K.Sink (map string_bytes words.now)
+        shelf.old shelf.new out.old out.new result) }
     ensures kept { H.files shelf.new ≡ H.files shelf.old }
     ensures untouched { AskForNoFile (map string_bytes words.now) → shelf.new ≡ shelf.old }
 {
@@ -70,17 +59,7 @@ fn run_command<H: Shelf, K: Sink>(
     command: Command<'_>,
 ) -> Status
     ensures runs { (words : List (List ℕ)) → Asks words command.entry
-        → Runs on_one_thread (record {
-          words = words;
-          files = H.files shelf.old;
-          failures = H.failed shelf.old;
-          failures' = H.failed shelf.new;
-          taken = K.taken out.old;
-          taken' = K.taken out.new;
-          faults = K.faults out.old;
-          faults' = K.faults out.new;
-          status = result;
-        }) }
+        → Runs on_one_thread (run_of H.Shelf K.Sink words shelf.old shelf.new out.old out.new result) }
     ensures kept { H.files shelf.new ≡ H.files shelf.old }
     ensures untouched { NamesNoFile command.entry → shelf.new ≡ shelf.old }
 {
@@ -111,13 +90,13 @@ fn answer_description<H: Shelf>(
     shelf: &mut H,
     file: &str,
     query: &Query<'_>,
-) -> Result<Answer, NoMemory>
+) -> Result<Answer, Stop>
     ensures answers { ComesBy (H.files shelf.old) (course_of_query file.now query.now)
         (H.failed shelf.old) (H.failed shelf.new) result }
     ensures kept { H.files shelf.new ≡ H.files shelf.old }
 {
     let fetched = fetch_file(shelf, file, FILE_LIMIT)?;
-    describe(alloc, file, query, fetched)
+    Ok(describe(alloc, file, query, fetched)?)
 }
 
 /// Fetches a file of events and then a description, and answers what the events come to.
@@ -126,86 +105,72 @@ fn answer_replay<H: Shelf>(
     shelf: &mut H,
     file: &str,
     events: &str,
-) -> Result<Answer, NoMemory>
+) -> Result<Answer, Stop>
     ensures answers { ComesBy (H.files shelf.old) (course_of (commands.Replay file.now events.now))
         (H.failed shelf.old) (H.failed shelf.new) result }
     ensures kept { H.files shelf.new ≡ H.files shelf.old }
 {
     let fetched = fetch_file(shelf, events, FILE_LIMIT)?;
-    match read_events(alloc, events, fetched)? {
-        ReadEvents::Events(events) => answer_description(
-            alloc,
-            shelf,
-            file,
-            &Query::Replay(events),
-        ),
-        ReadEvents::Refused(answer) => Ok(answer),
-    }
+    let read = read_events(alloc, events, fetched)?;
+    answer_description(alloc, shelf, file, &Query::Replay(read))
 }
 
 /// Fetches a report, and answers its text in the version that is written today.
-fn answer_report<H: Shelf>(alloc: Global, shelf: &mut H, file: &str) -> Result<Answer, NoMemory>
+fn answer_report<H: Shelf>(alloc: Global, shelf: &mut H, file: &str) -> Result<Answer, Stop>
     ensures answers { ComesBy (H.files shelf.old) (course_of (commands.Upgrade file.now)) (H.failed shelf.old)
         (H.failed shelf.new) result }
     ensures kept { H.files shelf.new ≡ H.files shelf.old }
 {
     let fetched = fetch_file(shelf, file, REPORT_LIMIT)?;
-    upgrade(alloc, file, fetched)
+    Ok(upgrade(alloc, file, fetched)?)
 }
 
 /// Fetches a script and what it uses, runs it, and answers the report.
-fn answer_script<H: Shelf>(alloc: Global, shelf: &mut H, name: &str) -> Result<Answer, NoMemory>
+fn answer_script<H: Shelf>(alloc: Global, shelf: &mut H, name: &str) -> Result<Answer, Stop>
     ensures answers { ComesBy (H.files shelf.old) (course_of (commands.Step name.now)) (H.failed shelf.old)
         (H.failed shelf.new) result }
     ensures kept { H.files shelf.new ≡ H.files shelf.old }
 {
-    match prepare(alloc, shelf, name)? {
-        Prepared::Asked { start, steps } => run_script(alloc, start, steps),
-        Prepared::Refused(answer) => Ok(answer),
-    }
+    let asked = prepare(alloc, shelf, name)?;
+    Ok(run_script(alloc, asked)?)
 }
 
 /// Makes a system of so many lanes and a script, runs it, and answers the summary.
-fn answer_big(alloc: Global, lanes: u32) -> Result<Answer, NoMemory>
+fn answer_big(alloc: Global, lanes: u32) -> Result<Answer, Stop>
     ensures { EndsBy (SumsUp lanes) [] result }
 {
     let mut made = MadeFiles::of(alloc, lanes)?;
-    match prepare(alloc, &mut made, SCRIPT_NAME)? {
-        Prepared::Asked { start, steps } => sum_up(alloc, lanes, start, steps),
-        Prepared::Refused(answer) => Ok(answer),
-    }
+    let asked = prepare(alloc, &mut made, SCRIPT_NAME)?;
+    Ok(sum_up(alloc, lanes, asked)?)
 }
 
 /// Runs what a script asks for, and answers the report.
-fn run_script(alloc: Global, start: Start, steps: Vec<Step>) -> Result<Answer, NoMemory>
-    requires start { CanStart start }
-    requires steps { CanDoAll (after_start start) steps.items }
+fn run_script(alloc: Global, asked: Prepared) -> Result<Answer, NoMemory>
+    requires { CanRun asked }
     ensures { IfOk result
-        (λ answer. ShowsAnswer (EndsRun (statements_of start steps.items)) answer.status answer.text.items) }
+        (λ answer. ShowsAnswer (EndsInReport (statements_in asked)) answer.status answer.text.items) }
 {
-    let report = report_of(alloc, start, steps)?;
+    let report = report_of(alloc, asked)?;
     answer_run(alloc, &report)
 }
 
 /// Runs what the script of so many lanes asks for, and answers the summary.
-fn sum_up(alloc: Global, lanes: u32, start: Start, steps: Vec<Step>) -> Result<Answer, NoMemory>
-    requires start { CanStart start }
-    requires steps { CanDoAll (after_start start) steps.items }
-    ensures { IfOk result (λ answer. ShowsAnswer (EndsInSummary lanes (statements_of start steps.items))
-        answer.status answer.text.items) }
+fn sum_up(alloc: Global, lanes: u32, asked: Prepared) -> Result<Answer, NoMemory>
+    requires { CanRun asked }
+    ensures { IfOk result
+        (λ answer. ShowsAnswer (EndsInSummary lanes (statements_in asked)) answer.status answer.text.items) }
 {
-    let report = report_of(alloc, start, steps)?;
+    let report = report_of(alloc, asked)?;
     answer_summary(alloc, lanes, &report)
 }
 
 /// Runs what a script asks for in rounds on one thread.
-fn report_of(alloc: Global, start: Start, steps: Vec<Step>) -> Result<Report, NoMemory>
-    requires start { CanStart start }
-    requires steps { CanDoAll (after_start start) steps.items }
-    ensures report { IfOk result (λ report. IsReportOf (statements_of start steps.items) report) }
+fn report_of(alloc: Global, asked: Prepared) -> Result<Report, NoMemory>
+    requires { CanRun asked }
+    ensures report { IfOk result (λ report. IsReportOf (statements_in asked) report) }
     ensures made { IfOk result (λ report. LogsAreMade report) }
 {
     reports_of_rounds_are_lawful();
     let board = StepBoard::<NodeTable>::new(alloc)?;
-    run_in_rounds(alloc, board, start, steps)
+    run_in_rounds(alloc, board, asked.start, asked.steps)
 }

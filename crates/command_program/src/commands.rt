@@ -9,7 +9,7 @@ ghost use Rattle.command_law.specs.Known.{on_one_thread};
 ghost use Rattle.command_words.specs.declared.words.Command.TheVariants as commands;
 ghost use Rattle.command_words.specs.declared.words.TopCall.{TopCall};
 ghost use Rattle.command_law.specs.Outcomes.{Flattened, Planned, Replayed, Upgraded, NothingRefuses, EndsAsGiven, Wants, Ends, EndsAsRun, IsRunStatus, NothingRefusesLines, Ran, SummedUp, NothingRefusesReport};
-ghost use Rattle.command_law.specs.Runs.{Runs};
+ghost use Rattle.command_law.specs.Runs.{Runs, run_of};
 ghost use Rattle.command_law.specs.declared.query.Query.{Query};
 ghost use Rattle.command_program.specs.Naming.{AskForNoFile};
 
@@ -29,17 +29,8 @@ pub fn still<H: Shelf, K: Sink>(
     out: &mut K,
 ) -> Status
     // The fetches, the answer and what was written of it.
-    ensures runs { Runs on_one_thread (record {
-      words = map string_bytes words.now;
-      files = H.files shelf.old;
-      failures = H.failed shelf.old;
-      failures' = H.failed shelf.new;
-      taken = K.taken out.old;
-      taken' = K.taken out.new;
-      faults = K.faults out.old;
-      faults' = K.faults out.new;
-      status = result;
-    }) }
+    ensures runs { Runs on_one_thread (run_of H.Shelf K.Sink (map string_bytes words.now)
+        shelf.old shelf.new out.old out.new result) }
     // No fetch changes the files.
     ensures kept { H.files shelf.new ≡ H.files shelf.old }
     // Of `flat` the text of the graph, of `plan` that of the plan, of `replay` that of what is open and settled, and of

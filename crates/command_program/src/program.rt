@@ -6,7 +6,7 @@ ghost use Rattle.std.specs.Process.{exit_status};
 ghost use Rattle.std.specs.Vec.Iter.{into_iter_items};
 ghost use Rattle.command_answers.specs.Answers.{no_memory_line};
 ghost use Rattle.command_answers.specs.Statuses.{status_number};
-ghost use Rattle.command_law.specs.Runs.{Runs, Written};
+ghost use Rattle.command_law.specs.Runs.{Runs, Written, run_of};
 ghost use Rattle.command_law.specs.Known.{on_one_thread};
 ghost use Rattle.command_program.specs.Exits.{Exits};
 ghost use Rattle.command_program.specs.Naming.{AskForNoFile};
@@ -32,32 +32,15 @@ pub fn run_program<H: Shelf, K: Sink>(
     out: &mut K,
 ) -> ExitCode
     // All words but the first are asked, and none is left out.
-    ensures given { IfOk args (λ args. Exits (λ own. Runs on_one_thread (record {
-      words = map string_bytes (drop 1 (into_iter_items args));
-      files = H.files shelf.old;
-      failures = H.failed shelf.old;
-      failures' = H.failed shelf.new;
-      taken = K.taken out.old;
-      taken' = K.taken out.new;
-      faults = K.faults out.old;
-      faults' = K.faults out.new;
-      status = own;
-    })) result) }
-    ensures unreadable { IfErr args (λ fault. Exits (λ own. Runs on_one_thread (record {
-      words = [];
-      files = H.files shelf.old;
-      failures = H.failed shelf.old;
-      failures' = H.failed shelf.new;
-      taken = K.taken out.old;
-      taken' = K.taken out.new;
-      faults = K.faults out.old;
-      faults' = K.faults out.new;
-      status = own;
-    })) result) }
+    ensures given { IfOk args (λ args. Exits (λ own. Runs on_one_thread
+        (run_of H.Shelf K.Sink (map string_bytes (drop 1 (into_iter_items args)))
+        shelf.old shelf.new out.old out.new own)) result) }
+    ensures unreadable { IfErr args (λ fault. Exits (λ own. Runs on_one_thread
+        (run_of H.Shelf K.Sink [] shelf.old shelf.new out.old out.new own)) result) }
     // With no memory for the words nothing is fetched.
     ensures no_memory { IfErr args (λ fault. error_kind fault ≡ ErrorKind.OutOfMemory
         → Exits (λ own. Written Status.NoMemory no_memory_line
-        (K.taken out.old) (K.taken out.new) (K.faults out.old) (K.faults out.new) own) result
+        (run_of H.Shelf K.Sink [] shelf.old shelf.new out.old out.new own)) result
         × (H.failed shelf.new ≡ H.failed shelf.old)) }
     // No fetch changes the files. Words that name no file fetch none: the shelf is as it was.
     ensures kept { H.files shelf.new ≡ H.files shelf.old }
@@ -75,31 +58,13 @@ fn run_args<H: Shelf, K: Sink>(
     shelf: &mut H,
     out: &mut K,
 ) -> Status
-    ensures given { IfOk args (λ args. Runs on_one_thread (record {
-      words = map string_bytes (drop 1 (into_iter_items args));
-      files = H.files shelf.old;
-      failures = H.failed shelf.old;
-      failures' = H.failed shelf.new;
-      taken = K.taken out.old;
-      taken' = K.taken out.new;
-      faults = K.faults out.old;
-      faults' = K.faults out.new;
-      status = result;
-    })) }
-    ensures unreadable { IfErr args (λ fault. Runs on_one_thread (record {
-      words = [];
-      files = H.files shelf.old;
-      failures = H.failed shelf.old;
-      failures' = H.failed shelf.new;
-      taken = K.taken out.old;
-      taken' = K.taken out.new;
-      faults = K.faults out.old;
-      faults' = K.faults out.new;
-      status = result;
-    })) }
+    ensures given { IfOk args (λ args. Runs on_one_thread
+        (run_of H.Shelf K.Sink (map string_bytes (drop 1 (into_iter_items args)))
+        shelf.old shelf.new out.old out.new result)) }
+    ensures unreadable { IfErr args (λ fault. Runs on_one_thread
+        (run_of H.Shelf K.Sink [] shelf.old shelf.new out.old out.new result)) }
     ensures no_memory { IfErr args (λ fault. error_kind fault ≡ ErrorKind.OutOfMemory
-        → Written Status.NoMemory no_memory_line
-        (K.taken out.old) (K.taken out.new) (K.faults out.old) (K.faults out.new) result
+        → Written Status.NoMemory no_memory_line (run_of H.Shelf K.Sink [] shelf.old shelf.new out.old out.new result)
         × (H.failed shelf.new ≡ H.failed shelf.old)) }
     ensures kept { H.files shelf.new ≡ H.files shelf.old }
     ensures untouched { IfOk args (λ args. AskForNoFile (map string_bytes (drop 1 (into_iter_items args)))
@@ -115,17 +80,9 @@ fn run_args<H: Shelf, K: Sink>(
 
 /// The same for words that can be read.
 fn run_given<H: Shelf, K: Sink>(alloc: Global, args: Args, shelf: &mut H, out: &mut K) -> Status
-    ensures runs { Runs on_one_thread (record {
-      words = map string_bytes (drop 1 (into_iter_items args));
-      files = H.files shelf.old;
-      failures = H.failed shelf.old;
-      failures' = H.failed shelf.new;
-      taken = K.taken out.old;
-      taken' = K.taken out.new;
-      faults = K.faults out.old;
-      faults' = K.faults out.new;
-      status = result;
-    }) }
+    ensures runs { Runs on_one_thread
+        (run_of H.Shelf K.Sink (map string_bytes (drop 1 (into_iter_items args)))
+        shelf.old shelf.new out.old out.new result) }
     ensures kept { H.files shelf.new ≡ H.files shelf.old }
     ensures untouched { AskForNoFile (map string_bytes (drop 1 (into_iter_items args))) → shelf.new ≡ shelf.old }
 {

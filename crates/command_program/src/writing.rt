@@ -1,17 +1,16 @@
 //! How an answer is written.
 
 ghost use Rattle.std.specs.Prelude.{◌∷◌, ◌++◌, [], codes};
-ghost use Rattle.command_law.specs.Runs.{Written};
-ghost use Rattle.command_program.specs.Coming.{result_status, result_text};
+ghost use Rattle.command_law.specs.Runs.{Run, Written, writing_to};
+ghost use Rattle.command_program.specs.Coming.{result_status, result_text, stop_status, stop_text};
 
 use cfg_io::{Sink, write_all};
 use command_answers::Status;
-use command_files::Answer;
-use config_graph::NoMemory;
+use command_files::{Answer, Stop};
 
 /// Writes a text, and says how the run ends.
 pub fn write<K: Sink>(out: &mut K, status: Status, text: &[u8]) -> Status
-    ensures { Written status text.now (K.taken out.old) (K.taken out.new) (K.faults out.old) (K.faults out.new) result }
+    ensures { (r : Run) → Written status text.now (writing_to K.Sink r out.old out.new result) }
 {
     match write_all(out, text) {
         Ok(()) => status,
@@ -19,21 +18,31 @@ pub fn write<K: Sink>(out: &mut K, status: Status, text: &[u8]) -> Status
     }
 }
 
-/// Writes an answer, or that memory ran out, and says how the run ends.
-pub fn finish<K: Sink>(out: &mut K, answer: Result<Answer, NoMemory>) -> Status
-    ensures { Written (result_status answer) (result_text answer)
-        (K.taken out.old) (K.taken out.new) (K.faults out.old) (K.faults out.new) result }
+/// Writes an answer, or why there is none, and says how the run ends.
+pub fn finish<K: Sink>(out: &mut K, answer: Result<Answer, Stop>) -> Status
+    ensures { (r : Run) → Written (result_status answer) (result_text answer)
+        (writing_to K.Sink r out.old out.new result) }
 {
     match answer {
         Ok(answer) => write(out, answer.status, answer.text.as_slice()),
-        Err(_) => no_memory(out),
+        Err(stop) => finish_early(out, stop),
+    }
+}
+
+/// Writes why there is no answer.
+fn finish_early<K: Sink>(out: &mut K, stop: Stop) -> Status
+    ensures { (r : Run) → Written (stop_status stop) (stop_text stop) (writing_to K.Sink r out.old out.new result) }
+{
+    match stop {
+        Stop::Refused(answer) => write(out, answer.status, answer.text.as_slice()),
+        Stop::NoMemory => no_memory(out),
     }
 }
 
 /// Writes that memory ran out, as for a command line for whose words there is none.
 pub fn no_memory<K: Sink>(out: &mut K) -> Status
-    ensures { Written Status.NoMemory (codes "no memory" ++ 10 ∷ [])
-        (K.taken out.old) (K.taken out.new) (K.faults out.old) (K.faults out.new) result }
+    ensures { (r : Run) → Written Status.NoMemory (codes "no memory" ++ 10 ∷ [])
+        (writing_to K.Sink r out.old out.new result) }
 {
     write(out, Status::NoMemory, b"no memory\n")
 }

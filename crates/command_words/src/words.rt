@@ -4,8 +4,7 @@ ghost use Rattle.std.specs.Prelude.{◌≡◌, ◌≢◌, ◌∷◌, [], ◌<◌
 ghost use Rattle.std.specs.List.{AllByRecursion, prefix_len};
 ghost use Rattle.std.specs.Option.{SomeIff};
 ghost use Rattle.std.specs.Str.Parse.{digits_value};
-ghost use Rattle.command_words.specs.CommandLine.{IsInteger, IsLaneCount, integer_of, IsCall, Asks, is_part};
-ghost use Rattle.command_words.specs.declared.words.Command.{Command};
+ghost use Rattle.command_words.specs.CommandLine.{IsInteger, IsLaneCount, integer_of, IsCall, Asks, HasNoForm, is_part};
 ghost use Rattle.command_words.specs.declared.words.TopCall.{TopCall};
 
 use crate::MAX_LANES;
@@ -87,8 +86,7 @@ pub enum Command<'a> {
 /// What the words ask for, where they have one of the forms.
 pub fn read_words(alloc: Global, words: &[String]) -> Result<Option<Command<'_>>, NoMemory>
     ensures found { IfOk result (λ found. IfSome found (λ command. Asks (map string_bytes words.now) command)) }
-    ensures none { IfOk result (λ found. IfNone found ((command : Command)
-        → Asks (map string_bytes words.now) command → ⊥)) }
+    ensures none { IfOk result (λ found. IfNone found (HasNoForm (map string_bytes words.now))) }
 {
     match words {
         [] => Ok(None),
@@ -106,8 +104,7 @@ fn read_command<'a>(
     requires { 0 < length words.now }
     ensures found { IfOk result (λ found. IfSome found
         (λ command. Asks (first.now ∷ map string_bytes words.now) command)) }
-    ensures none { IfOk result (λ found. IfNone found ((command : Command)
-        → Asks (first.now ∷ map string_bytes words.now) command → ⊥)) }
+    ensures none { IfOk result (λ found. IfNone found (HasNoForm (first.now ∷ map string_bytes words.now))) }
 {
     let file = words[0].as_str();
     if file.is_empty() {
@@ -127,7 +124,7 @@ fn read_command<'a>(
 /// What a word asks for by itself.
 fn read_lone(word: &str) -> Option<Command<'_>>
     ensures found { IfSome result (λ command. Asks (word.now ∷ []) command) }
-    ensures none { IfNone result ((command : Command) → Asks (word.now ∷ []) command → ⊥) }
+    ensures none { IfNone result (HasNoForm (word.now ∷ [])) }
 {
     if word == "--help" {
         Some(Command::Help)
@@ -147,8 +144,8 @@ fn read_flat<'a>(
     requires { file.now ≢ [] }
     ensures found { IfOk result (λ found. IfSome found
         (λ command. Asks (codes "flat" ∷ file.now ∷ map string_bytes words.now) command)) }
-    ensures none { IfOk result (λ found. IfNone found ((command : Command)
-        → Asks (codes "flat" ∷ file.now ∷ map string_bytes words.now) command → ⊥)) }
+    ensures none { IfOk result (λ found. IfNone found
+        (HasNoForm (codes "flat" ∷ file.now ∷ map string_bytes words.now))) }
 {
     match read_call(alloc, words)? {
         Some(call) => Ok(Some(Command::Flat {
@@ -168,8 +165,8 @@ fn read_plan<'a>(
     requires { file.now ≢ [] }
     ensures found { IfOk result (λ found. IfSome found
         (λ command. Asks (codes "plan" ∷ file.now ∷ map string_bytes words.now) command)) }
-    ensures none { IfOk result (λ found. IfNone found ((command : Command)
-        → Asks (codes "plan" ∷ file.now ∷ map string_bytes words.now) command → ⊥)) }
+    ensures none { IfOk result (λ found. IfNone found
+        (HasNoForm (codes "plan" ∷ file.now ∷ map string_bytes words.now))) }
 {
     let at = parting(words);
     if at >= words.len() {
@@ -192,8 +189,7 @@ fn read_plan<'a>(
 fn read_replay<'a>(file: &'a str, words: &'a [String]) -> Option<Command<'a>>
     requires { file.now ≢ [] }
     ensures found { IfSome result (λ command. Asks (codes "replay" ∷ file.now ∷ map string_bytes words.now) command) }
-    ensures none { IfNone result ((command : Command)
-        → Asks (codes "replay" ∷ file.now ∷ map string_bytes words.now) command → ⊥) }
+    ensures none { IfNone result (HasNoForm (codes "replay" ∷ file.now ∷ map string_bytes words.now)) }
 {
     match words {
         [] => None,
@@ -206,8 +202,7 @@ fn read_replay<'a>(file: &'a str, words: &'a [String]) -> Option<Command<'a>>
 fn read_events_name<'a>(file: &'a str, events: &'a str) -> Option<Command<'a>>
     requires { file.now ≢ [] }
     ensures found { IfSome result (λ command. Asks (codes "replay" ∷ file.now ∷ events.now ∷ []) command) }
-    ensures none { IfNone result ((command : Command) → Asks (codes "replay" ∷ file.now ∷ events.now ∷ []) command
-        → ⊥) }
+    ensures none { IfNone result (HasNoForm (codes "replay" ∷ file.now ∷ events.now ∷ [])) }
 {
     if events.is_empty() {
         return None;
@@ -222,8 +217,7 @@ fn read_events_name<'a>(file: &'a str, events: &'a str) -> Option<Command<'a>>
 fn read_upgrade<'a>(file: &'a str, words: &[String]) -> Option<Command<'a>>
     requires { file.now ≢ [] }
     ensures found { IfSome result (λ command. Asks (codes "upgrade" ∷ file.now ∷ map string_bytes words.now) command) }
-    ensures none { IfNone result ((command : Command)
-        → Asks (codes "upgrade" ∷ file.now ∷ map string_bytes words.now) command → ⊥) }
+    ensures none { IfNone result (HasNoForm (codes "upgrade" ∷ file.now ∷ map string_bytes words.now)) }
 {
     match words {
         [] => Some(Command::Upgrade {
@@ -237,8 +231,7 @@ fn read_upgrade<'a>(file: &'a str, words: &[String]) -> Option<Command<'a>>
 fn read_step<'a>(script: &'a str, words: &[String]) -> Option<Command<'a>>
     requires { script.now ≢ [] }
     ensures found { IfSome result (λ command. Asks (codes "step" ∷ script.now ∷ map string_bytes words.now) command) }
-    ensures none { IfNone result ((command : Command)
-        → Asks (codes "step" ∷ script.now ∷ map string_bytes words.now) command → ⊥) }
+    ensures none { IfNone result (HasNoForm (codes "step" ∷ script.now ∷ map string_bytes words.now)) }
 {
     match words {
         [] => Some(Command::Step {
@@ -251,8 +244,7 @@ fn read_step<'a>(script: &'a str, words: &[String]) -> Option<Command<'a>>
 /// What the word `big` asks for with a number and these words behind it.
 fn read_big<'a>(count: &'a str, words: &[String]) -> Option<Command<'a>>
     ensures found { IfSome result (λ command. Asks (codes "big" ∷ count.now ∷ map string_bytes words.now) command) }
-    ensures none { IfNone result ((command : Command)
-        → Asks (codes "big" ∷ count.now ∷ map string_bytes words.now) command → ⊥) }
+    ensures none { IfNone result (HasNoForm (codes "big" ∷ count.now ∷ map string_bytes words.now)) }
 {
     match words {
         [] => read_lanes(count),
@@ -263,7 +255,7 @@ fn read_big<'a>(count: &'a str, words: &[String]) -> Option<Command<'a>>
 /// What the word `big` asks for with a number.
 fn read_lanes<'a>(count: &'a str) -> Option<Command<'a>>
     ensures found { IfSome result (λ command. Asks (codes "big" ∷ count.now ∷ []) command) }
-    ensures none { IfNone result ((command : Command) → Asks (codes "big" ∷ count.now ∷ []) command → ⊥) }
+    ensures none { IfNone result (HasNoForm (codes "big" ∷ count.now ∷ [])) }
 {
     match lane_count(count) {
         Some(lanes) => Some(Command::Big { lanes }),

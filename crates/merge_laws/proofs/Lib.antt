@@ -9,10 +9,13 @@ mod OpenRootLemmas
 mod RootPortLemmas
 mod ApartLemmas
 mod LawfulLemmas
-mod ClosingPortLemmas
 mod DescentLemmas
-mod CalmLemmas
 mod TellingLemmas
 mod FrontLemmas
 mod ReadingLemmas
 mod LogLemmas
+mod StuckLemmas
+mod AloneLemmas
+mod GoneLemmas
+mod MisleadingLemmas
+mod DecidedLemmas

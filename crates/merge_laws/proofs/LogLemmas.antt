@@ -1,6 +1,6 @@
--- The logs of a lawful report, by slots: there is one for each node made, and what a node that wasn't made does is nothing.
+-- Logs by slots: there is one for each node made, and what a node that wasn't made does is nothing.
 use Rattle.std.proofs.Common.{◌≡◌, ◌∙◌, ℕ, ◌<◌, ◌≤◌, true, false, cond, ◌&&◌, List, [], ◌∷◌, ◌++◌, length, map, get_or, Option, Some, None, refl, sym, ap, subst, ⊎_elim, arith}
-use Rattle.std.specs.Prelude.{◌==◌, filter, filter_map}
+use Rattle.std.specs.Prelude.{◌==◌, All, filter, filter_map}
 use Rattle.std.specs.List.{cons_option, range_with_len}
 use Rattle.std.proofs.lemmas.Bool.{and_parts, both_ways, cases_Bool, cases_lt, eqb-true}
 use Rattle.std.proofs.lemmas.List.{append-nil, get_or-map, get_or_past, length-map}
@@ -32,8 +32,8 @@ use Rattle.report_types.specs.declared.report.Last.{Last}
 use Rattle.report_types.specs.declared.report.NodeLog.{NodeLog}
 use Rattle.report_types.specs.declared.report.Report.{Report}
 use Rattle.change_law.specs.Endings.{moved_to}
-use Rattle.change_law.specs.Lawful.{EndsAs, IsFolded, IsLawfulBy}
-use Rattle.change_law.specs.Members.{Member, event_of, events, made_slot}
+use Rattle.change_law.specs.Lawful.{EndsAs, IsFolded, IsLawfulBy, IsLogIn, IsOfItsKind}
+use Rattle.change_law.specs.Members.{Member, event_of, events, lines, made_slot, without_roots}
 use Rattle.change_law.specs.Opening.{fold_of_node}
 use Rattle.change_law.specs.Statements.{Statement}
 use Rattle.change_law.proofs.MemberLaws.{changes_are_lines, events_without_roots}
@@ -124,42 +124,50 @@ unmade_do_nothing n es run = always (λ xs. length (state_after xs).config.slots
     (cases_Bool (is_doer s n e)))
     (λ past. refl) es run
 
--- ---- the logs of a lawful report
+-- ---- the logs of a list, by slots
 
-module _ (statements : List Statement) (report : Report) (m : List Member) (lawful : IsLawfulBy statements report m) where
+module _ (report : Report) (m : List Member) (one : map (λ (l : NodeLog). l.slot) report.logs ≡ filter_map made_slot report.history) (kinds : All IsOfItsKind m)
+    (are : lines m ≡ without_roots report.history) (run : IsRun (events m)) where
   slots_are : map (λ (l : NodeLog). l.slot) report.logs ≡ slots (state_after (events m))
   slots_are =
-      lawful.merge.one_log_a_node
+      one
       ∙ sym (made_by_lines report.history) ∙ ap (filter_map slot_made) (sym (events_without_roots report.history))
-      ∙ ap (λ ls. filter_map slot_made (filter_map event_of ls)) (sym lawful.merge.history)
-      ∙ ap (filter_map slot_made) (sym (changes_are_lines m lawful.merge.by_nodes))
-      ∙ sym (made_by_changes (events m)) ∙ slots_are_made (events m) lawful.runs
+      ∙ ap (λ ls. filter_map slot_made (filter_map event_of ls)) (sym are)
+      ∙ ap (filter_map slot_made) (sym (changes_are_lines m kinds))
+      ∙ sym (made_by_changes (events m)) ∙ slots_are_made (events m) run
 
-  many : length report.logs ≡ length (state_after (events m)).config.slots
+  pub many : length report.logs ≡ length (state_after (events m)).config.slots
   many =
       sym (length-map report.logs (λ (l : NodeLog). l.slot)) ∙ ap (λ ks. length ks) slots_are
       ∙ length-range_with_len 0 (length (state_after (events m)).config.slots)
 
   -- log k is that of slot k
-  slot_is : (k : ℕ) (d : NodeLog) → k < length report.logs → (get_or report.logs k d).slot ≡ k
+  pub slot_is : (k : ℕ) (d : NodeLog) → k < length report.logs → (get_or report.logs k d).slot ≡ k
   slot_is k d low =
       let n = length (state_after (events m)).config.slots in
       sym (get_or-map (λ (l : NodeLog). l.slot) report.logs k d d.slot low) ∙ ap (λ ks. get_or ks k d.slot) slots_are
       ∙ get_or-range_with_len 0 n k d.slot (omega (arith, low, many)) ∙ omega arith
 
-  pub has_logs : HasLogs (map (λ (l : NodeLog). l.events) report.logs) m
-  has_logs k = ⊎_elim
+  -- so the logs are what the nodes do, one by one, exactly where they are so by slots
+  pub has_logs : All (IsLogIn m) report.logs → HasLogs (map (λ (l : NodeLog). l.events) report.logs) m
+  has_logs logs k = ⊎_elim
       (λ (low : k < length report.logs).
       let there = slice_get-there report.logs k low in
       let d = there.0 in
-      let log_is : done_by (get_or report.logs k d).slot (events m) ≡ (get_or report.logs k d).events = lawful.merge.logs k d low in
+      let log_is : done_by (get_or report.logs k d).slot (events m) ≡ (get_or report.logs k d).events = logs k d low in
       ap (λ i. done_by i (events m)) (sym (slot_is k d low)) ∙ log_is
       ∙ sym (get_or-map (λ (l : NodeLog). l.events) report.logs k d [] low))
       (λ (past : length report.logs ≤ k).
-      unmade_do_nothing k (events m) lawful.runs (omega (arith, many, past))
+      unmade_do_nothing k (events m) run (omega (arith, many, past))
       ∙ sym (get_or_past (map (λ (l : NodeLog). l.events) report.logs) k [] (omega (arith, past, length-map report.logs (λ (l : NodeLog). l.events)))))
       (cases_lt k (length report.logs))
 
+  pub are_logs : HasLogs (map (λ (l : NodeLog). l.events) report.logs) m → All (IsLogIn m) report.logs
+  are_logs has k d low = ap (λ i. done_by i (events m)) (slot_is k d low) ∙ has k ∙ get_or-map (λ (l : NodeLog). l.events) report.logs k d [] low
+
+-- ---- each node of a lawful report has a fold
+
+module _ (statements : List Statement) (report : Report) (m : List Member) (lawful : IsLawfulBy statements report m) where
   -- each node made has a fold
   has_fold : (o : Option NodeState) (j : Option ℕ) (l : Last) → EndsAs o j l → (z : NodeState) × (o ≡ Some z)
   has_fold None j l h = absurd (none_ends j l h)
@@ -170,12 +178,13 @@ module _ (statements : List Statement) (report : Report) (m : List Member) (lawf
 
   folds : (n : ℕ) (s : Slot) → slot (state_after (events m)).config n ≡ Some s → (z : NodeState) × (fold_of_node (events m) n ≡ Some z)
   folds n s is =
-      let low : n < length report.logs = omega (arith, many, slice_get_within (state_after (events m)).config.slots n s is) in
+      let merge = lawful.merge in
+      let low : n < length report.logs = omega (arith, many report m merge.one_log_a_node merge.by_nodes merge.history lawful.runs, slice_get_within (state_after (events m)).config.slots n s is) in
       let d = (slice_get-there report.logs n low).0 in
       let l = get_or report.logs n d in
       let ends : IsFolded m report.history l = lawful.folds n d low in
       let z = has_fold (fold_of_node (events m) l.slot) (moved_to report.history l.slot) l.last ends in
-      (z.0, ap (fold_of_node (events m)) (sym (slot_is n d low)) ∙ z.1)
+      (z.0, ap (fold_of_node (events m)) (sym (slot_is report m merge.one_log_a_node merge.by_nodes merge.history lawful.runs n d low)) ∙ z.1)
 
   pub has_roots_apart : HasRootsApart m
   has_roots_apart = roots_are_free (events m) lawful.runs folds

@@ -21,7 +21,7 @@ use Rattle.change_law.specs.Follows.{Follows, IsRight, IsStop, Part, lines_of}
 use Rattle.change_law.specs.Members.{lines_of_events}
 use Rattle.change_law.specs.Scene.{AreSeen, config_after, drained_line}
 use Rattle.change_law.specs.Statements.{Statement}
-use Rattle.change_law.proofs.PlanningLaws.{one_plan}
+use Rattle.change_plan.proofs.PlanLaws.{one_plan}
 use Rattle.merge_laws.specs.Descents.{pieces}
 use Rattle.merge_laws.specs.Reading.{HasRead, IsChangeSo, IsCommittedSo, IsGivenUpSo}
 use Rattle.merge_laws.proofs.DescentLemmas.{all_in_pieces, falls_are_few, pieces_are_looks}

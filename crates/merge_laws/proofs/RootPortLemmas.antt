@@ -84,16 +84,16 @@ done_append n (e ∷ xs) ys s = by (is_doer s n e) (done_append n xs ys (effect 
 
 -- ---- so a begin is at such a port
 
-record Folded (es : List Event) (n : ℕ) (m : Slot) : Type 0 where
+-- a node that has a fold opened with what was kept
+pub record Folded (es : List Event) (n : ℕ) (m : Slot) (z : NodeState) : Type 0 where
   pub kept : Kept
-  pub last : NodeState
-  pub folds : fold_from m.first_port (at_rest m.node.kind (argument_of m) kept) (done_by n es) ≡ Some last
+  pub folds : fold_from m.first_port (at_rest m.node.kind (argument_of m) kept) (done_by n es) ≡ Some z
 
-folded_by : (es : List Event) (n : ℕ) (m : Slot) (o : Option Kept) (z : NodeState) → option_and_then (fold_at m (done_by n es)) o ≡ Some z → Folded es n m
+folded_by : (es : List Event) (n : ℕ) (m : Slot) (o : Option Kept) (z : NodeState) → option_and_then (fold_at m (done_by n es)) o ≡ Some z → Folded es n m z
 folded_by es n m None z h = absurd (cc (h))
-folded_by es n m (Some k) z h = record { kept = k; last = z; folds = h }
+folded_by es n m (Some k) z h = record { kept = k; folds = h }
 
-folded : (es : List Event) (n : ℕ) (m : Slot) (z : NodeState) → slot (state_after es).config n ≡ Some m → fold_of_node es n ≡ Some z → Folded es n m
+pub folded : (es : List Event) (n : ℕ) (m : Slot) (z : NodeState) → slot (state_after es).config n ≡ Some m → fold_of_node es n ≡ Some z → Folded es n m z
 folded es n m z is h = folded_by es n m _ z (sym (ap (λ o. option_and_then (λ (k : Slot).
     option_and_then (fold_at k (done_by n es))
     (option_map_or (λ j. option_map (λ (s : NodeState). s.kept) (fold_within es n j)) k.from
@@ -116,7 +116,7 @@ begin_free es before after p k v run is folds =
     let done : done_by n es ≡ done_by n before ++ Begin p k v ∷ done_from (effect s (Begin p k v)) n after =
     ap (done_by n) is ∙ done_append n before (Begin p k v ∷ after) empty
     ∙ ap (λ b. done_by n before ++ cond b (Begin p k v ∷ done_from (effect s (Begin p k v)) n after) (done_from (effect s (Begin p k v)) n after)) (eq-eqb n n refl) in
-    let w = passed m.now.first_port (Some (at_rest m.now.node.kind (argument_of m.now) f.kept)) (done_by n before) (Begin p k v) (done_from (effect s (Begin p k v)) n after) f.last
+    let w = passed m.now.first_port (Some (at_rest m.now.node.kind (argument_of m.now) f.kept)) (done_by n before) (Begin p k v) (done_from (effect s (Begin p k v)) n after) z.0
     (sym (ap (fold_from m.now.first_port (at_rest m.now.node.kind (argument_of m.now) f.kept)) done) ∙ f.folds) in
     let asks = map_or_true (λ (x : Ask). m.now.first_port + x.require == p && x.value == v) (moves.wants w.at) (where_so_then _ w.at w.then_ w.passes).0 in
     let kind : w.at.kind ≡ m.now.node.kind = fold_keeps_kind m.now.first_port (at_rest m.now.node.kind (argument_of m.now) f.kept) w.at (done_by n before) w.before in

@@ -1,6 +1,6 @@
 -- A history that follows a script tells of each port that it closes, before it is reopened, and tells a root only of one.
 use Rattle.std.proofs.Common.{◌≡◌, ◌∙◌, ℕ, ◌+◌, ◌<◌, ◌≤◌, Bool, true, false, ◌||◌, cond, List, [], ◌∷◌, ◌++◌, append_assoc, length, map, refl, sym, ap, subst, ⊎_elim, inl, inr, arith}
-use Rattle.std.specs.Prelude.{◌==◌, ◌⊎◌, ℤ, filter_map}
+use Rattle.std.specs.Prelude.{◌==◌, ◌⊎◌, ℤ}
 use Rattle.std.specs.List.{count_by, list_any, range_with_len}
 use Rattle.std.specs.List.Sorted.{IsStrictlyIncreasing}
 use Rattle.std.proofs.lemmas.Bool.{both_ways, cases_Bool, eq-eqb, eqb-true, or_left, or_parts, or_right}
@@ -18,20 +18,20 @@ use Rattle.quiesce_commit_laws.specs.Steps.{change_all, live_ports}
 use Rattle.change_plan_laws.specs.Commit.{ports_to_close}
 use Rattle.quiesce_core.specs.Rules.{is_live_port}
 use Rattle.quiesce_core.specs.State.{Configuration}
-use Rattle.quiesce_core.specs.declared.event.Event.TheVariants as event
 use Rattle.report_types.specs.declared.report.HistoryLine.{HistoryLine}
 use Rattle.report_types.specs.declared.report.HistoryLine.TheVariants as to
 use Rattle.change_law.specs.Changes.{IsChange, IsCommitted, IsGivenUp, commit_lines, opening_lines, seen_in_all}
 use Rattle.change_law.specs.Follows.{Follows, IsRight, IsStop, Part, lines_of, skip_lines, start_lines}
-use Rattle.change_law.specs.Members.{event_of, is_close, is_pending, is_root}
+use Rattle.change_law.specs.Members.{is_close, is_pending, is_root}
 use Rattle.change_law.specs.Scene.{AreSeen, Seen, config_after, drained_line, root_line}
 use Rattle.change_law.specs.Statements.{Statement, start, change, run, finish, show}
 use Rattle.change_law.proofs.MemberLaws.{parted_at}
-use Rattle.change_law.proofs.TestLaws.{counted_some, none_both, none_mapped, range_rises, some_counted}
-use Rattle.merge_laws.proofs.ClosingPortLemmas.{closing_rise, config_more, still_to_close}
+use Rattle.base.proofs.ListLaws.{count_by-some}
+use Rattle.change_law.proofs.ClosingLaws.{commit_lines_close_none, commit_roots_none, start_closes_none, start_roots_none}
+use Rattle.change_law.proofs.PortLaws.{closed_events, closing_rise, config_more, still_to_close}
+use Rattle.change_law.proofs.TestLaws.{counted_some, none_both, none_mapped, range_rises}
 use Rattle.merge_laws.specs.Guarded.{tells}
 use Rattle.merge_laws.specs.Telling.{IsShutBy, IsTold, IsToldOf, reopens_there}
-use Rattle.merge_laws.proofs.CalmLemmas.{commit_lines_close_none, commit_roots_none, start_closes_none, start_roots_none}
 use Rattle.merge_laws.proofs.DescentLemmas.{rise_first, rise_tail}
 
 -- ---- lists
@@ -182,7 +182,7 @@ module _ (closed : List ℕ) (heard : List HistoryLine) (once : (p : ℕ) → co
   told_behind p c z r whole first =
       let listed : list_any (λ q. q == p) closed ≡ true =
       sym (list_any-map (closes_there p) to.Close closed) ∙ ap (list_any (closes_there p)) first ∙ there (closes_there p) c (to.Close p) z (eq_true p) in
-      let w = first_in (tells p) heard (counted_some (tells p) heard (omega (arith, h.counts p, some_counted (λ q. q == p) closed listed))) in
+      let w = first_in (tells p) heard (counted_some (tells p) heard (omega (arith, h.counts p, count_by-some (λ q. q == p) closed listed))) in
       record {
         between = z ++ w.before;
         line = w.one;
@@ -198,9 +198,9 @@ module _ (closed : List ℕ) (heard : List HistoryLine) (once : (p : ℕ) → co
   shut_before p k c z r at place =
       let all : count_by (tells p) heard ≡ count_by (tells p) z + count_by (tells p) (to.Root p k ∷ r) =
       ap (count_by (tells p)) at ∙ count_by-append (tells p) z (to.Root p k ∷ r) in
-      let here : 1 ≤ count_by (tells p) (to.Root p k ∷ r) = some_counted (tells p) (to.Root p k ∷ r) (or_left (p == p) (list_any (tells p) r) (eq_true p)) in
+      let here : 1 ≤ count_by (tells p) (to.Root p k ∷ r) = count_by-some (tells p) (to.Root p k ∷ r) (or_left (p == p) (list_any (tells p) r) (eq_true p)) in
       let none : list_any (tells p) z ≡ false = ⊎_elim
-      (λ (some_ : list_any (tells p) z ≡ true). absurd (omega (arith, some_counted (tells p) z some_, all, here, h.counts p, once p)))
+      (λ (some_ : list_any (tells p) z ≡ true). absurd (omega (arith, count_by-some (tells p) z some_, all, here, h.counts p, once p)))
       (λ (none : list_any (tells p) z ≡ false). none) (cases_Bool (list_any (tells p) z)) in
       let listed : list_any (λ q. q == p) closed ≡ true = counted_some (λ q. q == p) closed (omega (arith, all, here, h.counts p)) in
       let w = first_in (closes_there p) cs (list_any-map (closes_there p) to.Close closed ∙ listed) in
@@ -266,15 +266,11 @@ some_left closed within seen left are =
 
 -- ---- a change, and the other statements
 
-closes_happen : (closed : List ℕ) → filter_map event_of (map to.Close closed) ≡ map event.Close closed
-closes_happen [] = refl
-closes_happen (p ∷ closed) = ap (λ es. event.Close p ∷ es) (closes_happen closed)
-
 pub still_closed : (before : List HistoryLine) (name : List ℕ) (args : List ℤ) (old : Graph) (plan : Plan)
     → ports_to_close old plan (config_after (before ++ opening_lines name args old plan (config_after before))) ≡ ports_to_close old plan (config_after before)
 still_closed before name args old plan =
     let c = config_after before in
-    ap (ports_to_close old plan) (config_more before (opening_lines name args old plan c) ∙ ap (change_all c) (closes_happen (ports_to_close old plan c)))
+    ap (ports_to_close old plan) (config_more before (opening_lines name args old plan c) ∙ ap (change_all c) (closed_events (ports_to_close old plan c)))
     ∙ still_to_close old plan c
 
 module _ (before : List HistoryLine) (name : List ℕ) (args : List ℤ) (new : Graph) (within : ℕ) (old : Graph) (plan : Plan) where

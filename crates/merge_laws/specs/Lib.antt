@@ -5,3 +5,6 @@ pub mod Merges
 pub mod Guided
 pub mod Descents
 pub mod Reading
+pub mod Alone
+pub mod Guards
+pub mod Misleading

@@ -13,6 +13,12 @@ ghost use Rattle.merge_laws.specs.Merges.{HasLogs, IsMergeWith};
 ghost use Rattle.merge_laws.specs.Telling.{IsTold};
 ghost use Rattle.merge_laws.specs.Ways.{members_of};
 
+/// Some way goes on until no member may come: each step leaves one member less.
+pub fn some_way_goes_on_no_more()
+    ensures { (x : Left) → IsWellFormed x.state → IsConsistent x.state → (cs : List ℕ) × (can_go x cs ≡ true)
+        × ((c : ℕ) → may_go (fold go x cs) c ≡ false) }
+{}
+
 /// Where one way leads to the end, with nothing left, each does that goes on as long as a member may come.
 pub fn all_ways_end_where_one_does()
     ensures { (x : Left) (way cs : List ℕ) → IsWellFormed x.state → IsConsistent x.state

@@ -256,25 +256,26 @@ impl PortGate for CoreGate {
     fn take(&mut self, seat: &mut CoreSeat, port: u32) -> TakeAnswer {
         self.holds();
         let word = self.fields(port);
-        match word.target {
-            Some(target) if word.phase.is_asked() && target.node == seat.slot => {
-                let serial = word.serial;
-                let value = word.value;
-                self.act(
-                    seat,
-                    &Event::Take {
-                        port,
-                        serial,
-                        value,
-                    },
-                );
-                TakeAnswer::Taken {
-                    provide: target.provide,
-                    serial,
-                    value,
-                }
-            }
-            _ => TakeAnswer::Stale { word: word.pack() },
+        let Some(target) = word.target else {
+            return TakeAnswer::Stale { word: word.pack() };
+        };
+        if !word.phase.is_asked() || target.node != seat.slot {
+            return TakeAnswer::Stale { word: word.pack() };
+        }
+        let serial = word.serial;
+        let value = word.value;
+        self.act(
+            seat,
+            &Event::Take {
+                port,
+                serial,
+                value,
+            },
+        );
+        TakeAnswer::Taken {
+            provide: target.provide,
+            serial,
+            value,
         }
     }
 

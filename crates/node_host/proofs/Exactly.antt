@@ -2,7 +2,7 @@
 use Rattle.std.proofs.Common.{◌≡◌, ◌∙◌, ℕ, ◌+◌, ◌<◌, Bool, true, false, cond, List, [], ◌∷◌, length, Option, Some, None, refl, sym, ap, subst, arith}
 use Rattle.std.specs.Prelude.{not, ◌==◌, ◌&&◌, ◌||◌, is_none, is_some, nat_le, option_map, slice_index_or, option_and_then}
 use Rattle.std.specs.Option.{option_map_or}
-use Rattle.std.proofs.lemmas.Bool.{and_from, and_left, and_right, and_parts, both_ways, eq-eqb, eqb-true, leb-true, ne_eqb, not-true}
+use Rattle.std.proofs.lemmas.Bool.{and_from, and_left, and_right, and_parts, both_ways, eq-eqb, eqb-true, leb-true, ne_eqb, not-true, or_right, or_from, not_from_true}
 use Rattle.std.proofs.lemmas.Option.{none-some, slice_get-get_or}
 use Rattle.config_graph.specs.Kinds.{row}
 use Rattle.config_graph.specs.declared.node.Target.{Target}
@@ -143,16 +143,12 @@ module _ {o : Option State} {n : NodeAt} {known : Known} {s : State} (told : Fit
       begins_not p a.value (and_right (is_idle (exchange s p).phase && is_open s.config p) (not (is_missing s p)) (ap not (unlinked_is_missing (target s.config p) ((exchange s p).serial == last_serial) unlinked)))
       ∙ sym (begins_if a t wanted)
 
-  spent_is_missing : (linked spent : Bool) → spent ≡ true → (not linked || spent) ≡ true
-  spent_is_missing true spent h = h
-  spent_is_missing false spent h = refl
-
   begins_spent : (a : Request) (t : NodeState) (k : ℕ) → moves.wants t ≡ Some a → BeginSays o (n.first + a.require) (begin.Spent k) → None ≡ begins s n.slot t
   begins_spent a t k wanted says =
       let p : ℕ = n.first + a.require in
       let shown : IsSpentAt (Some s) p = (subst (λ x. BeginSays x p (begin.Spent k)) told.told says).1 in
       begins_not p a.value
-      (and_right (is_idle (exchange s p).phase && is_open s.config p) (not (is_missing s p)) (ap not (spent_is_missing (is_linked s.config p) ((exchange s p).serial == last_serial) (eq-eqb (exchange s p).serial last_serial shown.2))))
+      (and_right (is_idle (exchange s p).phase && is_open s.config p) (not (is_missing s p)) (ap not (or_right (not (is_linked s.config p)) ((exchange s p).serial == last_serial) (eq-eqb (exchange s p).serial last_serial shown.2))))
       ∙ sym (begins_if a t wanted)
 
   begins_again : (a : Request) (t : NodeState) (i j : ℕ) → BeginSays o (n.first + a.require) (begin.Again i j) → None ≡ begins s n.slot t
@@ -172,10 +168,6 @@ module _ {o : Option State} {n : NodeAt} {known : Known} {s : State} (told : Fit
       let few = leb-true k last_serial both.1 in
       (is, ne_eqb serial last_serial (λ e. omega (arith, is, few, e)))
 
-  linked_not_missing : (linked spent : Bool) → linked ≡ true → spent ≡ false → (not linked || spent) ≡ false
-  linked_not_missing true spent h g = g
-  linked_not_missing false spent h g = absurd (both_ways false refl h)
-
   pub begins_begun : (a : Request) (t : NodeState) (k : ℕ) (u : Option State) → moves.wants t ≡ Some a → Leads n.slot o (Begin (n.first + a.require) k a.value ∷ []) u
       → Some (Begin (n.first + a.require) k a.value) ≡ begins s n.slot t
   begins_begun a t k u wanted led =
@@ -184,7 +176,7 @@ module _ {o : Option State} {n : NodeAt} {known : Known} {s : State} (told : Fit
       let serial = fresh_serial k (exchange s p).serial l.next_serial in
       let there : (is_idle (exchange s p).phase && is_open s.config p && not (is_missing s p)) ≡ true =
       and_from (is_idle (exchange s p).phase && is_open s.config p) (not (is_missing s p)) (and_from (is_idle (exchange s p).phase) (is_open s.config p) l.idle l.opened)
-      (ap not (linked_not_missing (is_linked s.config p) ((exchange s p).serial == last_serial) l.linked serial.1)) in
+      (ap not (or_from (not (is_linked s.config p)) ((exchange s p).serial == last_serial) (not_from_true (is_linked s.config p) l.linked) serial.1)) in
       ap (λ j. Some (Begin p j a.value)) serial.0
       ∙ ap (λ b. cond b (Some (Begin p ((exchange s p).serial + 1) a.value)) None) (sym there)
       ∙ sym (begins_if a t wanted)
@@ -201,7 +193,7 @@ module _ {o : Option State} {n : NodeAt} {known : Known} {s : State} (told : Fit
       let l = (stepped n.slot s o u (Call p k v) told.told led).0 in
       let serial = fresh_serial k (exchange s p).serial l.next_serial in
       ap (λ j. Some (Call p j v)) serial.0
-      ∙ ap (λ b. cond b (Some (Miss p)) (Some (Call p ((exchange s p).serial + 1) v))) (sym (linked_not_missing (is_linked s.config p) ((exchange s p).serial == last_serial) l.linked serial.1))
+      ∙ ap (λ b. cond b (Some (Miss p)) (Some (Call p ((exchange s p).serial + 1) v))) (sym (or_from (not (is_linked s.config p)) ((exchange s p).serial == last_serial) (not_from_true (is_linked s.config p) l.linked) serial.1))
       ∙ ap (λ b. cond (not b) None (cond (is_missing s p) (Some (Miss p)) (Some (Call p ((exchange s p).serial + 1) v)))) (sym l.idle)
 
   pub gives_next : (p k v : ℕ) (u : Option State) → Leads n.slot o (Give p k v ∷ []) u → Some (Give p k v) ≡ does_next s n.first p (next.Give v)

@@ -2,8 +2,9 @@
 use Rattle.std.proofs.Common.{◌≡◌, ◌∙◌, ℕ, ◌+◌, ◌-◌, ◌<◌, ◌≤◌, ◌^◌, Bool, true, false, cond, List, length, Option, Some, None, refl, sym, ap, subst, arith}
 use Rattle.std.specs.Prelude.{◌==◌, nat_lt, is_none, option_and_then, slice_index_or}
 use Rattle.std.specs.Option.{option_map_or}
-use Rattle.std.proofs.lemmas.Bool.{and_from, eq-eqb, lt-ltb}
+use Rattle.std.proofs.lemmas.Bool.{and_from, lt-ltb}
 use Rattle.std.proofs.lemmas.Option.{none-some, same_Some}
+use Rattle.base.proofs.NumberLaws.{same_number}
 use Rattle.config_graph.specs.Kinds.{calls_of, depends_on, mores_of, row}
 use Rattle.config_graph.proofs.KindLaws.{few_calls, few_mores}
 use Rattle.component_trait.proofs.BoundLaws.{asks_are_few, mores_are_few}
@@ -29,9 +30,6 @@ use Rattle.node_host.specs.Hosted.{IsHosted, SeatSeen, node_of}
 use Rattle.node_host.specs.Lines.{LineNode}
 use Rattle.node_host.specs.Awaiting.{awaits}
 use Rattle.node_host.proofs.InService.{calls_ended, in_service, no_call}
-
-same_number : (n : ℕ) → (n == n) ≡ true
-same_number n = eq-eqb n n refl
 
 where_it_is : (b : Bool) (x y : NodeState) → b ≡ true → x ≡ y → where_so b x ≡ Some y
 where_it_is b x y is same = ap (λ c. where_so c x) is ∙ ap Some same

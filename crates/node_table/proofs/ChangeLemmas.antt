@@ -15,14 +15,13 @@ use Rattle.quiesce_core.specs.declared.event.Event.{Event}
 use Rattle.quiesce_core.specs.declared.event.Event.TheVariants.{Make}
 use Rattle.quiesce_core.specs.declared.state.Slot.{Slot}
 use Rattle.quiesce_core.proofs.InductionLaws.{IsNext}
-use Rattle.quiesce_core.proofs.RunLaws.{changes_are_of_no_node, node_events_keep_the_configuration, runs_grow}
+use Rattle.quiesce_core.proofs.RunLaws.{changes_are_of_no_node, done_by_own, node_events_keep_the_configuration, runs_grow}
 use Rattle.node_gate.specs.Core.{FitsCore}
 use Rattle.node_table.specs.Entries.{SlotEntry, Predecessor, NodeSeen, gone, here, line_of}
 use Rattle.node_table.specs.Holding.{HoldsIn, IsGone, IsHere}
 use Rattle.node_table.specs.Lines.{IsPast}
 use Rattle.node_table.specs.declared.handed.Handed.{Handed}
 use Rattle.node_table.proofs.Keeping.{config_then, here_then, next_of, past_then, state_then, still_there}
-use Rattle.node_table.proofs.Slots.{log_more}
 
 pub step_there : (s t : State) (es : List Event) (e : Event) → s ≡ state_after es → Step s e t → Step (state_after es) e t
 step_there s t es e is step = subst (λ (u : State). Step u e t) is step
@@ -254,7 +253,7 @@ module _ (s t : State) (nodes : List SlotEntry) (ends : List ℕ) (es : List Eve
         first = m.first_kept ∙ old.first;
         kind = m.kind_kept ∙ old.kind;
         arg = m.arg_kept ∙ old.arg;
-        log = m.logged ∙ ap (λ l. l ++ e ∷ []) old.log ∙ sym (log_more n es e own);
+        log = m.logged ∙ ap (λ l. l ++ e ∷ []) old.log ∙ sym (done_by_own n es e own);
         past = subst (λ p. IsPast (es ++ e ∷ []) n p) (sym m.past_kept) (past_then es e next n x.past old.past);
         fits = λ live. fits';
         rests = λ gone. absurd (both_ways (is_live (state_after (es ++ e ∷ [])).config n) (map_or_at (λ (y : Slot). y.live) (slot (state_after (es ++ e ∷ [])).config n) false old.made there ∙ gone) fits'.live);

@@ -1,19 +1,16 @@
 -- What a table keeps of its nodes goes on holding through an event that these nodes don't do.
-use Rattle.std.proofs.Common.{◌≡◌, ◌∙◌, ℕ, Bool, true, false, not, ◌&&◌, ◌||◌, List, [], ◌∷◌, ◌++◌, length, Option, Some, None, refl, ap, sym, subst, ⊎_elim, arith}
-use Rattle.std.specs.Prelude.{is_none}
+use Rattle.std.proofs.Common.{◌≡◌, ◌∙◌, ℕ, Bool, true, false, List, [], ◌∷◌, ◌++◌, length, Option, Some, None, refl, ap, sym, subst, ⊎_elim, arith}
 use Rattle.std.specs.Option.{option_map_or}
-use Rattle.std.specs.List.{list_all, range_with_len}
-use Rattle.std.proofs.lemmas.Bool.{and_parts, both_ways, cases_eq, ne_eqb}
+use Rattle.std.proofs.lemmas.Bool.{both_ways, cases_eq, ne_eqb}
 use Rattle.std.proofs.lemmas.Option.{same_Some, slice_get_within}
-use Rattle.base.proofs.OptionLaws.{None-from_is_none, map_or_at}
+use Rattle.base.proofs.OptionLaws.{map_or_at}
 use Rattle.config_graph.specs.declared.node.Node.{Node}
 use Rattle.quiesce_core.specs.Alters.{Reconfigures}
 use Rattle.quiesce_core.specs.Knowledge.{KnowsService}
 use Rattle.quiesce_core.specs.Legal.{Legal}
-use Rattle.quiesce_core.specs.Reach.{reaches}
-use Rattle.quiesce_core.specs.Rules.{is_quiet, is_settled}
+use Rattle.quiesce_core.specs.Rules.{is_settled}
 use Rattle.quiesce_core.specs.Runs.{IsRun, Step, done_by, is_doer, state_after}
-use Rattle.quiesce_core.specs.State.{Configuration, State, is_live, ports_of, service, slot}
+use Rattle.quiesce_core.specs.State.{Configuration, State, is_live, service, slot}
 use Rattle.quiesce_core.specs.declared.event.Event.{Event}
 use Rattle.quiesce_core.specs.declared.event.Event.TheVariants.{Make, Remove}
 use Rattle.quiesce_core.specs.declared.known.Served.{Served}
@@ -22,15 +19,17 @@ use Rattle.quiesce_core.specs.declared.state.Slot.{Slot}
 use Rattle.quiesce_core.proofs.AlterLaws.{reconfigured}
 use Rattle.quiesce_core.proofs.InductionLaws.{IsNext}
 use Rattle.quiesce_core.proofs.LegalLaws.{allowed, legal}
-use Rattle.quiesce_core.proofs.RunLaws.{runs_are_consistent, runs_are_well_formed, state_more}
+use Rattle.quiesce_core.proofs.RunLaws.{done_by_other, runs_are_consistent, runs_are_well_formed, state_more}
+use Rattle.quiesce_core.proofs.SettledLaws.{settled_serves_nothing}
 use Rattle.quiesce_core.proofs.SourceLaws.{sources_are_gone}
+use Rattle.quiesce_laws.proofs.DoerLaws.{gone_does_nothing}
 use Rattle.component_trait.specs.Making.{argument_or_0}
 use Rattle.node_gate.specs.Core.{FitsCore}
 use Rattle.node_gate.proofs.SeatLaws.{seats_stay}
 use Rattle.node_table.specs.Entries.{Predecessor, NodeSeen}
 use Rattle.node_table.specs.Holding.{IsHere}
 use Rattle.node_table.specs.Lines.{IsPast, behind, first_of_line, predecessor}
-use Rattle.node_table.proofs.Slots.{IsStill, gone_does_nothing, log_same, slot_then}
+use Rattle.node_table.proofs.Slots.{IsStill, slot_then}
 
 -- an event that is a step from where a run led
 pub next_of : (es : List Event) (e : Event) (t : State) → IsRun es → Step (state_after es) e t → IsNext es e
@@ -75,7 +74,7 @@ past_then es e next _ _ (behind n k m old ms at from low was rest) =
     let source = (sources_are_gone es next.run).gone n k m at from in
     let same : source.old ≡ old = same_Some source.old old (sym source.there ∙ was) in
     let gone : old.live ≡ false = ap (λ (x : Slot). x.live) (sym same) ∙ source.removed in
-    let log = log_same k es e (gone_does_nothing (state_after es) e k next.well next.legal (not_live (state_after es).config k old was gone)) in
+    let log = done_by_other k es e (gone_does_nothing (state_after es) e k next.well next.legal (not_live (state_after es).config k old was gone)) in
     subst (λ x. IsPast (es ++ e ∷ []) n (ms ++ x ∷ [])) (sym (same_member es e k old new_old.0 new_old.2 log))
     (behind n k new.0 new_old.0 ms new.1 (new.2.from ∙ from) low new_old.1 (past_then es e next k ms rest))
 
@@ -94,11 +93,6 @@ removed_by s (Make k node from) t l r n m new at live now gone =
     absurd (both_ways new.live gone (ap (λ (x : Slot). x.live) (sym is) ∙ live))
 removed_by s _ t l r n m new at live now gone =
     absurd (both_ways new.live gone (ap (λ (x : Slot). x.live) (sym (same_Some m new (sym at ∙ sym (r.slots n) ∙ now))) ∙ live))
-
-settled_serves_nothing : (s : State) (n : ℕ) → is_settled s n ≡ true → service s n ≡ None
-settled_serves_nothing s n h =
-    let far = and_parts (is_live s.config n && list_all (λ p. is_quiet s p) (ports_of s.config n) && is_none (service s n)) (list_all (λ p. is_quiet s p || not (reaches s.config n p)) (range_with_len 0 (length s.config.gates))) h in
-    None-from_is_none (service s n) (and_parts (is_live s.config n && list_all (λ p. is_quiet s p) (ports_of s.config n)) (is_none (service s n)) far.0).1
 
 knows_none : (s : State) (o : Option Service) (w : Option Served) → KnowsService s o w → o ≡ None → w ≡ None
 knows_none s None None h is = refl
@@ -145,7 +139,7 @@ module _ (es : List Event) (e : Event) (next : IsNext es e) (n : ℕ) (x : NodeS
     first = h.first ∙ sym here_new.2.first;
     kind = h.kind ∙ sym (ap (λ (m : Node). m.kind) here_new.2.node);
     arg = h.arg ∙ sym (same_argument h.made here_new.0 here_new.2);
-    log = h.log ∙ sym (log_same n es e other);
+    log = h.log ∙ sym (done_by_other n es e other);
     past = past_then es e next n x.past h.past;
     fits = fits_then;
     rests = rests_then;

@@ -9,12 +9,14 @@ use Rattle.base.proofs.PlaceLaws.{slice_get-below, slice_get-front, slice_get-la
 use Rattle.config_graph.specs.declared.node.Node.{Node}
 use Rattle.quiesce_core.specs.Knowledge.{nothing_known}
 use Rattle.quiesce_core.specs.Runs.{Step, done_by, state_after}
-use Rattle.quiesce_core.specs.State.{Configuration, State, slot}
+use Rattle.quiesce_core.specs.State.{State, slot}
 use Rattle.quiesce_core.specs.declared.event.Event.{Event}
 use Rattle.quiesce_core.specs.declared.event.Event.TheVariants.{Make}
 use Rattle.quiesce_core.specs.declared.known.Known.{Known}
 use Rattle.quiesce_core.specs.declared.state.Slot.{Slot}
 use Rattle.quiesce_core.proofs.InductionLaws.{IsNext}
+use Rattle.quiesce_core.proofs.RunLaws.{done_by_other}
+use Rattle.quiesce_core.proofs.SourceLaws.{new_slot}
 use Rattle.component_trait.specs.Making.{argument_or_0}
 use Rattle.node_gate.specs.Core.{FitsCore}
 use Rattle.node_gate.proofs.SeatLaws.{new_seats_fit}
@@ -24,7 +26,7 @@ use Rattle.node_table.specs.Lines.{IsPast, behind, first_of_line, predecessor}
 use Rattle.node_table.specs.declared.handed.Handed.{Handed}
 use Rattle.node_table.proofs.ChangeLemmas.{gone_then, here_same, run_then, step_there}
 use Rattle.node_table.proofs.Keeping.{config_then, here_then, next_of, state_then}
-use Rattle.node_table.proofs.Slots.{log_same, unmade_are_idle}
+use Rattle.node_table.proofs.Slots.{unmade_are_idle}
 
 -- what is seen of a node that was just made in slot n
 pub record IsFresh (s : State) (n : ℕ) (node : Node) (x : NodeSeen) : Type 0 where
@@ -36,10 +38,7 @@ pub record IsFresh (s : State) (n : ℕ) (node : Node) (x : NodeSeen) : Type 0 w
   pub known : x.known ≡ nothing_known
   pub log : x.log ≡ []
 
-abbrev fresh_slot : Configuration → Node → Option ℕ → Slot
-fresh_slot c node from = record { node = node; first_port = length c.gates; from = from; live = true }
-
-inside_here : (x y : NodeSeen) → here x ≡ here y → x ≡ y
+pub inside_here : (x y : NodeSeen) → here x ≡ here y → x ≡ y
 inside_here x y h = cc
 
 inside_gone : (x y : Handed) → gone x ≡ gone y → x ≡ y
@@ -60,7 +59,7 @@ module _ (s t : State) (nodes : List SlotEntry) (ends : List ℕ) (es : List Eve
   es' = es ++ e ∷ []
 
   abbrev fresh : Slot
-  fresh = fresh_slot (state_after es).config node from
+  fresh = new_slot (state_after es).config node from
 
   step : Step (state_after es) e t
   step = step_there s t es e h.state st
@@ -72,7 +71,7 @@ module _ (s t : State) (nodes : List SlotEntry) (ends : List ℕ) (es : List Eve
   there = (config_then es e next).slots n ∙ rw (eq-eqb n n refl) refl
 
   idle : done_by n es' ≡ []
-  idle = log_same n es e refl ∙ unmade_are_idle es h.runs n (omega arith)
+  idle = done_by_other n es e refl ∙ unmade_are_idle es h.runs n (omega arith)
 
   made_here : IsPast es' n x.past → IsHere es' n x
   made_here past =
@@ -159,7 +158,7 @@ holds_made_first s t nodes ends es node h st x f none_before =
     let line : line_of x ≡ k = ap (λ p. option_map_or (λ (m : Predecessor). m.slot) (slice_get p 0) x.slot) none_before ∙ f.place in
     let apart : (i j : ℕ) → slice_get ends i ≡ Some j → i ≢ k = λ i j at same. (let below = slice_get-below ends i j at in omega (arith, below, count, same)) in
     made_holds s t nodes ends es node None h st x f nodes k refl line (omega arith)
-    (subst (λ p. IsPast (es ++ Make k node None ∷ []) k p) (sym none_before) (first_of_line k (fresh_slot (state_after es).config node None) (there s t nodes ends es node None h st x f) refl))
+    (subst (λ p. IsPast (es ++ Make k node None ∷ []) k p) (sym none_before) (first_of_line k (new_slot (state_after es).config node None) (there s t nodes ends es node None h st x f) refl))
     (λ j y at. (at, apart (line_of y) j (h.line_ends j y at)))
     (λ j y at.
     let g = gone_then es (Make k node None) later nodes ends j y (h.nodes_gone j y at) in
@@ -251,7 +250,7 @@ holds_made_from s t nodes ends es node k h st old x at_k f past_is g line_is pla
     past_then_ : IsPast (es ++ Make n' node (Some k) ∷ []) n' x.past
     past_then_ =
         subst (λ p. IsPast (es ++ Make n' node (Some k) ∷ []) n' p) (sym (past_is ∙ ap (λ m. old.past ++ m ∷ []) member_is))
-        (behind n' k (fresh_slot (state_after es).config node (Some k)) still_k.made old.past (there s t nodes ends es node (Some k) h st x f) refl below_n still_k.there still_k.past)
+        (behind n' k (new_slot (state_after es).config node (Some k)) still_k.made old.past (there s t nodes ends es node (Some k) h st x f) refl below_n still_k.there still_k.past)
 
     one_end : (i j : ℕ) → slice_get ends i ≡ Some j → i ≡ l → j ≡ k
     one_end i j at same = same_Some j k (sym (subst (λ z. slice_get ends z ≡ Some j) same at) ∙ end_k)
@@ -274,7 +273,7 @@ holds_made_from s t nodes ends es node k h st old x at_k f past_is g line_is pla
     gone_k y is = subst (λ z. IsGone (es ++ Make n' node (Some k) ∷ []) (mid ++ here x ∷ []) ends' k z) is
         (record {
           heir = n';
-          taker = fresh_slot (state_after es).config node (Some k);
+          taker = new_slot (state_after es).config node (Some k);
           there = there s t nodes ends es node (Some k) h st x f;
           from = refl;
           at = n';

@@ -1,8 +1,8 @@
 -- A node is made in a table.
-use Rattle.std.proofs.Common.{◌≡◌, ◌∙◌, ◌⊎◌, ℕ, ◌+◌, ◌^◌, ◌<◌, ◌≤◌, Bool, true, false, not, ◌&&◌, cond, List, [], ◌∷◌, ◌++◌, length, map, set, Option, Some, None, refl, ap, sym, subst, ⊎_elim, inl, inr, arith, length-append}
-use Rattle.std.specs.Prelude.{slice_get, is_some, is_none, option_map, nat_le, nat_lt, ◌==◌, find, IfSome}
+use Rattle.std.proofs.Common.{◌≡◌, ◌∙◌, ◌⊎◌, ℕ, ◌+◌, ◌<◌, ◌≤◌, true, false, not, ◌&&◌, List, [], ◌∷◌, ◌++◌, length, map, set, Option, Some, None, refl, ap, sym, subst, ⊎_elim, inl, inr, arith, length-append}
+use Rattle.std.specs.Prelude.{slice_get, is_some, option_map, nat_le, nat_lt, ◌==◌, find}
 use Rattle.std.specs.Option.{option_map_or}
-use Rattle.std.proofs.lemmas.Bool.{and_parts, eq-eqb, eqb-true, false≢true, leb-true, ltb-true, not-true}
+use Rattle.std.proofs.lemmas.Bool.{and_parts, both_ways, eq-eqb, eqb-true, leb-true, ltb-true, not-true}
 use Rattle.std.proofs.lemmas.List.{length-map, length-set}
 use Rattle.std.proofs.lemmas.Option.{same_Some}
 use Rattle.base.proofs.OptionLaws.{map_or_at, map_or_true}
@@ -15,11 +15,12 @@ use Rattle.config_graph.specs.declared.node.Node.{Node}
 use Rattle.component_trait.specs.Making.{handed_over, new_node, argument_or_0}
 use Rattle.component_trait.specs.States.{NodeState, at_rest}
 use Rattle.quiesce_core.specs.Legal.{CanMake}
-use Rattle.quiesce_core.specs.Rules.{denial, has_its_argument, is_kind, is_path_taken, is_value, was_moved}
+use Rattle.quiesce_core.specs.Rules.{denial, has_its_argument, is_kind, is_path_taken, was_moved}
 use Rattle.quiesce_core.specs.Runs.{Step, state_after}
 use Rattle.quiesce_core.specs.State.{Configuration, State, slot}
 use Rattle.quiesce_core.specs.declared.event.Event.TheVariants.{Make}
 use Rattle.quiesce_core.specs.declared.state.Slot.{Slot}
+use Rattle.quiesce_core.proofs.ArgumentLaws.{argument_fits}
 use Rattle.quiesce_core.proofs.LegalLaws.{legal}
 use Rattle.node_gate.specs.Seats.{IsWithinLimits}
 use Rattle.state_handover.specs.Making.{FitsKind}
@@ -33,7 +34,7 @@ use Rattle.node_table.specs.declared.handed.Handed.{Handed}
 use Rattle.node_table.specs.declared.held.Held.{Held}
 use Rattle.node_table.specs.declared.held.Held.TheVariants as held
 use Rattle.node_table.proofs.LineLemmas.{map_snoc}
-use Rattle.node_table.proofs.MakeLemmas.{IsFresh, holds_made_first, holds_made_from}
+use Rattle.node_table.proofs.MakeLemmas.{IsFresh, holds_made_first, holds_made_from, inside_here}
 use Rattle.node_table.proofs.Showing.{shows_made, shows_same}
 use Rattle.node_table.proofs.TurnTable.{map_set}
 
@@ -53,17 +54,11 @@ make_limits s node from k is may =
     subst (λ j. IsWithinLimits (record { slot = length s.config.slots; kind = j; first = length s.config.gates })) is
     (record { slot_within = ltb-true (length s.config.slots) MAX_NODES next.1; ports_within = leb-true (length s.config.gates + length (row node.kind).requires_) MAX_PORTS room.1 })
 
-fits_by : (has : Bool) (arg : Option ℕ) → cond has (option_map_or is_value arg false) (is_none arg) ≡ true → (is_some arg ≡ has) × IfSome arg (λ a. a < 2 ^ 24)
-fits_by true None h = absurd (false≢true h)
-fits_by true (Some a) h = (refl, ltb-true a (2 ^ 24) h)
-fits_by false None h = (refl, tt)
-fits_by false (Some a) h = absurd (false≢true h)
-
 pub make_fits : (s : State) (n : ℕ) (node : Node) (from : Option ℕ) (k : Kind) → node.kind ≡ k → denial s (Make n node from) ≡ None → FitsKind k node.arg
 make_fits s n node from k is may =
     let l = can_make s n node from may in
     let own = (and_parts (not (is_path_taken s.config node.path)) (has_its_argument node) l.new_path).1 in
-    let f = fits_by (is_some (row node.kind).arg) node.arg own in
+    let f = argument_fits (is_some (row node.kind).arg) node.arg own in
     subst (λ j. FitsKind j node.arg) is (record { there = f.0; small = f.1 })
 
 -- the source of a make was removed, and is of its kind
@@ -102,9 +97,6 @@ source_of s n node k may =
     record { old = found.0; there = found.1; removed = not-true found.0.live both.0; kind_is = same_kind found.0.node.kind node.kind both.1 }
 
 -- ---- what is shown then
-
-inside_here : (x y : NodeSeen) → here x ≡ here y → x ≡ y
-inside_here x y h = cc
 
 there_or_last : (nodes : List SlotEntry) (x : NodeSeen) (n : ℕ) → length nodes ≡ n → (j : ℕ) (y : NodeSeen) → slice_get (nodes ++ here x ∷ []) j ≡ Some (here y) → (slice_get nodes j ≡ Some (here y)) ⊎ ((j ≡ n) × (x ≡ y))
 there_or_last nodes x n count j y at = ⊎_elim
@@ -193,12 +185,8 @@ module _ (S : AnyNode → NodeState) (s : State) (xs : List Held) (ends : List �
       by (held.Handed y) at =
           let g = h.holds.nodes_gone k y (slice_get-map_at (seen S) xs k (held.Handed y) at) in
           let moves = (and_parts (option_map_or (λ (m : Slot). not m.live && is_kind m.node.kind node.kind) (slot s.config k) false) (not (was_moved s.config k)) (can_make s n node (Some k) may).moves).1 in
-          absurd (not_both_ways (was_moved s.config k)
-          (any_at (λ (m : Slot). option_map_or (λ i. i == k) m.from false) s.config.slots g.heir g.taker (ap (λ (u : State). slot u.config g.heir) h.holds.state ∙ g.there) (map_or_at (λ i. i == k) g.taker.from false k g.from ∙ eq-eqb k k refl)) moves)
-        where
-          not_both_ways : (b : Bool) → b ≡ true → not b ≡ true → ⊥
-          not_both_ways true h k = false≢true k
-          not_both_ways false h k = false≢true h
+          absurd (both_ways (was_moved s.config k) (not-true (was_moved s.config k) moves)
+          (any_at (λ (m : Slot). option_map_or (λ i. i == k) m.from false) s.config.slots g.heir g.taker (ap (λ (u : State). slot u.config g.heir) h.holds.state ∙ g.there) (map_or_at (λ i. i == k) g.taker.from false k g.from ∙ eq-eqb k k refl)))
 
   module _ (old : Held) (y : NodeSeen) (at : slice_get xs k ≡ Some old) (is : seen S old ≡ here y) where
     old_here : IsHere w.events k y

@@ -1,25 +1,20 @@
--- What was made in a slot stays there, and only live nodes do events.
-use Rattle.std.proofs.Common.{◌≡◌, ◌∙◌, ℕ, ◌≤◌, Bool, true, false, cond, List, [], ◌∷◌, ◌++◌, length, Some, refl, ap, subst, ⊎_elim, arith}
-use Rattle.std.specs.Prelude.{nat_lt, ◌==◌, option_map}
-use Rattle.std.proofs.lemmas.Bool.{and_parts, both_ways, cases_eq, eq-eqb, eqb-true, ne_eqb}
-use Rattle.std.proofs.lemmas.List.{append-nil}
+-- What was made in a slot stays there, and what was not made yet has done nothing.
+use Rattle.std.proofs.Common.{◌≡◌, ◌∙◌, ℕ, ◌≤◌, Bool, true, false, List, [], length, Some, refl, ap, subst, ⊎_elim, arith}
+use Rattle.std.specs.Prelude.{option_map}
+use Rattle.std.proofs.lemmas.Bool.{cases_eq, eq-eqb, ne_eqb}
 use Rattle.std.proofs.lemmas.Option.{slice_get_within}
-use Rattle.base.proofs.OptionLaws.{map_or_true, option_map_some}
-use Rattle.config_graph.specs.declared.node.Target.{Target}
 use Rattle.quiesce_core.specs.Alters.{Reconfigures}
 use Rattle.quiesce_core.specs.Effect.{effect}
-use Rattle.quiesce_core.specs.Legal.{Legal}
-use Rattle.quiesce_core.specs.Rules.{is_live_port}
-use Rattle.quiesce_core.specs.Runs.{IsRun, doer, done_by, is_doer, state_after}
-use Rattle.quiesce_core.specs.State.{Configuration, State, is_live, owner, slot, target}
-use Rattle.quiesce_core.specs.WellFormed.{IsSound, IsWellFormed}
+use Rattle.quiesce_core.specs.Runs.{IsRun, done_by, state_after}
+use Rattle.quiesce_core.specs.State.{Configuration, State, is_live, slot}
 use Rattle.quiesce_core.specs.declared.event.Event.{Event}
-use Rattle.quiesce_core.specs.declared.event.Event.TheVariants.{Begin, Call, Take, Give, End, More, Ask, Hear, Miss, Close, Reopen, Make, Link, Unlink, Remove}
+use Rattle.quiesce_core.specs.declared.event.Event.TheVariants.{Make, Remove}
 use Rattle.quiesce_core.specs.declared.state.Slot.{Slot}
 use Rattle.quiesce_core.proofs.AlterLaws.{reconfigured}
 use Rattle.quiesce_core.proofs.InductionLaws.{always}
-use Rattle.quiesce_core.proofs.RunLaws.{done_by_more}
+use Rattle.quiesce_core.proofs.RunLaws.{done_by_other}
 use Rattle.quiesce_core.proofs.TableLaws.{live_made}
+use Rattle.quiesce_laws.proofs.DoerLaws.{gone_does_nothing}
 
 -- it is what was made before, though it may have been removed since
 pub record IsStill (old new : Slot) : Type 0 where
@@ -43,57 +38,6 @@ slot_then c d (Remove k) r n m at = ⊎_elim
     (λ (other : n ≡ k → ⊥). (m, r.slots n ∙ rw (ne_eqb n k other) at, still m))
     (cases_eq n k)
 slot_then c d _ r n m at = (m, r.slots n ∙ at, still m)
-
--- ---- who does an event is live
-
-owner_live : (c : Configuration) (p n : ℕ) → is_live_port c p ≡ true → Some (owner c p) ≡ Some n → is_live c n ≡ true
-owner_live c p n live is =
-    subst (λ k. is_live c k ≡ true) (same_owner is) (and_parts (nat_lt p (length c.gates)) (is_live c (owner c p)) live).1
-  where
-    same_owner : Some (owner c p) ≡ Some n → owner c p ≡ n
-    same_owner h = cc
-
-target_live : (c : Configuration) (p n : ℕ) → IsSound c → option_map (λ (t : Target). t.node) (target c p) ≡ Some n → is_live c n ≡ true
-target_live c p n sound is =
-    let t = option_map_some (λ (t : Target). t.node) (target c p) n is in
-    subst (λ k. is_live c k ≡ true) t.2 (sound.targets p t.0 t.1).live
-
-pub doer_live : (s : State) (e : Event) (n : ℕ) → IsWellFormed s → Legal s e → doer s e ≡ Some n → is_live s.config n ≡ true
-doer_live s (Begin p k v) n wf l is = owner_live s.config p n l.live is
-doer_live s (Call p k v) n wf l is = owner_live s.config p n l.live is
-doer_live s (Miss p) n wf l is = owner_live s.config p n l.live is
-doer_live s (Ask p k v) n wf l is = owner_live s.config p n l.live is
-doer_live s (End p k v) n wf l is = owner_live s.config p n l.live is
-doer_live s (Take p k v) n wf l is = target_live s.config p n wf.sound is
-doer_live s (Give p k v) n wf l is = target_live s.config p n wf.sound is
-doer_live s (More p k v) n wf l is = target_live s.config p n wf.sound is
-doer_live s (Hear p k v) n wf l is = target_live s.config p n wf.sound is
-doer_live s (Close p) n wf l is = absurd (cc)
-doer_live s (Reopen p) n wf l is = absurd (cc)
-doer_live s (Make k node from) n wf l is = absurd (cc)
-doer_live s (Link p m x) n wf l is = absurd (cc)
-doer_live s (Unlink p) n wf l is = absurd (cc)
-doer_live s (Remove m) n wf l is = absurd (cc)
-
-is_doer_live : (s : State) (e : Event) (n : ℕ) → IsWellFormed s → Legal s e → is_doer s n e ≡ true → is_live s.config n ≡ true
-is_doer_live s e n wf l does =
-    let d = map_or_true (λ m. m == n) (doer s e) does in
-    doer_live s e n wf l (d.1 ∙ ap Some (eqb-true d.0 n d.2))
-
--- so a node that was removed, or not made yet, does nothing
-pub gone_does_nothing : (s : State) (e : Event) (n : ℕ) → IsWellFormed s → Legal s e → is_live s.config n ≡ false → is_doer s n e ≡ false
-gone_does_nothing s e n wf l gone =
-    by (is_doer s n e) refl
-  where
-    by : (b : Bool) → is_doer s n e ≡ b → is_doer s n e ≡ false
-    by false is = is
-    by true is = absurd (both_ways (is_live s.config n) gone (is_doer_live s e n wf l is))
-
-pub log_more : (n : ℕ) (es : List Event) (e : Event) → is_doer (state_after es) n e ≡ true → done_by n (es ++ e ∷ []) ≡ done_by n es ++ e ∷ []
-log_more n es e own = done_by_more n es e ∙ ap (λ b. done_by n es ++ cond b (e ∷ []) []) own
-
-pub log_same : (n : ℕ) (es : List Event) (e : Event) → is_doer (state_after es) n e ≡ false → done_by n (es ++ e ∷ []) ≡ done_by n es
-log_same n es e other = done_by_more n es e ∙ ap (λ b. done_by n es ++ cond b (e ∷ []) []) other ∙ append-nil (done_by n es)
 
 record AreIdle (es : List Event) : Type 0 where
   idle : (n : ℕ) → length (state_after es).config.slots ≤ n → done_by n es ≡ []
@@ -120,7 +64,7 @@ unmade_are_idle es run =
           let config = subst (λ (s : State). length s.config.slots ≤ n) here.next past in
           let old : length (state_after before).config.slots ≤ n =
           (let more_ = slots_grow (state_after before).config (effect (state_after before) e).config e (reconfigured (state_after before) e here.legal) in omega (arith, more_, config)) in
-          log_same n before e (gone_does_nothing (state_after before) e n here.well here.legal (not_made (state_after before).config n old)) ∙ so_far.idle n old;
+          done_by_other n before e (gone_does_nothing (state_after before) e n here.well here.legal (not_made (state_after before).config n old)) ∙ so_far.idle n old;
     })
     (record { idle = λ n past. refl }) es run in
     all.idle

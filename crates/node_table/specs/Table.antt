@@ -36,20 +36,20 @@ Shows t w = ShowsWorld component_state hints.tells t w
 
 -- In a world that the table shows no rule denies the event; and what showed a world shows it with the event. A node is
 -- made in the next slot.
-abbrev pub Allows : NodeTable → Event → Type 0
-Allows t e = (w : World) × Shows t w × (denial w.machine e ≡ None)
+abbrev pub MayShowNext : NodeTable → Event → Type 0
+MayShowNext t e = (w : World) × Shows t w × (denial w.machine e ≡ None)
 
-abbrev pub Follows : NodeTable → NodeTable → Event → Type 0
-Follows t t' e = (w : World) → Shows t w → Shows t' (with_event w e)
+abbrev pub ShowsNext : NodeTable → NodeTable → Event → Type 0
+ShowsNext t t' e = (w : World) → Shows t w → Shows t' (with_event w e)
 
-abbrev pub made_in : World → Node → Option ℕ → Event
-made_in w n from = Make (length w.machine.config.slots) n from
+abbrev pub make_next : World → Node → Option ℕ → Event
+make_next w n from = Make (length w.machine.config.slots) n from
 
-abbrev pub AllowsNode : NodeTable → Node → Option ℕ → Type 0
-AllowsNode t n from = (w : World) × Shows t w × (denial w.machine (made_in w n from) ≡ None)
+abbrev pub MayShowMade : NodeTable → Node → Option ℕ → Type 0
+MayShowMade t n from = (w : World) × Shows t w × (denial w.machine (make_next w n from) ≡ None)
 
-abbrev pub FollowsNode : NodeTable → NodeTable → Node → Option ℕ → Type 0
-FollowsNode t t' n from = (w : World) → Shows t w → Shows t' (with_event w (made_in w n from))
+abbrev pub ShowsMade : NodeTable → NodeTable → Node → Option ℕ → Type 0
+ShowsMade t t' n from = (w : World) → Shows t w → Shows t' (with_event w (make_next w n from))
 
 -- what each node made did, by slot
 abbrev pub logs : (AnyNode → NodeState) → NodeTable → List (List Event)

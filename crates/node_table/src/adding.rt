@@ -5,7 +5,7 @@ ghost use Rattle.quiesce_core.specs.declared.event.Event.TheVariants as event;
 ghost use Rattle.node_turn_laws.specs.World.{nowhere};
 ghost use Rattle.node_table.specs.Rooms.{has_past_room};
 ghost use Rattle.node_table.specs.Seen.{is_node, first_slot};
-ghost use Rattle.node_table.specs.Table.{AllowsNode, FollowsNode, TableHasRoom, Shows, sources, spare};
+ghost use Rattle.node_table.specs.Table.{MayShowMade, ShowsMade, TableHasRoom, Shows, sources, spare};
 ghost use Rattle.node_table.specs.declared.held.Held.TheVariants as held;
 
 use crate::handed::Handed;
@@ -90,9 +90,9 @@ impl NodeTable {
 
     /// Makes the first node of a line.
     fn make_first(&mut self, node: Node)
-        requires allowed { AllowsNode self.old node None }
+        requires allowed { MayShowMade self.old node None }
         requires room { 0 < spare self.old }
-        ensures shows { FollowsNode self.old self.new node None }
+        ensures shows { ShowsMade self.old self.new node None }
         ensures room { (spare self.new + 1 ≡ spare self.old) × (sources self.new ≡ sources self.old) }
     {
         let made = self.gate.core.made();
@@ -103,9 +103,9 @@ impl NodeTable {
 
     /// Makes a node that takes over the state of the one in a slot.
     fn make_from(&mut self, node: Node, source: u32)
-        requires allowed { AllowsNode self.old node (Some source) }
+        requires allowed { MayShowMade self.old node (Some source) }
         requires room { (0 < spare self.old) × (source < sources self.old) }
-        ensures shows { FollowsNode self.old self.new node (Some source) }
+        ensures shows { ShowsMade self.old self.new node (Some source) }
         ensures room { (spare self.new + 1 ≡ spare self.old) × (sources self.new ≡ sources self.old) }
     {
         let made = self.gate.core.made();
@@ -119,9 +119,9 @@ impl NodeTable {
     /// Makes a node in the next slot, which takes over the state of the one in slot `from` where there is one. It
     /// takes no memory.
     pub fn make(&mut self, node: Node, from: Option<u32>)
-        requires allowed { AllowsNode self.old node from }
+        requires allowed { MayShowMade self.old node from }
         requires room { TableHasRoom self.old from }
-        ensures shows { FollowsNode self.old self.new node from }
+        ensures shows { ShowsMade self.old self.new node from }
         ensures room { (spare self.new + 1 ≡ spare self.old) × (sources self.new ≡ sources self.old) }
     {
         match from {

@@ -3,7 +3,7 @@
 ghost use Rattle.std.specs.Prelude.{◌≡◌, true, false};
 ghost use Rattle.quiesce_core.specs.Doers.{is_make, is_of_change};
 ghost use Rattle.quiesce_core.specs.declared.event.Event.TheVariants as event;
-ghost use Rattle.node_table.specs.Table.{Allows, Follows, KeepsRoom};
+ghost use Rattle.node_table.specs.Table.{MayShowNext, ShowsNext, KeepsRoom};
 
 use crate::table::NodeTable;
 use quiesce_core::Event;
@@ -13,8 +13,8 @@ impl NodeTable {
     fn perform(&mut self, event: &Event)
         requires by_change { is_of_change event.now ≡ true }
         requires no_make { is_make event.now ≡ false }
-        requires allowed { Allows self.old event.now }
-        ensures shows { Follows self.old self.new event.now }
+        requires allowed { MayShowNext self.old event.now }
+        ensures shows { ShowsNext self.old self.new event.now }
         ensures room { KeepsRoom self.old self.new }
     {
         self.gate.core.perform(event);
@@ -22,24 +22,24 @@ impl NodeTable {
 
     /// Lets no node begin a transaction at the port any more.
     pub fn close(&mut self, port: u32)
-        requires allowed { Allows self.old (event.Close port) }
-        ensures shows { Follows self.old self.new (event.Close port) }
+        requires allowed { MayShowNext self.old (event.Close port) }
+        ensures shows { ShowsNext self.old self.new (event.Close port) }
         ensures room { KeepsRoom self.old self.new }
     {
         self.perform(&Event::Close { port });
     }
 
     pub fn reopen(&mut self, port: u32)
-        requires allowed { Allows self.old (event.Reopen port) }
-        ensures shows { Follows self.old self.new (event.Reopen port) }
+        requires allowed { MayShowNext self.old (event.Reopen port) }
+        ensures shows { ShowsNext self.old self.new (event.Reopen port) }
         ensures room { KeepsRoom self.old self.new }
     {
         self.perform(&Event::Reopen { port });
     }
 
     pub fn link(&mut self, port: u32, node: u32, provide: u32)
-        requires allowed { Allows self.old (event.Link port node provide) }
-        ensures shows { Follows self.old self.new (event.Link port node provide) }
+        requires allowed { MayShowNext self.old (event.Link port node provide) }
+        ensures shows { ShowsNext self.old self.new (event.Link port node provide) }
         ensures room { KeepsRoom self.old self.new }
     {
         self.perform(&Event::Link {
@@ -50,8 +50,8 @@ impl NodeTable {
     }
 
     pub fn unlink(&mut self, port: u32)
-        requires allowed { Allows self.old (event.Unlink port) }
-        ensures shows { Follows self.old self.new (event.Unlink port) }
+        requires allowed { MayShowNext self.old (event.Unlink port) }
+        ensures shows { ShowsNext self.old self.new (event.Unlink port) }
         ensures room { KeepsRoom self.old self.new }
     {
         self.perform(&Event::Unlink { port });
@@ -59,8 +59,8 @@ impl NodeTable {
 
     /// Removes a node. It is kept, with its log, and another may take its state over.
     pub fn remove(&mut self, slot: u32)
-        requires allowed { Allows self.old (event.Remove slot) }
-        ensures shows { Follows self.old self.new (event.Remove slot) }
+        requires allowed { MayShowNext self.old (event.Remove slot) }
+        ensures shows { ShowsNext self.old self.new (event.Remove slot) }
         ensures room { KeepsRoom self.old self.new }
     {
         self.perform(&Event::Remove { node: slot });

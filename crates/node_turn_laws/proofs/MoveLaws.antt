@@ -3,8 +3,9 @@ use Rattle.std.proofs.Common.{zero, suc, inl, inr, ◌⊎◌, ◌≡◌, ◌∙�
 use Rattle.std.specs.Prelude.{not, ◌==◌, ◌&&◌, ◌||◌, nat_lt, nat_le, find, option_map, option_and_then, is_none, is_some}
 use Rattle.std.specs.List.{list_all, range_with_len}
 use Rattle.std.specs.Option.{option_map_or}
-use Rattle.std.proofs.lemmas.Bool.{and_from, and_parts, both_ways, eq-eqb, eqb-false, eqb-true, le-leb, lt-ltb, not-true}
+use Rattle.std.proofs.lemmas.Bool.{and_from, and_parts, both_ways, eq-eqb, eqb-false, eqb-true, le-leb, lt-ltb, not-true, not_from_false}
 use Rattle.std.proofs.lemmas.Option.{none-some, same_Some}
+use Rattle.base.proofs.NumberLaws.{same_number}
 use Rattle.base.proofs.OptionLaws.{None-from_is_none, option_map_some, true_from_not, map_or_at, map_or_true}
 use Rattle.config_graph.specs.Kinds.{calls_of, depends_on, mores_of, row}
 use Rattle.config_graph.specs.declared.node.Target.{Target}
@@ -98,16 +99,9 @@ where_it_is : (b : Bool) (x : NodeState) → b ≡ true → where_so b x ≡ Som
 where_it_is true x h = refl
 where_it_is false x h = absurd (both_ways false refl h)
 
-same_number : (n : ℕ) → (n == n) ≡ true
-same_number n = eq-eqb n n refl
-
 right_of : (a b : Bool) → a ≡ false → (a || b) ≡ true → b ≡ true
 right_of true b e h = absurd (both_ways true e refl)
 right_of false b e h = h
-
-not_false : (b : Bool) → b ≡ false → not b ≡ true
-not_false true h = absurd (both_ways true h refl)
-not_false false h = refl
 
 -- neither unlinked nor spent
 found_not_missing : (to : Option Target) (spent : Bool) → (is_none to || spent) ≡ false → (is_some to ≡ true) × (spent ≡ false)
@@ -313,7 +307,7 @@ module _ (s : State) (n : ℕ) (m : Slot) (t : NodeState) (es : List Event) (at 
       by None e = e
       by (Some i) e =
           let busy = (at.consistent.consequent q i e).busy in
-          absurd (both_ways (awaits_call s n) still (of_any s.config n (is_call s) q o (and_from (not (is_idle (exchange s q).phase)) (is_some (exchange s q).within) (not_false (is_idle (exchange s q).phase) busy) (ap is_some e))))
+          absurd (both_ways (awaits_call s n) still (of_any s.config n (is_call s) q o (and_from (not (is_idle (exchange s q).phase)) (is_some (exchange s q).within) (not_from_false (is_idle (exchange s q).phase) busy) (ap is_some e))))
 
   no_call : awaits_call s n ≡ false → HasNoCall far
   no_call still p busy = by (far p).consequent refl

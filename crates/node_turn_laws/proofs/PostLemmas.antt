@@ -3,7 +3,7 @@ use Rattle.std.proofs.Common.{◌≡◌, ◌∙◌, ℕ, ◌+◌, ◌-◌, ◌<�
 use Rattle.std.specs.Prelude.{◌==◌, ◌&&◌, option_and_then, slice_get, slice_index_or}
 use Rattle.std.specs.List.{count_by}
 use Rattle.std.specs.Option.{option_map_or}
-use Rattle.std.proofs.lemmas.Bool.{cases_eq, eq-eqb, ne_eqb}
+use Rattle.std.proofs.lemmas.Bool.{and_right, cases_eq, eq-eqb, ne_eqb}
 use Rattle.std.proofs.lemmas.List.Sums.{sum_by-cons}
 use Rattle.std.proofs.lemmas.Option.{get_or_from_slice_get, none-some}
 use Rattle.base.proofs.MapLaws.{count_by-append}
@@ -139,7 +139,7 @@ module _ (w : World) (sound : IsSound w.machine.config) (n r p0 : ℕ) (at : IsP
         let one : ◌≡◌ {A = ℕ} (cond (m == k && p0 == p) 1 0) (cond (m == k) 1 0) = ap {B = ℕ} (λ b. cond b 1 0) both in
         omega (arith, count, one)))
         (λ (other : p ≡ p0 → ⊥). rw (ne_eqb p p0 other)
-        (let none_ : (m == k && p0 == p) ≡ false = there (m == k) (p0 == p) (ne_eqb p0 p (λ e. other (sym e))) in
+        (let none_ : (m == k && p0 == p) ≡ false = and_right (m == k) (p0 == p) (ne_eqb p0 p (λ e. other (sym e))) in
         let zero_ : ◌≡◌ {A = ℕ} (cond (m == k && p0 == p) 1 0) 0 = ap {B = ℕ} (λ b. cond b 1 0) none_ in
         omega (arith, zero_)))
         (cases_eq p p0)
@@ -147,10 +147,6 @@ module _ (w : World) (sound : IsSound w.machine.config) (n r p0 : ℕ) (at : IsP
         here : (a b : Bool) → b ≡ true → (a && b) ≡ a
         here true b e = e
         here false b e = refl
-
-        there : (a b : Bool) → b ≡ false → (a && b) ≡ false
-        there true b e = e
-        there false b e = refl
 
     -- the hint of port p0 is there for node m then, and those of other ports as before
     pub posted : (k p : ℕ) → hints_for (post w n r m) k p ≡ cond (p == p0) (count_of p0 (inbox w k) + cond (m == k) 1 0) (hints_for w k p)

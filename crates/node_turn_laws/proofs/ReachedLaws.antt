@@ -4,7 +4,7 @@ use Rattle.std.specs.Prelude.{◌==◌, ◌&&◌, is_some, is_none, option_map, 
 use Rattle.std.specs.Option.{option_map_or}
 use Rattle.std.specs.List.{enumerate_from}
 use Rattle.std.proofs.lemmas.Bool.{and_parts, both_ways, cases_eq, eq-eqb, eqb-true, ltb-true, ne_eqb}
-use Rattle.std.proofs.lemmas.List.{append-nil, get_or_append_left, length-append, length-set}
+use Rattle.std.proofs.lemmas.List.{get_or_append_left, length-append, length-set}
 use Rattle.std.proofs.lemmas.List.Sums.{fold_push}
 use Rattle.std.proofs.lemmas.Option.{none-some, same_Some}
 use Rattle.std.proofs.Math.Seq.{get_or-append_seam}
@@ -31,7 +31,7 @@ use Rattle.quiesce_core.proofs.CycleLaws.{made_below}
 use Rattle.base.proofs.OptionLaws.{map_or_at, map_or_true}
 use Rattle.quiesce_core.proofs.KnownLaws.{nodes_know_by_index}
 use Rattle.quiesce_core.proofs.LegalLaws.{allowed, legal}
-use Rattle.quiesce_core.proofs.RunLaws.{changes_are_of_no_node, done_by_more, node_events_keep_the_configuration, nodes_know, runs_are_consistent, runs_are_well_formed, runs_grow, state_more}
+use Rattle.quiesce_core.proofs.RunLaws.{changes_are_of_no_node, done_by_other, done_by_own, node_events_keep_the_configuration, nodes_know, runs_are_consistent, runs_are_well_formed, runs_grow, state_more}
 use Rattle.component_trait.specs.Making.{argument_or_0}
 use Rattle.node_turn_laws.proofs.TurnLaws.{posts_keep, turns_do}
 use Rattle.node_turn_laws.specs.Hints.{after_move, without_hints}
@@ -100,12 +100,6 @@ node_after s n m t es e at g =
       small = small_next m.first_port t g.next e at.small g.hands_small g.folds;
     }
 
-done_more_by : (n : ℕ) (es : List Event) (e : Event) → is_doer (state_after es) n e ≡ true → done_by n (es ++ e ∷ []) ≡ done_by n es ++ e ∷ []
-done_more_by n es e h = done_by_more n es e ∙ ap (λ b. done_by n es ++ cond b (e ∷ []) []) h
-
-done_same_by : (n : ℕ) (es : List Event) (e : Event) → is_doer (state_after es) n e ≡ false → done_by n (es ++ e ∷ []) ≡ done_by n es
-done_same_by n es e h = done_by_more n es e ∙ ap (λ b. done_by n es ++ cond b (e ∷ []) []) h ∙ append-nil (done_by n es)
-
 holds_after_node : (folds : List (Option NodeState)) (es : List Event) (n : ℕ) (m : Slot) (t : NodeState) (e : Event) → Holds folds es → slot (state_after es).config n ≡ Some m
     → (at : IsPlaced (state_after es) n m t (done_by n es)) → (g : GoesOn (state_after es) n m t (done_by n es) e) → Holds (set folds n (Some g.next)) (es ++ e ∷ [])
 holds_after_node folds es n m t e h there at g =
@@ -119,18 +113,18 @@ holds_after_node folds es n m t e h there at g =
       made = length-set folds n (Some g.next) ∙ h.made ∙ sym (ap (λ (c : Configuration). length c.slots) config);
       unmade = λ k past.
           let before : length s.config.slots ≤ k = subst (λ (c : Configuration). length c.slots ≤ k) config past in
-          done_same_by k es e (others k (λ same. absurd (omega (arith, same, before, within, h.made)))) ∙ h.unmade k before;
+          done_by_other k es e (others k (λ same. absurd (omega (arith, same, before, within, h.made)))) ∙ h.unmade k before;
       nodes = λ k mk made. ⊎_elim
           (λ (same : k ≡ n).
           let one : m ≡ mk = same_Some m mk (sym there ∙ sym (ap (slot s.config) same) ∙ sym (ap (λ (c : Configuration). slot c k) config) ∙ made) in
           subst (λ (x : Slot). NodeHolds x.first_port x.node.kind (slice_index_or (set folds n (Some g.next)) k None) (done_by k (es ++ e ∷ []))) one
           (subst (λ i. NodeHolds m.first_port m.node.kind (slice_index_or (set folds n (Some g.next)) i None) (done_by i (es ++ e ∷ []))) (sym same)
           (subst (λ o. NodeHolds m.first_port m.node.kind o (done_by n (es ++ e ∷ []))) (sym (get_or-set_same folds n (Some g.next) None within))
-          (subst (λ xs. NodeHolds m.first_port m.node.kind (Some g.next) xs) (sym (done_more_by n es e mine)) (node_after s n m t (done_by n es) e at g)))))
+          (subst (λ xs. NodeHolds m.first_port m.node.kind (Some g.next) xs) (sym (done_by_own n es e mine)) (node_after s n m t (done_by n es) e at g)))))
           (λ (ne : k ≡ n → ⊥).
           let old = h.nodes k mk (sym (ap (λ (c : Configuration). slot c k) config) ∙ made) in
           subst (λ o. NodeHolds mk.first_port mk.node.kind o (done_by k (es ++ e ∷ []))) (sym (get_or-set_other folds n k (Some g.next) None ne))
-          (subst (λ xs. NodeHolds mk.first_port mk.node.kind (slice_index_or folds k None) xs) (sym (done_same_by k es e (others k ne))) old))
+          (subst (λ xs. NodeHolds mk.first_port mk.node.kind (slice_index_or folds k None) xs) (sym (done_by_other k es e (others k ne))) old))
           (cases_eq k n);
     }
 
@@ -163,12 +157,12 @@ holds_after_change folds es e h change may count old =
     record {
       run = (runs_grow es e).1 (h.run, may);
       made = h.made ∙ sym count;
-      unmade = λ k past. done_same_by k es e (none_ k) ∙ h.unmade k (subst (λ l. l ≤ k) count past);
+      unmade = λ k past. done_by_other k es e (none_ k) ∙ h.unmade k (subst (λ l. l ≤ k) count past);
       nodes = λ k m there.
           let was = old k m there in
           subst (λ i. NodeHolds i m.node.kind (slice_index_or folds k None) (done_by k (es ++ e ∷ []))) was.port
           (subst (λ j. NodeHolds was.old.first_port j (slice_index_or folds k None) (done_by k (es ++ e ∷ []))) was.kind
-          (subst (λ xs. NodeHolds was.old.first_port was.old.node.kind (slice_index_or folds k None) xs) (sym (done_same_by k es e (none_ k))) (h.nodes k was.old was.was)));
+          (subst (λ xs. NodeHolds was.old.first_port was.old.node.kind (slice_index_or folds k None) xs) (sym (done_by_other k es e (none_ k))) (h.nodes k was.old was.was)));
     }
 
 argument_small : (b : Bool) (o : Option ℕ) → cond b (option_map_or is_value o false) (is_none o) ≡ true → option_map_or (λ (a : ℕ). a) o 0 < value_limit
@@ -210,7 +204,7 @@ holds_after_make w n node from h may =
     record {
       run = (runs_grow es e).1 (h.run, may);
       made = omega (arith, length-append w.folds (opened w node from ∷ []), h.made, count);
-      unmade = λ k past. done_same_by k es e refl ∙ h.unmade k (omega (arith, past, count));
+      unmade = λ k past. done_by_other k es e refl ∙ h.unmade k (omega (arith, past, count));
       nodes = λ k m there. by k m (k == length s.config.slots) refl (sym ((reconfigured s e l).slots k) ∙ sym (ap (λ (x : State). slot x.config k) (state_more es e)) ∙ there) l;
     }
   where
@@ -220,7 +214,7 @@ holds_after_make w n node from h may =
         → NodeHolds m.first_port m.node.kind (slice_index_or (w.folds ++ opened w node from ∷ []) k None) (done_by k (w.events ++ Make n node from ∷ []))
     by k m true e g l =
         let at : k ≡ length (state_after w.events).config.slots = eqb-true k (length (state_after w.events).config.slots) e in
-        let nothing_done : done_by k (w.events ++ Make n node from ∷ []) ≡ [] = done_same_by k w.events (Make n node from) refl ∙ h.unmade k (omega (arith, at)) in
+        let nothing_done : done_by k (w.events ++ Make n node from ∷ []) ≡ [] = done_by_other k w.events (Make n node from) refl ∙ h.unmade k (omega (arith, at)) in
         let new : slice_index_or (w.folds ++ opened w node from ∷ []) k None ≡ opened w node from =
         ap (λ i. slice_index_or (w.folds ++ opened w node from ∷ []) i None) (at ∙ sym h.made) ∙ get_or-append_seam w.folds (opened w node from) [] None in
         subst (λ (x : Slot). NodeHolds x.first_port x.node.kind (slice_index_or (w.folds ++ opened w node from ∷ []) k None) (done_by k (w.events ++ Make n node from ∷ [])))
@@ -231,7 +225,7 @@ holds_after_make w n node from h may =
     by k m false e g l =
         let within : k < length w.folds = omega (arith, h.made, made_below (state_after w.events).config k m g) in
         subst (λ o. NodeHolds m.first_port m.node.kind o (done_by k (w.events ++ Make n node from ∷ []))) (sym (get_or_append_left w.folds (opened w node from ∷ []) None k within))
-        (subst (λ xs. NodeHolds m.first_port m.node.kind (slice_index_or w.folds k None) xs) (sym (done_same_by k w.events (Make n node from) refl)) (h.nodes k m g))
+        (subst (λ xs. NodeHolds m.first_port m.node.kind (slice_index_or w.folds k None) xs) (sym (done_by_other k w.events (Make n node from) refl)) (h.nodes k m g))
 
 holds_as_altered : (folds : List (Option NodeState)) (es : List Event) (e : Event) → Holds folds es → is_of_change e ≡ true → denial (state_after es) e ≡ None
     → nodes_next (state_after es).config e ≡ length (state_after es).config.slots

@@ -2,7 +2,7 @@
 use Rattle.std.proofs.Common.{◌≡◌, ◌∙◌, ℕ, ◌+◌, Bool, true, false, cond, Option, Some, None, refl, sym, ap, ⊎_elim, not}
 use Rattle.std.specs.Prelude.{◌==◌, ◌&&◌, option_and_then, option_map}
 use Rattle.std.specs.Option.{option_map_or}
-use Rattle.std.proofs.lemmas.Bool.{both_ways, cases_eq, eq-eqb, eqb-true, false_from_ne_true, ne_eqb}
+use Rattle.std.proofs.lemmas.Bool.{and_right, both_ways, cases_eq, eq-eqb, eqb-true, false_from_ne_true, ne_eqb}
 use Rattle.base.proofs.OptionLaws.{None-from_is_none, Some-from_is_some}
 use Rattle.config_graph.specs.declared.node.Target.{Target}
 use Rattle.quiesce_word.proofs.PhaseLaws.{answered_not_asked, asked_busy}
@@ -78,15 +78,11 @@ services_of_others s e w l p served node =
 both : (st : State) (p : ℕ) (a b : Bool) → is_asked (exchange st p).phase ≡ a → is_taken st p ≡ b → waits st p ≡ (a && not b)
 both st p a b asked taken = λ i. asked i && not (taken i)
 
-and_false : (b : Bool) → (b && false) ≡ false
-and_false true = refl
-and_false false = refl
-
 pub unasked : (st : State) (p : ℕ) → is_asked (exchange st p).phase ≡ false → waits st p ≡ false
 unasked st p h = λ i. h i && not (is_taken st p)
 
 pub taken_already : (st : State) (p : ℕ) → is_taken st p ≡ true → waits st p ≡ false
-taken_already st p h = (λ i. is_asked (exchange st p).phase && not (h i)) ∙ and_false (is_asked (exchange st p).phase)
+taken_already st p h = (λ i. is_asked (exchange st p).phase && not (h i)) ∙ and_right (is_asked (exchange st p).phase) false refl
 
 pub idle_not_asked : (f : Phase) → is_idle f ≡ true → is_asked f ≡ false
 idle_not_asked f h = false_from_ne_true (is_asked f) (λ asked. both_ways (is_idle f) (asked_busy f asked) h)

@@ -18,6 +18,7 @@ pub mod Strength
 pub mod DrainingLaws
 pub mod TotalLaws
 pub mod LogLaws
+pub mod DoerLaws
 pub mod Busy
 pub mod Onward
 pub mod Weights

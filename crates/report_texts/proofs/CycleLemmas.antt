@@ -1,7 +1,7 @@
 -- The search for a way from a node back to it finds one exactly where there is one.
 use Rattle.std.proofs.Common.{◌≡◌, ◌+◌, ◌<◌, ◌≤◌, ◌↔◌, ℕ, zero, suc, Bool, true, false, not, inl, inr, length, get_or, refl, sym, ap, subst, arith, All}
 use Rattle.std.specs.Prelude.{nat_lt}
-use Rattle.std.proofs.lemmas.Bool.{cases_Bool, cond-true, cond-false, false≢true}
+use Rattle.std.proofs.lemmas.Bool.{cases_Bool, cond-true, cond-false, false≢true, both_ways, not-true}
 use Rattle.std.proofs.lemmas.Bool.Decides.{nat_tests}
 use Rattle.base.proofs.RangeLaws.{all_in_range, range_all}
 use Rattle.config_graph.specs.Cycles.{HasCycle, OnCycle, graph_wiring}
@@ -37,13 +37,9 @@ module _ (g : Graph) (within : All (IsLinkWithin g.nodes) g.links) (start : ℕ)
   found : (leads_back g start ≡ true) ↔ OnCycle g start
   found = searched (length g.nodes) 0 (see_all (successors g start) (nothing_seen g)) (search_begins g within start _ refl) (omega arith) start
 
-not_true : (b : Bool) → not b ≡ true → b ≡ true → ⊥
-not_true true n is = false≢true n
-not_true false n is = false≢true is
-
 pub acyclic : (g : Graph) → All (IsLinkWithin g.nodes) g.links → has_no_cycle g ≡ true → HasNoCycle (graph_wiring g)
 acyclic g within is =
-    no_cycle g (λ i low way. not_true (leads_back g i) (all_in_range (λ node. not (leads_back g node)) 0 (length g.nodes) i is (omega arith) (omega (arith, low))) ((found g within i).1 way))
+    no_cycle g (λ i low way. both_ways (leads_back g i) (not-true (leads_back g i) (all_in_range (λ node. not (leads_back g node)) 0 (length g.nodes) i is (omega arith) (omega (arith, low)))) ((found g within i).1 way))
 
 pub has_none : (g : Graph) → All (IsLinkWithin g.nodes) g.links → ((i : ℕ) → OnCycle g i → ⊥) → has_no_cycle g ≡ true
 has_none g within none = range_all (λ node. not (leads_back g node)) 0 (length g.nodes) (λ i low high. at i)
@@ -58,7 +54,7 @@ has_none g within none = range_all (λ node. not (leads_back g node)) 0 (length 
 has_some : (g : Graph) → All (IsLinkWithin g.nodes) g.links → (i : ℕ) → i < length g.nodes → OnCycle g i → has_no_cycle g ≡ false
 has_some g within i low way =
     elim (cases_Bool (has_no_cycle g)) [
-      | inl none ↦ absurd (not_true (leads_back g i) (all_in_range (λ node. not (leads_back g node)) 0 (length g.nodes) i none (omega arith) (omega (arith, low))) ((found g within i).1 way))
+      | inl none ↦ absurd (both_ways (leads_back g i) (not-true (leads_back g i) (all_in_range (λ node. not (leads_back g node)) 0 (length g.nodes) i none (omega arith) (omega (arith, low)))) ((found g within i).1 way))
       | inr some ↦ some
     ]
 

@@ -8,12 +8,12 @@ use Rattle.std.specs.Ordering.{is_lt, nat_cmp}
 use Rattle.std.specs.declared.cmp.Ordering.{Ordering}
 use Rattle.std.specs.declared.cmp.Ordering.TheVariants.{Less, Equal, Greater}
 use Rattle.std.proofs.Math.Seq.{drop-cons}
-use Rattle.std.proofs.lemmas.Bool.{and_from, and_parts, cases_Bool, cond-true, cond-false, false≢true}
+use Rattle.std.proofs.lemmas.Bool.{and_from, and_parts, cases_Bool, cond-true, cond-false, false≢true, not-true}
 use Rattle.std.proofs.lemmas.Bool.Decides.{nat_tests}
 use Rattle.std.proofs.lemmas.List.{append-nil}
 use Rattle.std.proofs.lemmas.List.Elements.{All-append, All-cons}
 use Rattle.std.proofs.lemmas.List.Kept.{AllPairs-cons}
-use Rattle.std.proofs.lemmas.Option.{get_or_from_slice_get, slice_get_within}
+use Rattle.std.proofs.lemmas.Option.{get_or_from_slice_get, same_Some, slice_get_within}
 use Rattle.base.proofs.BytesLaws.{same_bytes}
 use Rattle.base.proofs.MapLaws.{length-filter_map}
 use Rattle.config_graph.specs.Graph.{Graph, IsLinkWithin, OneLinkAPort, PathsRise, begins_at, graph_of, index_of, port_number, ports, provides_at, requires_at}
@@ -36,7 +36,7 @@ use Rattle.report_texts.specs.GraphTexts.{comes_before, drawn, fits_kind, graph_
 use Rattle.report_texts.specs.ReportTexts.{CanBeShown, IsWord}
 use Rattle.report_texts.specs.TextLines.{lines, onto_line}
 use Rattle.report_texts.proofs.CycleLemmas.{acyclic}
-use Rattle.report_texts.proofs.HistoryLemmas.{none_some, some_is}
+use Rattle.report_texts.proofs.HistoryLemmas.{none_some}
 
 -- ---- nodes
 
@@ -104,7 +104,7 @@ provided_at : (nodes : List Node) (i : ℕ) (t : Target) → provision_of nodes 
 provided_at nodes i t e =
     elim (cases_Bool (nat_lt 0 (provides_at nodes i))) [
       | inl some ↦
-          let is : record { node = i; provide = 0 } ≡ t = some_is (record { node = i; provide = 0 }) t (sym (cond-true _ _ _ some) ∙ e) in
+          let is : record { node = i; provide = 0 } ≡ t = same_Some (record { node = i; provide = 0 }) t (sym (cond-true _ _ _ some) ∙ e) in
           subst (λ (u : Target). u.provide < provides_at nodes u.node) is (low_test (provides_at nodes i) some)
       | inr none ↦ none_some t (sym (cond-false _ _ _ none) ∙ e)
     ]
@@ -209,15 +209,11 @@ word_is text is =
       no_byte 10 (λ byte. not (byte == 32) && not (byte == 10)) (λ b h. (and_parts (not (b == 32)) (not (b == 10)) h).1) text parts.1,
     )
 
-not_has : (has : Bool) → not has ≡ true → has ≡ false
-not_has false h = refl
-not_has true h = absurd (false≢true h)
-
 below_limit : (a : ℕ) → nat_lt a VALUE_LIMIT ≡ true → a < VALUE_LIMIT
 below_limit a is = grind (arith, nat_tests)
 
 argument_is : (has : Bool) (arg : Option ℕ) → fits_kind has arg ≡ true → (is_some arg ≡ has) × IfSome arg (λ a. a < VALUE_LIMIT)
-argument_is has None is = (sym (not_has has is), tt)
+argument_is has None is = (sym (not-true has is), tt)
 argument_is has (Some a) is = let parts = and_parts has (nat_lt a VALUE_LIMIT) is in (sym parts.0, below_limit a parts.1)
 
 sound_node : (n : Node) → is_sound_node n ≡ true → HasItsArgument n × IsWord n.path
@@ -241,7 +237,7 @@ shown_so shown graph e =
       | inr fails ↦ none_some graph (sym (cond-false _ _ _ fails) ∙ e)
       | inl holds ↦
           let g : Graph = drawn shown in
-          let is : g ≡ graph = some_is g graph (sym (cond-true _ _ _ holds) ∙ e) in
+          let is : g ≡ graph = same_Some g graph (sym (cond-true _ _ _ holds) ∙ e) in
           let first = and_parts (paths_rise g.nodes && list_all is_sound_node g.nodes && bytes_eq (graph_text g) (flat_map ended shown)) (has_no_cycle g) holds in
           let second = and_parts (paths_rise g.nodes && list_all is_sound_node g.nodes) (bytes_eq (graph_text g) (flat_map ended shown)) first.0 in
           let third = and_parts (paths_rise g.nodes) (list_all is_sound_node g.nodes) second.0 in

@@ -3,8 +3,9 @@ use Rattle.std.proofs.Common.{◌≡◌, ◌+◌, ◌&&◌, ℕ, Bool, true, fal
 use Rattle.std.specs.Prelude.{flat_map}
 use Rattle.std.specs.Option.{option_map_or}
 use Rattle.std.specs.List.{list_all}
-use Rattle.std.proofs.lemmas.Bool.{and_parts, cases_Bool, cond-true, cond-false, eq-eqb, eqb-true, false≢true}
+use Rattle.std.proofs.lemmas.Bool.{and_parts, cases_Bool, cond-true, cond-false, eq-eqb, eqb-true, false≢true, and_right, and_from}
 use Rattle.std.proofs.lemmas.List.{append-nil}
+use Rattle.std.proofs.lemmas.Option.{same_Some}
 use Rattle.base.specs.Each.{EachAfter}
 use Rattle.base.proofs.BytesLaws.{same_bytes}
 use Rattle.base.proofs.FindLaws.{find_passes}
@@ -74,10 +75,6 @@ no_show line says e =
       | inl is ↦ let none : None ≡ Some says = sym nothing_shown ∙ ap (λ l. line_in (words l)) (sym (same_bytes line (codes "show") is)) ∙ e in let never : ⊥ = cc in absurd never
       | inr other ↦ other
     ]
-
-and_no : (a b : Bool) → b ≡ false → (a && b) ≡ false
-and_no true b is = is
-and_no false b is = refl
 
 -- ---- what a line of its own can be
 
@@ -194,7 +191,7 @@ pub record Stops (line : List ℕ) : Type 0 where
 
 past_stops : (version : Version) (past : List HistoryLine) (above : LineAbove) (line : List ℕ) (more : List (List ℕ)) → Stops line → past_with version past above line more ≡ None
 past_stops version past above line more s =
-    cond-false _ _ _ (and_no (is_after_show above) _ s.graph) ∙ cond-false _ _ _ s.show
+    cond-false _ _ _ (and_right (is_after_show above) _ s.graph) ∙ cond-false _ _ _ s.show
     ∙ ap (λ o. option_map (with_line past) (keeping (λ says. line_keeps version says && stands (length (makes past)) above says) o)) s.says
 
 stop_here : (version : Version) (past : List HistoryLine) (above : LineAbove) (number : ℕ) (line : List ℕ) (more : List (List ℕ)) → Stops line
@@ -210,15 +207,12 @@ go_on version past above number line more next is =
 pub keep_true : {A : Type 0} (test : A → Bool) (a : A) → test a ≡ true → keeping test (Some a) ≡ Some a
 keep_true test a is = cond-true _ _ _ is
 
-and_yes : (a b : Bool) → a ≡ true → b ≡ true → (a && b) ≡ true
-and_yes a b p q = ap (λ x. x && b) p ∙ q
-
 past_says : (version : Version) (past : List HistoryLine) (above : LineAbove) (line : List ℕ) (more : List (List ℕ)) (says : HistoryLine) → line_in (words line) ≡ Some says
     → line_keeps version says ≡ true → stands (length (makes past)) above says ≡ true → past_with version past above line more ≡ Some (past ++ says ∷ [], line_above says)
 past_says version past above line more says is keeps there =
     let test : HistoryLine → Bool = λ s. line_keeps version s && stands (length (makes past)) above s in
-    cond-false _ _ _ (and_no (is_after_show above) _ (no_graph (words line) says is)) ∙ cond-false _ _ _ (no_show line says is)
-    ∙ ap (λ o. option_map (with_line past) (keeping test o)) is ∙ ap (option_map (with_line past)) (keep_true test says (and_yes _ _ keeps there))
+    cond-false _ _ _ (and_right (is_after_show above) _ (no_graph (words line) says is)) ∙ cond-false _ _ _ (no_show line says is)
+    ∙ ap (λ o. option_map (with_line past) (keeping test o)) is ∙ ap (option_map (with_line past)) (keep_true test says (and_from _ _ keeps there))
 
 -- lines of a graph stand for themselves once it was shown
 abbrev pub AllGraph : List (List ℕ) → Type 0
@@ -269,7 +263,7 @@ past_shows : (version : Version) (past : List HistoryLine) (above : LineAbove) (
     → is_graph_line (words line) ≡ false → past_with version past above (codes "show") (shown ++ line ∷ more) ≡ Some (past ++ history.Show graph ∷ [], aboves.Show)
 past_shows version past above graph shown line more all told other =
     let parted = graph_front shown line more all other in
-    cond-false _ _ _ (and_no (is_after_show above) _ refl) ∙ cond-false _ _ _ (ap no_parts parted.1)
+    cond-false _ _ _ (and_right (is_after_show above) _ refl) ∙ cond-false _ _ _ (ap no_parts parted.1)
     ∙ ap (λ ls. option_map (λ g. (past ++ history.Show g ∷ [], aboves.Show)) (graph_in ls)) parted.0 ∙ ap (option_map (λ g. (past ++ history.Show g ∷ [], aboves.Show))) told
 
 module _ (version : Version) (rest line : List ℕ) (more : List (List ℕ)) (rest_is : lines rest ≡ line ∷ more) (stops : Stops line) (tells : (graph : Graph) → CanBeShown graph → IsTold graph) where
@@ -347,9 +341,6 @@ data Fits (version : Version) (past : List HistoryLine) (above : LineAbove) (lin
   says : (says : HistoryLine) → line_in (words line) ≡ Some says → line_keeps version says ≡ true → stands (length (makes past)) above says ≡ true
       → next ≡ (past ++ says ∷ [], line_above says) → Fits version past above line more next
 
-pub some_is : {A : Type 0} (a b : A) → Some a ≡ Some b → a ≡ b
-some_is a b e = cc
-
 pub none_some : {A : Type 0} {P : Type 0} (b : A) → None ≡ Some b → P
 none_some b e = let never : ⊥ = cc in absurd never
 
@@ -367,7 +358,7 @@ module _ (version : Version) (past : List HistoryLine) (above : LineAbove) (line
         | inl holds ↦
             let kept : keeping test (Some s) ≡ Some s = cond-true _ _ _ holds in
             let both = and_parts (line_keeps version s) (stands (length (makes past)) above s) holds in
-            says s is both.0 both.1 (sym (some_is (past ++ s ∷ [], line_above s) next (sym (ap (option_map (with_line past)) kept) ∙ e)))
+            says s is both.0 both.1 (sym (same_Some (past ++ s ∷ [], line_above s) next (sym (ap (option_map (with_line past)) kept) ∙ e)))
         | inr fails ↦
             let kept : keeping test (Some s) ≡ None = cond-false _ _ _ fails in
             none_some next (sym (ap (option_map (with_line past)) kept) ∙ e)
@@ -375,10 +366,10 @@ module _ (version : Version) (past : List HistoryLine) (above : LineAbove) (line
 
   fits_graph : (o : Option Graph) → graph_in (graph_lines more) ≡ o → line ≡ codes "show" → option_map (λ graph. (past ++ history.Show graph ∷ [], aboves.Show)) o ≡ Some next → Fits version past above line more next
   fits_graph None is show e = none_some next e
-  fits_graph (Some graph) is show e = shows graph show is (sym (some_is (past ++ history.Show graph ∷ [], aboves.Show) next e))
+  fits_graph (Some graph) is show e = shows graph show is (sym (same_Some (past ++ history.Show graph ∷ [], aboves.Show) next e))
 
   unjudged_next : (b : Bool) → cond b (Some (past, aboves.Show)) None ≡ Some next → next ≡ (past, aboves.Show)
-  unjudged_next true e = sym (some_is (past, aboves.Show) next e)
+  unjudged_next true e = sym (same_Some (past, aboves.Show) next e)
   unjudged_next false e = none_some next e
 
   fits_shown : line ≡ codes "show" → shown_in past more ≡ Some next → Fits version past above line more next
@@ -393,7 +384,7 @@ module _ (version : Version) (past : List HistoryLine) (above : LineAbove) (line
       elim (cases_Bool (is_after_show above && is_graph_line (words line))) [
         | inl graph ↦
             let both = and_parts (is_after_show above) (is_graph_line (words line)) graph in
-            of_graph both.0 both.1 (sym (some_is (past, aboves.Show) next (sym (cond-true _ _ _ graph) ∙ e)))
+            of_graph both.0 both.1 (sym (same_Some (past, aboves.Show) next (sym (cond-true _ _ _ graph) ∙ e)))
         | inr other ↦
             let e' = sym (cond-false _ _ _ other) ∙ e in
             elim (cases_Bool (bytes_eq line (codes "show"))) [

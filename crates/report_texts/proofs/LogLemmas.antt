@@ -7,6 +7,7 @@ use Rattle.std.proofs.lemmas.Bool.Decides.{nat_tests}
 use Rattle.std.proofs.lemmas.Fmt.{decimal_by_steps}
 use Rattle.std.proofs.lemmas.List.{append-nil}
 use Rattle.std.proofs.lemmas.List.Elements.{All-cons}
+use Rattle.std.proofs.lemmas.Option.{same_Some}
 use Rattle.base.proofs.BytesLaws.{bytes_eq_self, same_bytes}
 use Rattle.quiesce_core.specs.declared.event.Event.{Event}
 use Rattle.quiesce_core.specs.declared.event.Event.TheVariants as events
@@ -28,7 +29,7 @@ use Rattle.report_texts.specs.ReportTexts.{IsLog, written_by}
 use Rattle.report_texts.specs.Stages.{Front, Stage, after, ended_from, event_of, events_from, front, head_in, keeping, last_from, last_of, log_from, log_with, logs_from, named}
 use Rattle.report_texts.specs.TextLines.{lines}
 use Rattle.report_texts.proofs.LineLemmas.{AllLack, line_at}
-use Rattle.report_texts.proofs.HistoryLemmas.{keep_true, none_some, some_is}
+use Rattle.report_texts.proofs.HistoryLemmas.{keep_true, none_some}
 
 -- ---- lines have no line feed
 
@@ -220,7 +221,7 @@ kept test None a e = none_some a e
 kept test (Some b) a e =
     elim (cases_Bool (test b)) [
       | inl holds ↦
-          let is : b ≡ a = some_is b a (sym (cond-true _ _ _ holds) ∙ e) in
+          let is : b ≡ a = same_Some b a (sym (cond-true _ _ _ holds) ∙ e) in
           (ap Some is, subst (λ x. test x ≡ true) is holds)
       | inr fails ↦ none_some a (sym (cond-false _ _ _ fails) ∙ e)
     ]

@@ -1,11 +1,12 @@
 -- The nodes that a history makes: their slots are 0, 1 and on, so that each is found by its slot.
-use Rattle.std.proofs.Common.{◌≡◌, ◌==◌, ◌+◌, ◌<◌, ◌≤◌, ◌^◌, ℕ, zero, suc, true, false, List, [], ◌∷◌, ◌++◌, length, length-append, map, Option, Some, None, IfSome, codes, decimal, refl, sym, ap, subst, ◌∙◌, append_assoc, arith, inl, inr, All}
+use Rattle.std.proofs.Common.{◌≡◌, ◌==◌, ◌+◌, ◌<◌, ◌≤◌, ◌^◌, ℕ, zero, suc, true, List, [], ◌∷◌, ◌++◌, length, length-append, map, Option, Some, None, IfSome, codes, decimal, refl, sym, ap, subst, ◌∙◌, append_assoc, arith, All}
 use Rattle.std.specs.Prelude.{filter, flat_map, slice_get}
 use Rattle.std.specs.List.{range_with_len}
 use Rattle.std.specs.Option.{option_map_or}
-use Rattle.std.proofs.lemmas.Bool.{cases_Bool, cond-true, cond-false, eq-eqb, eqb-true}
+use Rattle.std.proofs.lemmas.Bool.{cond-true, cond-false, eq-eqb, ne_eqb}
 use Rattle.std.proofs.lemmas.List.{append-nil}
 use Rattle.std.proofs.lemmas.List.Elements.{All-cons, filter_map-append}
+use Rattle.std.proofs.lemmas.Option.{same_Some}
 use Rattle.base.specs.Each.{EachAfter}
 use Rattle.base.proofs.PlaceLaws.{heads_are, tails_are}
 use Rattle.base.proofs.RisingLaws.{places_more}
@@ -21,7 +22,7 @@ use Rattle.report_lines.specs.ReportLines.{lacks}
 use Rattle.report_texts.specs.declared.version.Version.{Version}
 use Rattle.report_texts.specs.declared.version.Version.TheVariants as versions
 use Rattle.report_texts.specs.ReportTexts.{CanStand, IsLog, StandsBehind, written_by}
-use Rattle.report_texts.proofs.HistoryLemmas.{none_some, some_is}
+use Rattle.report_texts.proofs.HistoryLemmas.{none_some}
 use Rattle.report_texts.proofs.LogLemmas.{AllOf, AllRead, lacks_parts, one_lacks, texts_of}
 
 abbrev pub slots : List SlotPath → List ℕ
@@ -60,26 +61,12 @@ slots_in_order version before (says ∷ later) each so =
 abbrev counted : ℕ → List SlotPath → List SlotPath
 counted slot made = filter (λ (m : SlotPath). m.slot == slot) made
 
-other_slot : (a b : ℕ) → a < b → (b == a) ≡ false
-other_slot a b low =
-    elim (cases_Bool (b == a)) [
-      | inl same ↦ absurd (omega (arith, eqb-true b a same))
-      | inr other ↦ other
-    ]
-
-lower_slot : (a b : ℕ) → a < b → (a == b) ≡ false
-lower_slot a b low =
-    elim (cases_Bool (a == b)) [
-      | inl same ↦ absurd (omega (arith, eqb-true a b same))
-      | inr other ↦ other
-    ]
-
 none_above : (slot a : ℕ) (made : List SlotPath) → slots made ≡ range_with_len a (length made) → slot < a → counted slot made ≡ []
 none_above slot a [] so low = refl
 none_above slot a (x ∷ xs) so low =
     let here = heads_are x.slot a (slots xs) (range_with_len (a + 1) (length xs)) so in
     let more = tails_are x.slot a (slots xs) (range_with_len (a + 1) (length xs)) so in
-    cond-false _ _ _ (other_slot slot x.slot (omega (arith, here))) ∙ none_above slot (a + 1) xs more (omega arith)
+    cond-false _ _ _ (ne_eqb x.slot slot (λ e. omega (arith, here, e))) ∙ none_above slot (a + 1) xs more (omega arith)
 
 pub record FoundBy (made : List SlotPath) (m : SlotPath) : Type 0 where
   pub path : path_in made m.slot ≡ m.path
@@ -88,7 +75,7 @@ pub record FoundBy (made : List SlotPath) (m : SlotPath) : Type 0 where
 pub found_by : (a : ℕ) (made : List SlotPath) (k : ℕ) (m : SlotPath) → slots made ≡ range_with_len a (length made) → slice_get made k ≡ Some m → FoundBy made m × (m.slot ≡ a + k)
 found_by a [] k m so at = none_some m at
 found_by a (x ∷ xs) zero m so at =
-    let is : x ≡ m = some_is x m at in
+    let is : x ≡ m = same_Some x m at in
     let here = heads_are x.slot a (slots xs) (range_with_len (a + 1) (length xs)) so in
     let more = tails_are x.slot a (slots xs) (range_with_len (a + 1) (length xs)) so in
     let self : (x.slot == x.slot) ≡ true = eq-eqb x.slot x.slot refl in
@@ -101,7 +88,7 @@ found_by a (x ∷ xs) (suc k) m so at =
     let here = heads_are x.slot a (slots xs) (range_with_len (a + 1) (length xs)) so in
     let more = tails_are x.slot a (slots xs) (range_with_len (a + 1) (length xs)) so in
     let rest = found_by (a + 1) xs k m more at in
-    let other = lower_slot x.slot m.slot (omega (arith, here, rest.1)) in (
+    let other = ne_eqb x.slot m.slot (λ e. omega (arith, here, rest.1, e)) in (
       record {
         path = ap (λ o. option_map_or (λ (m : SlotPath). m.path) o []) (cond-false _ _ _ other) ∙ rest.0.path;
         one = ap length (cond-false _ _ _ other) ∙ rest.0.one;
@@ -135,7 +122,7 @@ heads_of version (history.Make slot node from) made can is =
       word = can.0.1.1;
       lack = head_lacks version slot node.path can.0.0 second.0 third.0;
     } in
-    subst (CanHead version) (some_is (record { slot = slot; path = node.path }) made is) head
+    subst (CanHead version) (same_Some (record { slot = slot; path = node.path }) made is) head
 heads_of version (history.Show graph) made can is = none_some made is
 heads_of version (history.Start name args) made can is = none_some made is
 heads_of version (history.Change name args) made can is = none_some made is

@@ -5,6 +5,7 @@ use Rattle.std.specs.Option.{option_map_or}
 use Rattle.std.proofs.lemmas.Bool.{cases_Bool, cond-true, cond-false, false≢true}
 use Rattle.std.proofs.lemmas.Fmt.{decimal_digit}
 use Rattle.std.proofs.lemmas.List.{append-nil}
+use Rattle.std.proofs.lemmas.Option.{same_Some}
 use Rattle.base.proofs.BytesLaws.{bytes_eq_self, same_bytes}
 use Rattle.base.proofs.PlaceLaws.{heads_are}
 use Rattle.report_writing.specs.Reports as reports
@@ -31,7 +32,7 @@ use Rattle.config_graph.specs.Graph.{Graph}
 use Rattle.report_texts.specs.Stages.{Found, Front, after, after_history, after_logs, after_unfinished, after_version, front, history_from, is_over, keeping, logs_from, named, over, reading, status_from, unfinished_from, unfinished_of, version_from, version_in}
 use Rattle.report_texts.specs.TextLines.{lines, onto_line, onto_tail, tail}
 use Rattle.report_texts.proofs.LineLemmas.{AllLack, line_at, lines_lack, whole}
-use Rattle.report_texts.proofs.HistoryLemmas.{IsTold, Reads, Stops, history_read, history_written, keep_true, none_some, some_is}
+use Rattle.report_texts.proofs.HistoryLemmas.{IsTold, Reads, Stops, history_read, history_written, keep_true, none_some}
 use Rattle.report_texts.proofs.LogLemmas.{AllOf, AllRead, after_ok, kept, logs_at_end, logs_read, logs_written, named_ok, ok_is, one_lacks, texts_of}
 use Rattle.report_texts.proofs.SlotLemmas.{AllHead, CanHead, FoundBy, all_head, all_of, are_logs, found_by, logs_made, same_slots, same_texts, slots_in_order}
 
@@ -290,13 +291,13 @@ version_line : (line : List ℕ) (version : Version) → version_in line ≡ Som
 version_line line version e =
     elim (cases_Bool (bytes_eq line (codes "report 1"))) [
       | inl one ↦
-          let is : versions.First ≡ version = some_is versions.First version (sym (cond-true _ _ _ one) ∙ e) in
+          let is : versions.First ≡ version = same_Some versions.First version (sym (cond-true _ _ _ one) ∙ e) in
           same_bytes line (codes "report 1") one ∙ sym first_text ∙ ap (λ v. with_one (codes "report") (version_number (written_by v))) is
       | inr not_one ↦
           let e' = sym (cond-false _ _ _ not_one) ∙ e in
           elim (cases_Bool (bytes_eq line (codes "report 2"))) [
             | inl two ↦
-                let is : versions.Second ≡ version = some_is versions.Second version (sym (cond-true _ _ _ two) ∙ e') in
+                let is : versions.Second ≡ version = same_Some versions.Second version (sym (cond-true _ _ _ two) ∙ e') in
                 same_bytes line (codes "report 2") two ∙ sym second_text ∙ ap (λ v. with_one (codes "report") (version_number (written_by v))) is
             | inr neither ↦ none_some version (sym (cond-false _ _ _ neither) ∙ e')
           ]

@@ -111,27 +111,7 @@ fn event_room(event: &Event) -> usize {
             serial,
             value,
         }
-        | Event::Take {
-            port,
-            serial,
-            value,
-        }
-        | Event::More {
-            port,
-            serial,
-            value,
-        }
         | Event::Ask {
-            port,
-            serial,
-            value,
-        }
-        | Event::Hear {
-            port,
-            serial,
-            value,
-        }
-        | Event::Give {
             port,
             serial,
             value,
@@ -142,6 +122,33 @@ fn event_room(event: &Event) -> usize {
             value,
         } => three_room(*port, *serial, *value),
         Event::Make { node, .. } => path_len(node).saturating_add(BARE_LINE),
+        event => room_of_target(event),
+    }
+}
+
+/// The same of an event of a target, or of one whose numbers aren't looked at.
+fn room_of_target(event: &Event) -> usize {
+    match event {
+        Event::Take {
+            port,
+            serial,
+            value,
+        }
+        | Event::Give {
+            port,
+            serial,
+            value,
+        }
+        | Event::More {
+            port,
+            serial,
+            value,
+        }
+        | Event::Hear {
+            port,
+            serial,
+            value,
+        } => three_room(*port, *serial, *value),
         _ => BARE_LINE,
     }
 }

@@ -1,6 +1,6 @@
 -- Finishes on a board of one thread are those that rounds make: a world at rest stays as it is, so a scan that moves nothing there is no
 -- round.
-use Rattle.std.proofs.Common.{◌≡◌, ◌∙◌, ℕ, zero, suc, ◌+◌, ◌<◌, ◌≤◌, Bool, true, false, cond, not, List, [], ◌∷◌, ◌++◌, append_assoc, length, map, refl, sym, ap, subst, ◌⊎◌, ⊎_elim, arith}
+use Rattle.std.proofs.Common.{◌≡◌, ◌∙◌, ℕ, zero, suc, ◌+◌, ◌<◌, ◌≤◌, Bool, true, false, cond, not, List, [], ◌∷◌, ◌++◌, append_assoc, length, map, refl, sym, ap, subst, ⊎_elim, arith}
 use Rattle.std.specs.Prelude.{◌==◌, ◌&&◌, ◌||◌, IsTrue, fold}
 use Rattle.std.specs.List.{AllByRecursion}
 use Rattle.std.proofs.lemmas.Bool.{both_ways, cases_eq, eq-eqb, ne_eqb, or_left, or_right}
@@ -65,7 +65,7 @@ module _ (stays : RestStays) (folds : AreFolds) (w : World) (n : ℕ) (c : Confi
         reached = next.reached;
         config = there;
         moved = so.0;
-        done = is.done ∙ seen_at_rest v next.reached (folds v next.reached) c (same ∙ sym there) s.sights s.found sights (true_scan (world j) s so) (is.all_sighted refl) is.at_ports;
+        done = is.done refl ∙ seen_at_rest v next.reached (folds v next.reached) c (same ∙ sym there) s.sights s.found sights (true_scan (world j) s so) (is.all_sighted refl) is.at_ports;
       }
 
   -- where it is at rest before a round, it is so behind it, and nothing moved
@@ -249,7 +249,7 @@ module _ (stays : RestStays) (folds : AreFolds) (w : World) (n : ℕ) (c : Confi
 
 -- ---- a finish
 
-module _ (stays : RestStays) (folds : AreFolds) (before t : List Item) (n : ℕ) (rounds : AreByRounds (before ++ t)) (x : AreFinishItems true (config_at before) n t) where
+module _ (stays : RestStays) (folds : AreFolds) (before t : List Item) (n : ℕ) (rounds : AreByRounds (before ++ t)) (x : AreFinishItems true before n t) where
   abbrev from : World
   from = world_behind before
 
@@ -275,5 +275,5 @@ module _ (stays : RestStays) (folds : AreFolds) (before t : List Item) (n : ℕ)
         ∙ ap (λ k. to.Finish n k ∷ []) over.told;
   }
 
-pub finish_played : RestStays → AreFolds → (before t : List Item) (n : ℕ) → AreByRounds (before ++ t) → AreFinishItems true (config_at before) n t → IsPlayedBehind before (finish n) t
+pub finish_played : RestStays → AreFolds → (before t : List Item) (n : ℕ) → AreByRounds (before ++ t) → AreFinishItems true before n t → IsPlayedBehind before (finish n) t
 finish_played stays folds before t n rounds x = played stays folds before t n rounds x

@@ -1,7 +1,6 @@
 -- What was carried out, with the logs that are parts of its run, is a report of one list of members.
-use Rattle.std.proofs.Common.{◌≡◌, ◌∙◌, Bool, true, List, length, map, sym, ap, subst}
+use Rattle.std.proofs.Common.{◌≡◌, ◌∙◌, Bool, true, List, sym, ap, subst}
 use Rattle.std.specs.Prelude.{All}
-use Rattle.quiesce_core.specs.State.{Configuration}
 use Rattle.report_types.specs.declared.report.Report.{Report}
 use Rattle.change_law.specs.Lawful.{IsLawfulBy}
 use Rattle.change_law.specs.Members.{Member}

@@ -1,5 +1,5 @@
 -- Starts, changes, shows and stops on a board of one thread are those that rounds make.
-use Rattle.std.proofs.Common.{◌≡◌, ◌∙◌, ℕ, ◌+◌, ◌<◌, ◌≤◌, Bool, true, false, cond, List, [], ◌∷◌, ◌++◌, append_assoc, length, map, refl, sym, ap, subst, ⊎_elim, arith}
+use Rattle.std.proofs.Common.{◌≡◌, ◌∙◌, ℕ, ◌<◌, ◌≤◌, Bool, true, false, cond, List, [], ◌∷◌, ◌++◌, append_assoc, length, map, refl, sym, ap, subst, ⊎_elim, arith}
 use Rattle.std.specs.Prelude.{ℤ, ◌||◌, ◌==◌, flat_map}
 use Rattle.std.proofs.lemmas.Bool.{eq-eqb, ne_eqb}
 use Rattle.std.proofs.lemmas.List.{append-nil}
@@ -29,7 +29,8 @@ use Rattle.step_runner.specs.Behind.{AreByRounds, IsPlayedBehind, StopsBehind, w
 use Rattle.step_runner.proofs.WaitLaws.{Passed, left_ports, passes, some_there}
 use Rattle.step_runner.proofs.WorldLaws.{AreSo, behind_both, config_behind, front_of_rounds, play_both, play_deeds, play_items, play_sights, reached_behind, so_behind, so_items}
 use Rattle.change_engine.proofs.ItemLaws.{lines_both, sight_lines, carried_lines}
-use Rattle.change_engine.proofs.PassivationLaws.{looks_of, passivation_lines, seen_root, root_lines, reopen_lines}
+use Rattle.change_engine.proofs.PassivationLaws.{looks_of, passivation_lines, seen_root, root_lines}
+use Rattle.change_law.proofs.ClosingLaws.{reopen_lines}
 use Rattle.change_board.specs.Steps.{events_of}
 
 -- ---- starts and shows

@@ -105,7 +105,7 @@ module _ (w : World) (k : ℕ) (c : Configuration) (same : c ≡ w.machine.confi
 nothing_since : (n : ℕ) → ◌≡◌ {A = ℕ} 0 (n - n)
 nothing_since n = omega arith
 
-module _ (before t : List Item) (k : ℕ) (rounds : AreByRounds (before ++ t)) (x : AreRunItems true (config_at before) k t) where
+module _ (before t : List Item) (k : ℕ) (rounds : AreByRounds (before ++ t)) (x : AreRunItems true before k t) where
   abbrev from : World
   from = world_behind before
 
@@ -166,5 +166,5 @@ module _ (before t : List Item) (k : ℕ) (rounds : AreByRounds (before ++ t)) (
         (x.ended_is ∙ ap (λ n. engine.ended_since n x.scans) shown ∙ all.ran.since ∙ ap (λ (u : World). ended u - ended from) (sym leads));
   }
 
-pub run_played : (before t : List Item) (k : ℕ) → AreByRounds (before ++ t) → AreRunItems true (config_at before) k t → IsPlayedBehind before (run k) t
+pub run_played : (before t : List Item) (k : ℕ) → AreByRounds (before ++ t) → AreRunItems true before k t → IsPlayedBehind before (run k) t
 run_played before t k rounds x = ran before t k rounds x

@@ -1,8 +1,8 @@
 -- How many nodes and ports were made, as a record grows.
-use Rattle.std.proofs.Common.{◌≡◌, ◌∙◌, ℕ, ◌+◌, ◌<◌, ◌≤◌, ◌^◌, Bool, true, false, ◌&&◌, not, cond, List, [], ◌∷◌, ◌++◌, length, set, Option, Some, None, refl, sym, ap, subst, arith}
-use Rattle.std.specs.Prelude.{IfSome, is_none, is_some}
+use Rattle.std.proofs.Common.{◌≡◌, ◌∙◌, ℕ, ◌+◌, ◌<◌, ◌≤◌, true, false, ◌&&◌, not, List, [], ◌∷◌, ◌++◌, length, set, Option, Some, None, refl, sym, ap, subst, arith}
+use Rattle.std.specs.Prelude.{IfSome, is_some}
 use Rattle.std.specs.Option.{option_map_or}
-use Rattle.std.proofs.lemmas.Bool.{and_parts, both_ways, ltb-true}
+use Rattle.std.proofs.lemmas.Bool.{and_parts, both_ways}
 use Rattle.std.proofs.lemmas.Option.{slice_get_within}
 use Rattle.std.proofs.lemmas.List.{length-append, length-set}
 use Rattle.base.proofs.OptionLaws.{map_or_at}
@@ -18,9 +18,10 @@ use Rattle.txn_records.specs.declared.entry.Entry.TheVariants.{Did, Looked}
 use Rattle.quiesce_core.specs.Effect.{with_node}
 use Rattle.quiesce_core.specs.Knowledge.{nothing_known}
 use Rattle.quiesce_core.specs.Legal.{CanMake}
-use Rattle.quiesce_core.specs.Rules.{can_move, has_its_argument, is_kind, is_path_taken, is_value, value_limit, was_moved}
+use Rattle.quiesce_core.specs.Rules.{can_move, has_its_argument, is_kind, is_path_taken, was_moved}
 use Rattle.quiesce_core.specs.Words.{slot_fields_of}
 use Rattle.quiesce_core.specs.declared.state.Slot.{Slot}
+use Rattle.quiesce_core.proofs.ArgumentLaws.{argument_fits}
 use Rattle.quiesce_core.proofs.TableLaws.{new_gates_length}
 use Rattle.quiesce_core.specs.State.{Configuration, slot}
 use Rattle.quiesce_core.specs.declared.event.Event.{Event}
@@ -119,17 +120,11 @@ source_fits c kind (Some k) few moves =
     let below = slice_get_within c.slots k m.0 m.1 in
     omega (arith, below, few)
 
-arg_fits : (there : Bool) (arg : Option ℕ) → cond there (option_map_or is_value arg false) (is_none arg) ≡ true → (is_some arg ≡ there) × IfSome arg (λ a. a < 2 ^ 24)
-arg_fits true None h = absurd (both_ways false refl h)
-arg_fits true (Some a) h = (refl, ltb-true a value_limit h)
-arg_fits false None h = (refl, tt)
-arg_fits false (Some a) h = absurd (both_ways false refl h)
-
 pub new_slot_fits : (c : Configuration) (n : ℕ) (node : Node) (from : Option ℕ) → CanMake c n node from
     → FitsSlotWord (record { kind = node.kind; first_port = length c.gates; arg = node.arg; from = from })
 new_slot_fits c n node from may =
     let room = room_of c n node from may in
-    let arg = arg_fits (is_some (row node.kind).arg) node.arg (and_parts (not (is_path_taken c node.path)) (has_its_argument node) may.new_path).1 in
+    let arg = argument_fits (is_some (row node.kind).arg) node.arg (and_parts (not (is_path_taken c node.path)) (has_its_argument node) may.new_path).1 in
     record {
       first_port = (let few = room.ports in omega (arith, few));
       present = arg.0;

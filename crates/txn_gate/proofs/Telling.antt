@@ -2,8 +2,9 @@
 use Rattle.std.proofs.Common.{◌≡◌, ◌∙◌, ℕ, ◌+◌, Bool, true, false, ◌&&◌, ◌||◌, cond, List, [], ◌∷◌, ◌++◌, Option, Some, None, refl, sym, ap, subst, arith}
 use Rattle.std.specs.Prelude.{◌==◌, fold, is_none, is_some, not, option_map}
 use Rattle.std.specs.Option.{option_map_or}
-use Rattle.std.proofs.lemmas.Bool.{eq-eqb, ne_eqb}
+use Rattle.std.proofs.lemmas.Bool.{ne_eqb}
 use Rattle.std.proofs.lemmas.List.Sums.{fold-append}
+use Rattle.base.proofs.NumberLaws.{same_number}
 use Rattle.config_graph.specs.declared.node.Target.{Target}
 use Rattle.quiesce_word.specs.Phases.{is_answered, is_in_more}
 use Rattle.quiesce_word.specs.Words.{is_spent, unpack}
@@ -27,9 +28,6 @@ use Rattle.txn_gate.specs.Told.{loads_by, loads_next, loads_of, next_load, no_lo
 both : {a b : Bool} → a ≡ true → b ≡ true → (a && b) ≡ true
 both {a} {b} x y = ap (λ t. t && b) x ∙ y
 
-same : (w : ℕ) → (w == w) ≡ true
-same w = eq-eqb w w refl
-
 -- events load nothing
 pub after_loads : (n : NodeView) (es : List Event) → (after n es).loads ≡ n.loads
 after_loads n [] = refl
@@ -42,7 +40,7 @@ module _ (s : Loads) (p w : ℕ) (shows : Load → Bool) where
   own_tells says = record {
     loaded = record {
       load = next_load s w;
-      there = ap (λ b. cond b (Some (next_load s w)) (s.at p)) (same p);
+      there = ap (λ b. cond b (Some (next_load s w)) (s.at p)) (same_number p);
       now = record { after = omega arith; until = omega arith; shown = says };
     };
     steps = omega arith;
@@ -55,7 +53,7 @@ module _ (s : Loads) (p w : ℕ) (shows : Load → Bool) where
   exchange_tells f says = record {
     loaded = record {
       load = with_found f (next_load s w);
-      there = ap (λ b. cond b (option_map (with_found f) (cond b (Some (next_load s w)) (s.at p))) (cond b (Some (next_load s w)) (s.at p))) (same p);
+      there = ap (λ b. cond b (option_map (with_found f) (cond b (Some (next_load s w)) (s.at p))) (cond b (Some (next_load s w)) (s.at p))) (same_number p);
       now = record { after = omega arith; until = omega arith; shown = says };
     };
     steps = omega arith;
@@ -71,7 +69,7 @@ found_there l f = by (l == f)
   where
     by : (b : Bool) → (b || (f == f)) ≡ true
     by true = refl
-    by false = same f
+    by false = same_number f
 
 module _ (s : Loads) (n : NodeView) (p l f : ℕ) where
   abbrev told : Option BeginAnswer → Type 0
@@ -84,12 +82,12 @@ module _ (s : Loads) (n : NodeView) (p l f : ℕ) where
     where
       other : (b : Bool) → begin_shows (cond b (Closed f) (Again l f)) (record (next_load s l) { found = Some f }) ≡ true
       other true = found_there l f
-      other false = both (same l) (same f)
+      other false = both (same_number l) (same_number f)
 
       began : begin_shows (Begun ((unpack l).serial + 1) (leads_in l)) (next_load s l) ≡ true
       began =
-          both (ap (λ o. option_map_or (λ (u : Target). u.node == option_map_or (λ (x : Target). x.node) o 0) o false) leads ∙ same t.node)
-          (both (same ((unpack l).serial + 1)) (both (ap not opened) refl))
+          both (ap (λ o. option_map_or (λ (u : Target). u.node == option_map_or (λ (x : Target). x.node) o 0) o false) leads ∙ same_number t.node)
+          (both (same_number ((unpack l).serial + 1)) (both (ap not opened) refl))
 
       by : (b : Bool) → (f == l) ≡ b → LoadsAt p (begin_shows (cond b (Begun ((unpack l).serial + 1) (leads_in l)) (cond (unpack f).closed (Closed f) (Again l f)))) s
           (loads_by kinds.Exchange p f (loads_by kinds.Own p l s))
@@ -107,12 +105,12 @@ module _ (s : Loads) (n : NodeView) (p l f : ℕ) where
 
       linked : (o : Option Target) → (unpack l).target ≡ o → (unpack l).closed ≡ false
           → told (cond (is_none o) (Some (Unlinked l)) (cond (is_spent (unpack l)) (Some (Spent (unpack l).serial)) None))
-      linked None leads opened = own_tells s p l (begin_shows (Unlinked l)) (same l)
+      linked None leads opened = own_tells s p l (begin_shows (Unlinked l)) (same_number l)
       linked (Some t) leads opened = spent (is_spent (unpack l)) refl opened t leads
 
       closed : (b : Bool) → (unpack l).closed ≡ b
           → told (cond b (Some (Closed l)) (cond (is_none (unpack l).target) (Some (Unlinked l)) (cond (is_spent (unpack l)) (Some (Spent (unpack l).serial)) None)))
-      closed true is = own_tells s p l (begin_shows (Closed l)) (ap (λ b. b || false) (same l))
+      closed true is = own_tells s p l (begin_shows (Closed l)) (ap (λ b. b || false) (same_number l))
       closed false is = linked (unpack l).target refl is
 
 -- a call that isn't missed has a target
@@ -120,23 +118,23 @@ pub call_shown : (s : Loads) (w : ℕ) → call_shows (called_in w) (next_load s
 call_shown s w = by (unpack w).target refl
   where
     by : (o : Option Target) → (unpack w).target ≡ o → call_shows (cond (is_none o || is_spent (unpack w)) (Missed w) (Called ((unpack w).serial + 1) (leads_in w))) (next_load s w) ≡ true
-    by None leads = same w
+    by None leads = same_number w
     by (Some t) leads = spent (is_spent (unpack w))
       where
         spent : (b : Bool) → call_shows (cond b (Missed w) (Called ((unpack w).serial + 1) (leads_in w))) (next_load s w) ≡ true
-        spent true = same w
+        spent true = same_number w
         spent false =
-            both (ap (λ o. option_map_or (λ (u : Target). u.node == option_map_or (λ (x : Target). x.node) o 0) o false) leads ∙ same t.node) (same ((unpack w).serial + 1))
+            both (ap (λ o. option_map_or (λ (u : Target). u.node == option_map_or (λ (x : Target). x.node) o 0) o false) leads ∙ same_number t.node) (same_number ((unpack w).serial + 1))
 
 pub see_shown : (s : Loads) (w : ℕ) → see_shows (seen_in w) (next_load s w) ≡ true
 see_shown s w = by (is_answered (unpack w).phase) refl
   where
     more_ : (b : Bool) → is_in_more (unpack w).phase ≡ b → see_shows (cond b (see.More (unpack w).value) (see.NotYet w)) (next_load s w) ≡ true
-    more_ true is = both is (same (unpack w).value)
-    more_ false is = same w
+    more_ true is = both is (same_number (unpack w).value)
+    more_ false is = same_number w
 
     by : (b : Bool) → is_answered (unpack w).phase ≡ b → see_shows (cond b (see.Answer (unpack w).value) (cond (is_in_more (unpack w).phase) (see.More (unpack w).value) (see.NotYet w))) (next_load s w) ≡ true
-    by true is = both is (same (unpack w).value)
+    by true is = both is (same_number (unpack w).value)
     by false is = more_ (is_in_more (unpack w).phase) refl
 
 -- ---- what a call tells where its view has more loads

@@ -4,6 +4,7 @@ ghost use Rattle.std.specs.Prelude.{◌≡◌, ◌≢◌, None, ◌+◌, ◌<◌
 ghost use Rattle.config_graph.specs.declared.TheConstants.{MAX_PORTS};
 ghost use Rattle.config_graph.specs.declared.node.Target.{Target as Linked};
 ghost use Rattle.quiesce_word.specs.Words.{FitsWord, is_message_to, unpack};
+ghost use Rattle.quiesce_word.specs.declared.phase.Phase.TheVariants as phases;
 ghost use Rattle.quiesce_core.specs.declared.event.Event.TheVariants as event;
 ghost use Rattle.quiesce_core.specs.Rules.{last_serial};
 ghost use Rattle.node_gate.specs.Answers.{BeginSays, SeeSays, TakeSays};
@@ -103,23 +104,10 @@ impl Gates {
             ≡ does (reads (node_in seat.old) kinds.Exchange port result) E.event }
         ensures kept { result ≢ loaded → node_in seat.new ≡ reads (node_in seat.old) kinds.Exchange port result }
     {
-        let serial = word.serial + 1;
-        let asked = Word {
-            phase: Phase::Asked,
-            serial,
-            value,
-            consequent: false,
-            ..word
-        };
-        let found = steps::begin::<E>(
-            &self.words,
-            &mut seat.seat,
-            port,
-            value,
-            loaded,
-            asked.pack(),
-        );
+        let asked = asked_by(word, value).pack();
+        let found = steps::begin::<E>(&self.words, &mut seat.seat, port, value, loaded, asked);
         if found == loaded {
+            let serial = word.serial + 1;
             note(
                 &mut seat.known,
                 seat.first_port,
@@ -243,5 +231,20 @@ impl Gates {
                 value,
             },
         );
+    }
+}
+
+/// What an idle port's word becomes where its owner asks for a value.
+fn asked_by(word: Word, value: u32) -> Word
+    requires unspent { word.serial < last_serial }
+    ensures { result ≡ record word
+        { phase = phases.Asked; serial = word.serial + 1; value = value; consequent = false } }
+{
+    Word {
+        phase: Phase::Asked,
+        serial: word.serial + 1,
+        value,
+        consequent: false,
+        ..word
     }
 }

@@ -2,7 +2,7 @@
 use Rattle.std.proofs.Common.{◌≡◌, ◌∙◌, ℕ, ◌+◌, ◌<◌, Bool, true, ◌&&◌, List, [], ◌∷◌, ◌++◌, length, set, Option, Some, None, refl, sym, ap, subst, arith}
 use Rattle.std.specs.Prelude.{◌==◌, bit_and, bit_or, bit_xor, nat_le, nat_lt, slice_index}
 use Rattle.std.proofs.lemmas.Bool.{and_parts, ltb-true}
-use Rattle.atomic_table.specs.Table.{Allows, keeps, step}
+use Rattle.atomic_table.specs.Table.{Allows, keeps}
 use Rattle.config_graph.specs.Kinds.{row}
 use Rattle.config_graph.specs.declared.TheConstants.{MAX_NODES, MAX_PORTS}
 use Rattle.config_graph.specs.declared.node.Node.{Node}
@@ -29,15 +29,15 @@ use Rattle.quiesce_core.specs.declared.event.Event.TheVariants.{Close, Reopen, M
 use Rattle.quiesce_core.proofs.LegalLaws.{legal}
 use Rattle.quiesce_core.proofs.OperationLaws.{close_by, link_by, make_by, reopen_by, unlink_by}
 use Rattle.quiesce_core.proofs.RunLaws.{runs_are_well_formed}
-use Rattle.txn_law.specs.Growth.{ChangeProlongs, GatesTable, Prolongs}
-use Rattle.txn_law.specs.Steps.{LooksAt, MarksScan, noted}
+use Rattle.txn_law.specs.Growth.{ChangeProlongs, GatesTable, NoteProlongs}
+use Rattle.txn_law.specs.Steps.{noted}
 use Rattle.txn_law.specs.Views.{change_of, notes, of_change}
 use Rattle.txn_law.specs.Traces.{Holds}
 use Rattle.txn_law.specs.declared.view.ChangeView.{ChangeView}
 use Rattle.txn_law.specs.declared.view.NodeView.{NodeView}
 use Rattle.txn_law.proofs.GrowthLaws.{With, prolonged, straight}
 use Rattle.txn_law.proofs.TraceLaws.{changes, same_words, sees, shows_none, shows_port, shows_slot}
-use mathlib.Core.Option.{none, some}
+use mathlib.Core.Option.{some}
 use lib.ListN.{get_elem?}
 
 module _ (nodes : List NodeView) (c : ChangeView) (t : GatesTable) (h : Holds t) (id : ℕ) (at : get_elem? t.views id ≡ some (of_change nodes c)) where
@@ -182,13 +182,11 @@ module _ (slots id : ℕ) (nodes : List NodeView) (c : ChangeView) where
       let x = Scanned begins moved in
       (of_change nodes (notes c x), keeps, tt, (mark_moves t h at begins moved i).holds, (refl, seen_record nodes c t h id at x refl tt))
 
-  pub look_prolongs : (slots p : ℕ) → p < MAX_PORTS
-      → Prolongs id (of_change nodes c, []) p (λ x. x) (LooksAt (step slots p 0 0 none) (of_change nodes c, [])) (λ found. entry (Looked p found) ∷ [])
-  look_prolongs slots p few t h at v a is = prolonged t h id p _ _ _ (straight t h id _ _ _ (look_moves t h at p few)) v a is.0
+  pub look_prolongs : (p : ℕ) → p < MAX_PORTS → NoteProlongs id nodes c p (λ found. Looked p found)
+  look_prolongs p few t h at v a is = prolonged t h id p _ _ _ (straight t h id _ _ _ (look_moves t h at p few)) v a is
 
-  pub mark_prolongs : (slots i : ℕ) (begins moved : Bool)
-      → Prolongs id (of_change nodes c, []) i (λ x. x) (MarksScan begins moved (step slots i 0 0 none) (of_change nodes c, [])) (λ found. entry (Scanned begins moved) ∷ [])
-  mark_prolongs slots i begins moved t h at v a is = prolonged t h id i _ _ _ (straight t h id _ _ _ (mark_moves t h at begins moved i)) v a is.0
+  pub mark_prolongs : (i : ℕ) (begins moved : Bool) → NoteProlongs id nodes c i (λ found. Scanned begins moved)
+  mark_prolongs i begins moved t h at v a is = prolonged t h id i _ _ _ (straight t h id _ _ _ (mark_moves t h at begins moved i)) v a is
 
   -- ---- link and unlink
 

@@ -1,5 +1,5 @@
 -- A node's view, where the node is live, is a seat that fits the state; and what the state must have of nodes that are at work.
-use Rattle.std.proofs.Common.{◌≡◌, ◌∙◌, ℕ, ◌+◌, ◌-◌, ◌<◌, ◌≤◌, ◌%◌, ◌^◌, Bool, true, false, not, List, length, Option, Some, None, refl, sym, ap, subst, arith}
+use Rattle.std.proofs.Common.{◌≡◌, ◌∙◌, ℕ, ◌+◌, ◌-◌, ◌<◌, ◌≤◌, ◌%◌, ◌^◌, Bool, true, false, not, List, length, Option, Some, None, sym, ap, subst, arith}
 use Rattle.std.specs.Prelude.{◌==◌, is_some, option_map, nat_lt}
 use Rattle.std.specs.Option.{option_map_or}
 use Rattle.std.proofs.lemmas.Bool.{and_parts, both_ways, eqb-true, true_from_ne_false}
@@ -25,6 +25,7 @@ use Rattle.quiesce_core.specs.declared.known.Served.{Served}
 use Rattle.quiesce_core.specs.declared.state.Service.{Service}
 use Rattle.quiesce_core.specs.declared.state.Slot.{Slot}
 use Rattle.quiesce_core.proofs.ConfigurationLaws.{linked_made}
+use Rattle.quiesce_core.proofs.KnownLaws.{knows_none, knows_some}
 use Rattle.quiesce_core.proofs.ReachLaws.{owner_of}
 use Rattle.quiesce_core.proofs.RunLaws.{runs_are_consistent, runs_are_well_formed}
 use Rattle.quiesce_core.proofs.StabilityLaws.{busy_is_live}
@@ -41,14 +42,6 @@ use Rattle.txn_law.specs.declared.view.NodeView.{NodeView}
 -- a value is what its 24 bits spell
 low_is : (v : ℕ) → v < value_limit → v % 2 ^ 24 ≡ v
 low_is v few = omega (arith, few)
-
-knows_none : (s : State) (o : Option Service) → KnowsService s o None → o ≡ None
-knows_none s None h = refl
-knows_none s (Some v) h = absurd h
-
-knows_some : (s : State) (o : Option Service) (u : Served) → KnowsService s o (Some u) → (v : Service) × (o ≡ Some v) × IsServed s v u
-knows_some s None u h = absurd h
-knows_some s (Some v) u h = (v, refl, h)
 
 module _ (es : List Event) (run : IsRun es) (n : NodeView) (h : KnowsNode es n) where
   abbrev s : State

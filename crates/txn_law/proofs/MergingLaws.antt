@@ -4,7 +4,7 @@ use Rattle.std.specs.List.{AllByRecursion}
 use Rattle.std.specs.Prelude.{◌==◌, slice_index}
 use Rattle.std.specs.Option.{option_map}
 use Rattle.std.proofs.lemmas.Bool.{both_ways, cases_Bool, cases_lt, eqb-true}
-use Rattle.atomic_table.specs.Table.{Allows, keeps, step}
+use Rattle.atomic_table.specs.Table.{Allows, keeps}
 use Rattle.config_graph.specs.declared.TheConstants.{MAX_PORTS}
 use Rattle.txn_records.specs.Entries.{config_of}
 use Rattle.txn_records.specs.Records.{IsRecord, IsRecordOf, entry, events}
@@ -22,17 +22,15 @@ use Rattle.quiesce_core.specs.declared.known.Known.{Known}
 use Rattle.quiesce_core.specs.declared.known.Served.{Served}
 use Rattle.quiesce_core.specs.declared.state.Service.{Service}
 use Rattle.quiesce_core.proofs.RunLaws.{runs_are_consistent, runs_are_well_formed}
-use Rattle.txn_law.specs.Growth.{Prolongs}
-use Rattle.txn_law.specs.Merging.{AreAllAmong, IsOfRecord, Learns, Meets, MergeIntoRun, Merges}
+use Rattle.txn_law.specs.Growth.{QuietProlongs}
+use Rattle.txn_law.specs.Merging.{AreAllAmong, IsOfRecord, MergeIntoRun}
 use Rattle.txn_law.specs.Steps.{noted}
 use Rattle.txn_law.specs.Views.{is_among, log_in, notes, of_change}
 use Rattle.txn_law.specs.Traces.{FitsNode, HaveOwnSlots, Holds, KnowsNode}
 use Rattle.txn_law.specs.declared.view.ChangeView.{ChangeView}
 use Rattle.txn_law.specs.declared.view.NodeView.{NodeView}
-use Rattle.txn_law.proofs.ChangeStepLaws.{look_moves}
 use Rattle.txn_law.proofs.GrowthLaws.{prolonged, stays, straight}
 use Rattle.txn_law.proofs.TraceLaws.{all_into, same_words, sees}
-use mathlib.Core.Option.{none}
 
 -- ---- a node that was removed services nothing
 
@@ -62,9 +60,9 @@ learns slots id i nodes c t h _ at _ =
     let mine = subst (λ r. IsRecordOf r h.trace.moments) (sym (fit.change c refl).entries) h.is_trace.is_record in
     (v, keeps, tt, (stays t h id i v at).holds, (refl, record { moments = h.trace.moments; is_of = mine }, fit.apart))
 
-pub learn_prolongs : (slots id i : ℕ) (nodes : List NodeView) (c : ChangeView)
-    → Prolongs id (of_change nodes c, []) i (λ x. x) (Learns (step slots i 0 0 none) (of_change nodes c, [])) (λ found. [])
-learn_prolongs slots id i nodes c t h at v a then_ = prolonged t h id i _ _ _ (straight t h id _ _ _ (stays t h id i (of_change nodes c) at)) v a then_.0
+-- by any load that leaves its seat as it is the run stays
+pub learn_prolongs : (id i : ℕ) (nodes : List NodeView) (c : ChangeView) → QuietProlongs id nodes c i
+learn_prolongs id i nodes c t h at v a is = prolonged t h id i _ _ _ (straight t h id _ _ _ (stays t h id i (of_change nodes c) at)) v a is
 
 -- and that of the seat that it took in last
 pub meets : (slots id i : ℕ) (n : NodeView) (nodes : List NodeView) (c : ChangeView) → Allows Holds slots id (of_change (n ∷ nodes) c, []) i (λ x. x)
@@ -80,10 +78,6 @@ meets slots id i n nodes c t h _ at _ =
       (stays t h id i (of_change (n ∷ nodes) c) at).holds,
       (refl, record { moments = h.trace.moments; is_of = mine }, of_record es c.entries n (config_is c.entries h.trace.moments mine) (runs_are_well_formed es run) (runs_are_consistent es run) fit.nodes.0.knows),
     )
-
-pub meet_prolongs : (slots id i : ℕ) (n : NodeView) (nodes : List NodeView) (c : ChangeView)
-    → Prolongs id (of_change (n ∷ nodes) c, []) i (λ x. x) (Meets (step slots i 0 0 none) (of_change (n ∷ nodes) c, [])) (λ found. [])
-meet_prolongs slots id i n nodes c t h at v a then_ = prolonged t h id i _ _ _ (straight t h id _ _ _ (stays t h id i (of_change (n ∷ nodes) c) at)) v a then_.0
 
 -- ---- the events of the nodes that were taken in
 
@@ -138,7 +132,3 @@ merges slots id p nodes c few all t h _ at _ =
         },
       ),
     )
-
-pub merge_prolongs : (slots id p : ℕ) (nodes : List NodeView) (c : ChangeView) → p < MAX_PORTS
-    → Prolongs id (of_change nodes c, []) p (λ x. x) (Merges (step slots p 0 0 none) (of_change nodes c, [])) (λ found. entry (Looked p found) ∷ [])
-merge_prolongs slots id p nodes c few t h at v a then_ = prolonged t h id p _ _ _ (straight t h id _ _ _ (look_moves slots id nodes c t h at p few)) v a then_.0

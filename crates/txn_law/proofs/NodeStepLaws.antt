@@ -1,7 +1,7 @@
 -- The steps of nodes keep the rule: each is shown by the trace with its event, or by the same trace.
-use Rattle.std.proofs.Common.{◌≡◌, ◌∙◌, ℕ, ◌+◌, ◌<◌, ◌^◌, ◌%◌, Bool, true, false, ◌||◌, cond, List, [], ◌∷◌, set, Option, Some, None, refl, sym, ap, subst, arith}
+use Rattle.std.proofs.Common.{◌≡◌, ◌∙◌, ℕ, ◌+◌, ◌<◌, ◌^◌, ◌%◌, true, false, cond, List, [], ◌∷◌, set, Option, Some, None, refl, sym, ap, subst, arith}
 use Rattle.std.specs.Prelude.{◌==◌, bit_xor, is_none, slice_index}
-use Rattle.std.proofs.lemmas.Bool.{both_ways, eqb-false, eqb-true}
+use Rattle.std.proofs.lemmas.Bool.{both_ways, eqb-false, eqb-true, or_parts}
 use Rattle.std.proofs.lemmas.Option.{same_Some}
 use Rattle.atomic_table.specs.Table.{Allows, keeps, step}
 use Rattle.config_graph.specs.declared.TheConstants.{MAX_PORTS}
@@ -101,11 +101,6 @@ module _ (n : NodeView) (t : GatesTable) (h : Holds t) (id : ℕ) (at : get_elem
       subst (λ ws. With t h id (of_node (does (reading k p) e)) ws (by_node e ∷ [])) (sym (same_words t.words p))
       (acts t h id t.homes n (reading k p) e t.words at refl (has_read k p few) by_node_ may does_
       (shows_none t.words s (effect s e) e (fitting.w es run n mine) (record { allowed = may; changed = refl }) h.shows port slot))
-
--- neither of two tests
-neither_of : (a b : Bool) → (a || b) ≡ false → (a ≡ false) × (b ≡ false)
-neither_of true b h = absurd (both_ways true h refl)
-neither_of false b h = (refl, h)
 
 some_if : (o : Option Target) → is_none o ≡ false → (t : Target) × (o ≡ Some t)
 some_if None h = absurd (both_ways true h refl)
@@ -527,7 +522,7 @@ module _ (n : NodeView) (p v : ℕ) (may : MayCallAt (node_at n) n.known p v) wh
 
     to : (t : Target) × ((unpack word).target ≡ Some t) × ((unpack word).serial < last_serial)
     to =
-        let parts = neither_of (is_none (unpack word).target) ((unpack word).serial == last_serial) found_there in
+        let parts = or_parts (is_none (unpack word).target) ((unpack word).serial == last_serial) found_there in
         let leads = some_if (unpack word).target parts.0 in
         (leads.0, leads.1, (let few = fit.serial in let apart = eqb-false (unpack word).serial last_serial parts.1 in omega (arith, few, apart)))
 

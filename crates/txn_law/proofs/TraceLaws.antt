@@ -1,5 +1,5 @@
 -- What the words and the views show after a step: of a trace with one event, look or sight more, or of the same trace.
-use Rattle.std.proofs.Common.{◌≡◌, ◌≢◌, ◌∙◌, ℕ, zero, suc, ◌+◌, ◌<◌, ◌⊎◌, inl, inr, true, false, ◌||◌, cond, List, [], ◌∷◌, ◌++◌, length, set, Some, None, refl, sym, ap, subst, ⊎_elim, arith}
+use Rattle.std.proofs.Common.{◌≡◌, ◌≢◌, ◌∙◌, ℕ, zero, suc, ◌+◌, ◌<◌, ◌⊎◌, inl, inr, true, false, ◌||◌, List, [], ◌∷◌, ◌++◌, length, set, Some, None, refl, sym, ap, subst, ⊎_elim, arith}
 use Rattle.std.specs.List.{AllByRecursion}
 use Rattle.std.specs.Prelude.{◌==◌, slice_index}
 use Rattle.std.proofs.lemmas.Bool.{cases_eq}
@@ -23,7 +23,7 @@ use Rattle.quiesce_core.specs.State.{State}
 use Rattle.quiesce_core.specs.WellFormed.{IsWellFormed}
 use Rattle.quiesce_core.specs.Words.{changed_port, changed_slot, slot_word_of, word_of}
 use Rattle.quiesce_core.specs.declared.event.Event.{Event}
-use Rattle.quiesce_core.proofs.RunLaws.{changes_are_of_no_node, done_by_more, runs_are_consistent, state_more}
+use Rattle.quiesce_core.proofs.RunLaws.{changes_are_of_no_node, done_by_other, runs_are_consistent, state_more}
 use Rattle.quiesce_core.proofs.WordLaws.{port_word_stays, slot_word_stays}
 use Rattle.txn_law.specs.Views.{does, nobody, notes, of_change, of_node}
 use Rattle.txn_law.specs.Growth.{RunGoesOn}
@@ -209,10 +209,6 @@ event_more ms e = filter_map-append event_at ms (by_node e ∷ [])
 did_event : (ms : List Moment) (e : Event) → events (ms ++ entry (Did e) ∷ []) ≡ events ms ++ e ∷ []
 did_event ms e = filter_map-append event_at ms (entry (Did e) ∷ [])
 
--- a node that doesn't do the event has done what it did before
-done_still : (n : ℕ) (es : List Event) (e : Event) → is_doer (state_after es) n e ≡ false → done_by n (es ++ e ∷ []) ≡ done_by n es
-done_still n es e other = done_by_more n es e ∙ ap (λ b. done_by n es ++ cond b (e ∷ []) []) other ∙ append-nil (done_by n es)
-
 module _ (t : Table (Unit {0}) View) (h : Holds t) (id : ℕ) (homes : List (Maybe (Unit {0}))) where
   abbrev w : Trace
   w = h.trace
@@ -236,7 +232,7 @@ module _ (t : Table (Unit {0}) View) (h : Holds t) (id : ℕ) (homes : List (May
       goes_on_next t h w' (by_node e ∷ []) refl words homes id (of_node (does n' e))
       (record {
         is_record = now;
-        unseated = λ m none_. ap (done_by m) more_ ∙ done_still m es e (one_doer s n'.slot m e mine (λ at. omega (arith, at, none_, fit.seated))) ∙ h.is_trace.unseated m none_;
+        unseated = λ m none_. ap (done_by m) more_ ∙ done_by_other m es e (one_doer s n'.slot m e mine (λ at. omega (arith, at, none_, fit.seated))) ∙ h.is_trace.unseated m none_;
       })
       (subst (Shows words) (sym (ap state_after more_ ∙ state_more es e)) shows)
       (record {
@@ -270,7 +266,7 @@ module _ (t : Table (Unit {0}) View) (h : Holds t) (id : ℕ) (homes : List (May
       goes_on_next t h w' (entry (Did e) ∷ []) refl words homes id (of_change nodes (notes c (Did e)))
       (record {
         is_record = now;
-        unseated = λ m none_. ap (done_by m) more_ ∙ done_still m es e (no_doer s m e nobody_) ∙ h.is_trace.unseated m none_;
+        unseated = λ m none_. ap (done_by m) more_ ∙ done_by_other m es e (no_doer s m e nobody_) ∙ h.is_trace.unseated m none_;
       })
       (subst (Shows words) (sym (ap state_after more_ ∙ state_more es e)) shows)
       (record { nodes = λ j u apart f. node j u f; change = λ j d apart f. absurd (apart (sym f.change ∙ mine.change)) })

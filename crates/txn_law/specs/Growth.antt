@@ -3,6 +3,7 @@
 use Rattle.std.specs.Prelude.{◌≡◌, ℕ, ◌+◌, Bool, false, List, [], ◌∷◌, ◌++◌, bit_xor, slice_index, slice_set, if◌then◌else◌}
 use Rattle.atomic_table.specs.Table.{Act, State as Table, stepped}
 use Rattle.txn_records.specs.Records.{Moment, by_node, entry}
+use Rattle.txn_records.specs.declared.entry.Entry.{Entry}
 use Rattle.txn_records.specs.declared.entry.Entry.TheVariants.{Did}
 use Rattle.quiesce_word.specs.Words.{pack, unpack}
 use Rattle.quiesce_word.specs.declared.phase.Phase.TheVariants as phase
@@ -54,6 +55,16 @@ ActProlongs id n p operand e = Prolongs id (of_node n, []) p (λ x. bit_xor x op
 abbrev pub ChangeProlongs : ℕ → List NodeView → ChangeView → ℕ → (ℕ → ℕ) → Event → Type 0
 ChangeProlongs id nodes c i f e = Prolongs id (of_change nodes c, []) i f
     (λ found new. new ≡ noted (of_change nodes c, []) (Did e)) (λ found. entry (Did e) ∷ [])
+
+-- a load by which the change's record has this entry more, by the word that was found
+abbrev pub NoteProlongs : ℕ → List NodeView → ChangeView → ℕ → (ℕ → Entry) → Type 0
+NoteProlongs id nodes c i x = Prolongs id (of_change nodes c, []) i (λ w. w)
+    (λ found new. new ≡ noted (of_change nodes c, []) (x found)) (λ found. entry (x found) ∷ [])
+
+-- a load by which the change's seat stays as it is
+abbrev pub QuietProlongs : ℕ → List NodeView → ChangeView → ℕ → Type 0
+QuietProlongs id nodes c i = Prolongs id (of_change nodes c, []) i (λ w. w)
+    (λ found new. new ≡ (of_change nodes c, [])) (λ found. [])
 
 -- ---- seats that are given out and taken in
 

@@ -18,9 +18,8 @@ ghost use Rattle.node_gate.specs.Seats.{MayAsk, MayBegin, MayCallAt, MayEnd, May
 ghost use Rattle.quiesce_core.specs.Rules.{last_serial};
 ghost use Rattle.quiesce_core.specs.State as state;
 ghost use Rattle.quiesce_core.specs.declared.event.Event.TheVariants as event;
-ghost use Rattle.txn_law.specs.Growth.{ActProlongs, ChangeProlongs, GatesTable, JoinProlongs, LoadProlongs, Prolongs, RunGoesOn, SplitProlongs, asked_word, if_so};
-ghost use Rattle.txn_law.specs.Merging.{Learns, Meets, Merges};
-ghost use Rattle.txn_law.specs.Steps.{Adopts, ExchangesFor, Hears, LoadsWord, LooksAt, LooksToCall, MarksScan, Sees, Takes, value_served};
+ghost use Rattle.txn_law.specs.Growth.{ActProlongs, ChangeProlongs, GatesTable, JoinProlongs, LoadProlongs, NoteProlongs, Prolongs, QuietProlongs, RunGoesOn, SplitProlongs, asked_word, if_so};
+ghost use Rattle.txn_law.specs.Steps.{Adopts, ExchangesFor, Hears, LoadsWord, LooksToCall, Sees, Takes, value_served};
 ghost use Rattle.txn_law.specs.Traces.{Holds, first_words};
 ghost use Rattle.txn_law.specs.Views.{given_out, new_seat, nobody, node_at, nothing_done, of_change, of_node, seat_again, with_seat, with_sight, without_seat};
 ghost use Rattle.txn_law.specs.declared.view.ChangeView.{ChangeView};
@@ -74,20 +73,17 @@ pub fn node_steps_prolong_the_run()
 {}
 
 /// So it is of each step of the change on a word: the run has its event more, or its look, or its mark of a scan. The
-/// loads by which the change learns of its record, and by which it and a node that it took in meet, leave the run as
-/// it is.
+/// look by which the change merges with all nodes is one of these. A load by which it learns of its record, or meets a
+/// node that it took in, leaves the run as it is.
 pub fn change_steps_prolong_the_run()
     ensures closes { (id p : ℕ) (nodes : List NodeView) (c : ChangeView) → May c.entries (event.Close p)
         → ChangeProlongs id nodes c p (λ x. bit_or x CLOSED) (event.Close p) }
     ensures reopens { (id p : ℕ) (nodes : List NodeView) (c : ChangeView) → May c.entries (event.Reopen p)
         → ChangeProlongs id nodes c p (λ x. bit_and x ALL_BUT_CLOSED) (event.Reopen p) }
-    ensures looks { (slots id p : ℕ) (nodes : List NodeView) (c : ChangeView) → p < MAX_PORTS
-        → Prolongs id (of_change nodes c, []) p (λ x. x) (LooksAt (step slots p 0 0 none) (of_change nodes c, []))
-        (λ found. entry (Looked p found) ∷ []) }
-    ensures marks { (slots id i : ℕ) (begins moved : Bool) (nodes : List NodeView) (c : ChangeView)
-        → Prolongs id (of_change nodes c, []) i (λ x. x)
-        (MarksScan begins moved (step slots i 0 0 none) (of_change nodes c, []))
-        (λ found. entry (Scanned begins moved) ∷ []) }
+    ensures looks { (id p : ℕ) (nodes : List NodeView) (c : ChangeView) → p < MAX_PORTS
+        → NoteProlongs id nodes c p (λ found. Looked p found) }
+    ensures marks { (id i : ℕ) (begins moved : Bool) (nodes : List NodeView) (c : ChangeView)
+        → NoteProlongs id nodes c i (λ found. Scanned begins moved) }
     ensures links { (id p : ℕ) (to : Target) (nodes : List NodeView) (c : ChangeView)
         → May c.entries (event.Link p to.node to.provide)
         → ChangeProlongs id nodes c p (λ x. bit_xor x (link_difference to)) (event.Link p to.node to.provide) }
@@ -101,15 +97,7 @@ pub fn change_steps_prolong_the_run()
         → ChangeProlongs id nodes c (MAX_PORTS + n) (λ x. bit_or x (pack_slot
         (record { kind = node.kind; first_port = length (config_of c.entries).gates; arg = node.arg; from = from })))
         (event.Make n node from) }
-    ensures learns { (slots id i : ℕ) (nodes : List NodeView) (c : ChangeView)
-        → Prolongs id (of_change nodes c, []) i (λ x. x) (Learns (step slots i 0 0 none) (of_change nodes c, []))
-        (λ found. []) }
-    ensures meets { (slots id i : ℕ) (n : NodeView) (nodes : List NodeView) (c : ChangeView)
-        → Prolongs id (of_change (n ∷ nodes) c, []) i (λ x. x)
-        (Meets (step slots i 0 0 none) (of_change (n ∷ nodes) c, [])) (λ found. []) }
-    ensures merges { (slots id p : ℕ) (nodes : List NodeView) (c : ChangeView) → p < MAX_PORTS
-        → Prolongs id (of_change nodes c, []) p (λ x. x) (Merges (step slots p 0 0 none) (of_change nodes c, []))
-        (λ found. entry (Looked p found) ∷ []) }
+    ensures learns { (id i : ℕ) (nodes : List NodeView) (c : ChangeView) → QuietProlongs id nodes c i }
 {}
 
 /// A seat that is given out, given on or taken in leaves the run as it is, and one that is taken in for a sight is that sight,

@@ -1,6 +1,6 @@
 -- A second finish makes no round, and the first one isn't like it.
-use Rattle.std.proofs.Common.{◌≡◌, ◌∙◌, ◌<◌, true, false, List, [], ◌∷◌, ◌++◌, drop, length, map, take, Option, Some, None, refl, sym, ap, subst, ⊎_elim, arith}
-use Rattle.std.specs.Prelude.{◌⊎◌, codes, pos, slice_get}
+use Rattle.std.proofs.Common.{◌≡◌, ◌<◌, true, false, List, [], ◌∷◌, ◌++◌, drop, map, take, Option, Some, None, refl, ap, subst, ⊎_elim, arith}
+use Rattle.std.specs.Prelude.{codes, pos, slice_get}
 use Rattle.std.specs.Option.{option_map_or}
 use Rattle.base.specs.Each.{Each}
 use Rattle.base.proofs.EachLaws.{each_at}
@@ -19,7 +19,7 @@ use Rattle.report_types.specs.declared.report.HistoryLine.{HistoryLine}
 use Rattle.report_types.specs.declared.report.HistoryLine.TheVariants as to
 use Rattle.report_types.specs.declared.report.Report.{Report}
 use Rattle.change_law.specs.Lawful.{CameToRest, IsFinishAt, Merge, is_done}
-use Rattle.change_law.specs.Members.{Member, of_history, lines, without_roots}
+use Rattle.change_law.specs.Members.{Member, of_history}
 use Rattle.change_law.specs.Serial.{Serial, after_changes, finish_ends, is_none_left}
 use Rattle.change_law.specs.Statements.{finish, start}
 use Rattle.change_law.proofs.MemberLaws.{at_line}

@@ -15,7 +15,8 @@ use Rattle.change_law.specs.Follows.{AreRight, Follows, IsRight, IsStop, Part, l
 use Rattle.change_law.specs.Planning.{can_be_planned, planned}
 use Rattle.change_law.specs.Scene.{config_after}
 use Rattle.change_law.specs.Statements.{Statement, start}
-use Rattle.change_law.proofs.PlanningLaws.{one_plan, planned_so}
+use Rattle.change_law.proofs.PlanningLaws.{planned_so}
+use Rattle.change_plan.proofs.PlanLaws.{one_plan}
 
 -- the lines of a script's second statement, behind those of its start
 pub record AfterStart (name : List ℕ) (args : List ℤ) (g : Graph) (s : Statement) (history : List HistoryLine) : Type 0 where

@@ -7,6 +7,7 @@ use Rattle.change_law.specs.Members.{events}
 use Rattle.change_law.specs.Serial.{Serial}
 use Rattle.node_turn_laws.specs.World.{World}
 use Rattle.change_law.proofs.FoundLaws.{found_in_rounds, none_open}
+use Rattle.change_law.proofs.SerialLaws.{one_world}
 use Rattle.worked_report_laws.proofs.LaterSerialLemmas.{lone_closed, stuck_is_serial, stuck_world}
 use Rattle.worked_report_laws.specs.Stuck.{history, members, report, script, stopped, tells}
 
@@ -32,5 +33,7 @@ in_order : events members ≡ stuck_is_serial.world.events
 in_order =
     let here : events members ≡ lone_closed.events = refl in here ∙ ap (λ (w : World). w.events) (sym stuck_world)
 
-pub lawful : (serial : Serial script report) × LawfulInRounds script report serial
-lawful = (stuck_is_serial, found_in_rounds script tells stopped members report is_found stuck_is_serial refl refl in_order)
+pub lawful : (serial : Serial script report) → LawfulInRounds script report serial
+lawful serial =
+    let order = in_order ∙ ap (λ (w : World). w.events) (one_world script report report stuck_is_serial serial) in
+    found_in_rounds script tells stopped members report is_found serial refl refl order

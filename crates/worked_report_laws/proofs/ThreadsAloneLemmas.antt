@@ -1,5 +1,5 @@
 -- A report on threads that no rounds have: the finish in rounds makes six, and comes to rest.
-use Rattle.std.proofs.Common.{◌≡◌, ℕ, true, List, [], ◌∷◌, ◌++◌, drop, map, take, refl, ap, arith}
+use Rattle.std.proofs.Common.{◌≡◌, true, List, [], ◌∷◌, ◌++◌, drop, map, take, refl, ap, arith}
 use Rattle.std.specs.Prelude.{codes, fold, pos, slice_get}
 use Rattle.quiesce_core.specs.declared.event.Event.TheVariants.{Close}
 use Rattle.quiesce_laws.specs.Starts.{start_of}

@@ -17,7 +17,8 @@ use Rattle.change_law.specs.Follows.{Part, lines_of}
 use Rattle.change_law.specs.Planning.{planned}
 use Rattle.change_law.specs.Scene.{config_after}
 use Rattle.change_law.specs.Statements.{Statement, start, change}
-use Rattle.change_law.proofs.PlanningLaws.{one_plan, planned_so}
+use Rattle.change_law.proofs.PlanningLaws.{planned_so}
+use Rattle.change_plan.proofs.PlanLaws.{one_plan}
 use Rattle.change_law.proofs.StandingLaws.{graph_by}
 use Rattle.change_plan_laws.specs.Systems.{line}
 use Rattle.worked_report_laws.specs.WrongChanges.{closed_for_nothing, parts_for_nothing}

@@ -22,7 +22,7 @@ use Rattle.change_law.specs.Lawful.{EndedSince, IsDrainedAt, IsEndedAt, Merge}
 use Rattle.change_law.specs.Members.{Member, of_history, event_of, events, lines, without_roots}
 use Rattle.change_law.proofs.MemberLaws.{at_line, events_parts, lines_parts}
 use Rattle.quiesce_commit_laws.proofs.MemberLaws.{any_if, any_of}
-use Rattle.change_law.proofs.TestLaws.{some_counted}
+use Rattle.base.proofs.ListLaws.{count_by-some}
 use Rattle.worked_report_laws.specs.WrongLooks.{hasty}
 use Rattle.worked_report_laws.proofs.PlaceLemmas.{passes_there}
 use Rattle.worked_report_laws.proofs.WrongLogLemmas.{AreFew, ends_by_sources, few_behind, some_log}
@@ -42,7 +42,7 @@ none_ended : (es : List Event) (p k : ℕ) → count_by ends_transaction es ≡ 
 none_ended es p k none = ⊎_elim
     (λ (h : list_any (is_end_of p k) es ≡ true).
     let w = any_of (is_end_of p k) es h in
-    let some_ = some_counted ends_transaction es (any_if ends_transaction es w.0 w.1 (an_end p k w.0 w.2)) in
+    let some_ = count_by-some ends_transaction es (any_if ends_transaction es w.0 w.1 (an_end p k w.0 w.2)) in
     absurd (omega (arith, none, some_)))
     (λ (h : list_any (is_end_of p k) es ≡ false). h)
     (cases_Bool (list_any (is_end_of p k) es))

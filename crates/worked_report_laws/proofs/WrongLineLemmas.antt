@@ -1,6 +1,6 @@
 -- Wrong lines of starts, runs and stops, each refuted by one clause alone.
 use Rattle.std.proofs.Common.{◌≡◌, ◌∙◌, ℕ, ◌<◌, ◌≤◌, Bool, true, false, cond, List, [], ◌∷◌, ◌++◌, append_assoc, length, map, Option, Some, None, refl, sym, ap, subst, ⊎_elim, arith}
-use Rattle.std.specs.Prelude.{◌==◌, ◌⊎◌, codes, drop, find, not, is_none, pos, slice_get, take, if◌then◌else◌, All}
+use Rattle.std.specs.Prelude.{◌==◌, codes, drop, find, not, is_none, pos, slice_get, take, if◌then◌else◌, All}
 use Rattle.std.specs.List.{list_any, range_with_len}
 use Rattle.std.specs.Option.{option_map_or}
 use Rattle.std.proofs.lemmas.Bool.{both_ways}
@@ -40,7 +40,7 @@ use Rattle.worked_report_laws.specs.Ran as ran
 use Rattle.worked_report_laws.specs.Shown as shown
 use Rattle.change_plan_laws.specs.Systems.{line, sink_t, source_at}
 use Rattle.worked_report_laws.specs.Systems.{lone, one}
-use Rattle.worked_report_laws.specs.WrongLines.{finishing_two, never_reopened, outrun, shown_wrongly, starting, two_sinks, unseen}
+use Rattle.worked_report_laws.specs.WrongLines.{never_reopened, outrun, shown_wrongly, starting, two_sinks, unseen}
 use Rattle.worked_report_laws.specs.WrongLogs.{hurried}
 use Rattle.worked_report_laws.proofs.SerialLemmas.{alone_is_serial}
 use Rattle.worked_report_laws.proofs.StatementLemmas.{after_start}

@@ -33,8 +33,9 @@ use Rattle.report_types.specs.declared.report.NodeLog.{NodeLog}
 use Rattle.change_law.specs.Lawful.{EndedSince, IsEndedAt, Merge}
 use Rattle.change_law.specs.Members.{Member, by_node, of_history, event_of, events}
 use Rattle.change_law.proofs.MemberLaws.{at_line, events_of_nodes, events_parts, parted_at}
-use Rattle.change_law.proofs.TestLaws.{counted_some, some_counted}
-use Rattle.worked_report_laws.specs.WrongLogs.{altered, hurried, running_two, swapped}
+use Rattle.change_law.proofs.TestLaws.{counted_some}
+use Rattle.base.proofs.ListLaws.{count_by-some}
+use Rattle.worked_report_laws.specs.WrongLogs.{altered, hurried, swapped}
 use Rattle.worked_report_laws.proofs.PlaceLemmas.{done_at, passes_there}
 
 -- two sinks: port 1 never leads to the first
@@ -81,7 +82,7 @@ begun_high n h = by (nat_le 3 n) refl h
 
 pub begun_before : (es : List Event) → IsRun es → list_any (is_begin_of 1 3) es ≡ true → 3 ≤ (exchange (state_after es) 1).serial
 begun_before es run h =
-    begun_high (exchange (state_after es) 1).serial (subst (λ n. 1 ≤ n) (begun_count es 1 3 run) (some_counted (is_begin_of 1 3) es h))
+    begun_high (exchange (state_after es) 1).serial (subst (λ n. 1 ≤ n) (begun_count es 1 3 run) (count_by-some (is_begin_of 1 3) es h))
 
 -- it isn't taken before it was begun
 not_before : (x z after : List Event) (v : ℕ) → IsRun ((x ++ event.Take 1 3 v ∷ z) ++ event.Begin 1 3 3 ∷ after) → ⊥
@@ -93,7 +94,7 @@ not_before x z after v run =
     let front_run : IsRun front = fronts_are_runs front z (subst IsRun (sym split) here.run) in
     let order = in_order front 1 3 front_run in
     let taken : list_any (is_take_of 1 3) front ≡ true = list_any-append (is_take_of 1 3) x (event.Take 1 3 v ∷ []) ∙ or_right (list_any (is_take_of 1 3) x) true refl in
-    let some_ : 1 ≤ count_by (is_begin_of 1 3) front = omega (arith, order.taken, some_counted (is_take_of 1 3) front taken) in
+    let some_ : 1 ≤ count_by (is_begin_of 1 3) front = omega (arith, order.taken, count_by-some (is_take_of 1 3) front taken) in
     let begun : list_any (is_begin_of 1 3) before ≡ true =
     ap (list_any (is_begin_of 1 3)) (sym split) ∙ list_any-append (is_begin_of 1 3) front z
     ∙ or_left (list_any (is_begin_of 1 3) front) (list_any (is_begin_of 1 3) z) (counted_some (is_begin_of 1 3) front some_) in

@@ -1,6 +1,6 @@
 -- A wrong rest: a buffer was empty before the line before, and has an item at each place since.
 use Rattle.std.proofs.Common.{◌≡◌, ◌∙◌, ℕ, ◌<◌, ◌≤◌, Bool, true, false, List, [], ◌∷◌, ◌++◌, append_assoc, drop, length, take, Option, Some, None, refl, sym, ap, subst, ⊎_elim, arith, Contains}
-use Rattle.std.specs.Prelude.{◌||◌, ◌⊎◌, All, codes, filter_map, fold, map, if◌then◌else◌}
+use Rattle.std.specs.Prelude.{◌||◌, All, codes, filter_map, fold, map, if◌then◌else◌}
 use Rattle.std.specs.List.{count_by, list_any}
 use Rattle.std.specs.Option.{option_map_or}
 use Rattle.std.proofs.lemmas.Bool.{both_ways, or_right}
@@ -32,10 +32,10 @@ use Rattle.change_law.specs.Members.{Member, by_node, of_history, event_of, even
 use Rattle.change_law.specs.Opening.{fold_at}
 use Rattle.change_law.specs.Scene.{config_after}
 use Rattle.change_law.proofs.MemberLaws.{AtLine, all_parts, at_line, config_of_lines, events_parts, lines_of_nodes, lines_parts, parted_at}
-use Rattle.change_law.proofs.TestLaws.{some_counted}
+use Rattle.base.proofs.ListLaws.{count_by-some}
 use Rattle.worked_report_laws.specs.Filled.{log_0, log_1}
 use Rattle.worked_report_laws.specs.Systems.{buffer_at}
-use Rattle.worked_report_laws.specs.WrongRuns.{rested_before, resting_small}
+use Rattle.worked_report_laws.specs.WrongRuns.{rested_before}
 use Rattle.worked_report_laws.proofs.PlaceLemmas.{DoneAt, done_at, passes_there}
 use Rattle.worked_report_laws.proofs.WrongLogLemmas.{AreFew, ends_by_sources, few_behind, some_log}
 use Rattle.worked_report_laws.proofs.WrongRunLemmas.{behind_line, ends_in}
@@ -60,7 +60,7 @@ placed test n es rest log e did there passes few some_ =
     (λ (in_front : (z : List Event) × (es ≡ w.before ++ e ∷ z)). record { before = w.before; after = in_front.0; parts = in_front.1; does = w.does })
     (λ (behind : (z : List Event) × (rest ≡ z ++ e ∷ w.after) × (w.before ≡ es ++ z)).
     let own : 1 ≤ count_by test (behind.0 ++ e ∷ w.after) =
-    some_counted test (behind.0 ++ e ∷ w.after) (list_any-append test behind.0 (e ∷ w.after) ∙ or_right (list_any test behind.0) (list_any test (e ∷ w.after)) (ap (λ b. b || list_any test w.after) passes)) in
+    count_by-some test (behind.0 ++ e ∷ w.after) (list_any-append test behind.0 (e ∷ w.after) ∙ or_right (list_any test behind.0) (list_any test (e ∷ w.after)) (ap (λ b. b || list_any test w.after) passes)) in
     let all = count_by-append test es rest in
     let more_ : count_by test rest ≡ count_by test (behind.0 ++ e ∷ w.after) = ap (count_by test) behind.1 in
     absurd (omega (arith, few, some_, own, all, more_)))
@@ -78,7 +78,7 @@ took_before es rest run did_0 did_1 few some_ =
     ap (list_any (is_end_of 1 1)) ended.parts ∙ list_any-append (is_end_of 1 1) ended.before (event.End 1 1 1 ∷ ended.after) ∙ or_right (list_any (is_end_of 1 1) ended.before) true refl in
     let front = in_order es 1 1 (fronts_are_runs es rest run) in
     let whole = in_order (es ++ rest) 1 1 run in
-    let taken : 1 ≤ count_by (is_take_of 1 1) es = omega (arith, front.given, front.ended, some_counted (is_end_of 1 1) es so) in
+    let taken : 1 ≤ count_by (is_take_of 1 1) es = omega (arith, front.given, front.ended, count_by-some (is_end_of 1 1) es so) in
     let once : count_by (is_take_of 1 1) (es ++ rest) ≤ 1 = omega (arith, whole.taken, whole.begun) in
     placed (is_take_of 1 1) 0 es rest log_0.events (event.Take 1 1 1) did_0 (Contains-here (event.Take 1 1 1) (event.Give 1 1 1 ∷ [])) refl once taken
 

@@ -1,6 +1,6 @@
 -- Wrong numbers of runs, and logs that no node has.
 use Rattle.std.proofs.Common.{◌≡◌, ◌∙◌, ℕ, ◌+◌, ◌≤◌, true, false, List, [], ◌∷◌, ◌++◌, append_assoc, drop, length, map, take, Option, Some, None, refl, sym, ap, subst, ⊎_elim, arith}
-use Rattle.std.specs.Prelude.{◌⊎◌, All, codes, filter_map, slice_get}
+use Rattle.std.specs.Prelude.{All, codes, filter_map, slice_get}
 use Rattle.std.specs.List.{count_by}
 use Rattle.std.specs.Option.{option_map_or}
 use Rattle.base.specs.Each.{Each}
@@ -21,7 +21,7 @@ use Rattle.report_types.specs.declared.report.HistoryLine.TheVariants as to
 use Rattle.report_types.specs.declared.report.Last.TheVariants as last
 use Rattle.report_types.specs.declared.report.Report.{Report}
 use Rattle.change_law.specs.Lawful.{CameToRest, EndedSince, EndsAs, IsEndedAt, IsFolded, IsRunAt, Merge, is_done}
-use Rattle.change_law.specs.Members.{Member, by_node, of_history, event_of, events, lines}
+use Rattle.change_law.specs.Members.{Member, by_node, of_history, event_of, events}
 use Rattle.change_law.specs.Opening.{fold_of_node}
 use Rattle.change_law.specs.Serial.{Serial}
 use Rattle.change_law.proofs.MemberLaws.{at_line, events_of_nodes, events_parts, parted_at}

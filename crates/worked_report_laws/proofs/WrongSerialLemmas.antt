@@ -28,7 +28,7 @@ use Rattle.change_law.specs.Members.{Member, of_history, events, is_close, lines
 use Rattle.change_law.specs.Roots.{StoodSinceClose}
 use Rattle.change_law.proofs.StoodLaws.{stood_since}
 use Rattle.change_law.proofs.MemberLaws.{at_line, events_parts, lines_parts, parted_at}
-use Rattle.change_law.proofs.TestLaws.{some_counted}
+use Rattle.base.proofs.ListLaws.{count_by-some}
 use Rattle.worked_report_laws.specs.WrongSerials.{ahead, between, late, log_of_a}
 use Rattle.worked_report_laws.proofs.PlaceLemmas.{DoneAt}
 use Rattle.worked_report_laws.proofs.WrongChangeLemmas.{any_left, any_right}
@@ -213,7 +213,7 @@ stood_between m merge run s t =
     let b = count_by-append is_last_close (lines shut) (lines t.since) in
     let c = ap closes (lines_parts t.front (close ∷ [])) ∙ count_by-append is_last_close (lines t.front) (to.Close 1 ∷ []) in
     let d = ap closes (ap lines behind.2 ∙ lines_parts front behind.0) ∙ count_by-append is_last_close (lines front) (lines behind.0) in
-    let some_ : 1 ≤ count_by is_last_close (lines front) = some_counted is_last_close (lines front) closed in
+    let some_ : 1 ≤ count_by is_last_close (lines front) = count_by-some is_last_close (lines front) closed in
     let one : count_by is_last_close told ≡ 1 = refl in
     let own : count_by is_last_close (to.Close 1 ∷ []) ≡ 1 = refl in
     omega (arith, once, a, b, c, d, some_, one, own))
@@ -226,7 +226,7 @@ stood_between m merge run s t =
         let busy : is_idle x.phase ≡ false = busy_with 1 x open_ in
         let none : count_by (is_end_of 0 1) (events front) ≡ 0 =
         ended_count (events front) 0 1 (fronts_are_runs (events front) rest (subst IsRun is run)) ∙ (λ i. cond (nat_lt 1 (serial i) || (1 == serial i && busy i)) 1 0) in
-        omega (arith, none, some_counted (is_end_of 0 1) (events front) ended)
+        omega (arith, none, count_by-some (is_end_of 0 1) (events front) ended)
 
 pub not_between : (m : List Member) → Merge m between → IsRun (events m) → Each (StoodOpenWhereSaid m) between.history → ⊥
 not_between m merge run stood =

@@ -1,4 +1,5 @@
--- On threads each node is done at some place, and none of these is the same for all: in the end a buffer has an item.
+-- Each node is done at some place, and none of these is the same for all: in the end a buffer has an item. As a report
+-- this is lawful on threads, though two scans, the one behind the other, wouldn't see it.
 use Rattle.std.specs.Prelude.{List, [], ◌∷◌, ◌++◌, codes, map, pos, Some, None}
 use Rattle.quiesce_core.specs.declared.event.Event.TheVariants as event
 use Rattle.report_types.specs.declared.report.HistoryLine.{HistoryLine}

@@ -43,12 +43,14 @@ pub fn a_line_that_comes_to_rest_is_lawful()
 /// A source that leads nowhere isn't done, and its first round moves nothing: the finish ends there, and the source is
 /// named. This is the report of rounds, and lawful in their order.
 pub fn a_lone_source_ends_after_one_round()
-    ensures lawful { (serial : Serial alone.script alone.report) × LawfulInRounds alone.script alone.report serial }
+    ensures serial { Serial alone.script alone.report }
+    ensures lawful { (serial : Serial alone.script alone.report) → LawfulInRounds alone.script alone.report serial }
 {}
 
 /// So does a run of such a source: it is lawful in rounds, though nothing came to rest.
 pub fn a_run_of_a_lone_source_ends_after_one_round()
-    ensures lawful { (serial : Serial stuck.script stuck.report) × LawfulInRounds stuck.script stuck.report serial }
+    ensures serial { Serial stuck.script stuck.report }
+    ensures lawful { (serial : Serial stuck.script stuck.report) → LawfulInRounds stuck.script stuck.report serial }
 {}
 
 /// More transactions may end in a run than were asked for; and where all came to rest, it ends with fewer.
@@ -86,8 +88,8 @@ pub fn a_sum_with_a_further_message_is_lawful()
     ensures serial { Serial summed.script summed.report }
 {}
 
-/// On threads a finish may see each node done at a place of its own, and a buffer that was empty then may have an
-/// item in the end: it is named as unfinished. No rounds have this report.
+/// Lawful on threads, as a report, is a finish that saw each node done at a place of its own: a buffer that was empty then
+/// has an item in the end, and is named as unfinished. No two scans would see it so, and no rounds have this report.
 pub fn rest_may_be_seen_at_different_places()
     ensures lawful { LawfulOnThreads filled.script filled.report }
     ensures not_in_rounds { Serial filled.script filled.report → ⊥ }

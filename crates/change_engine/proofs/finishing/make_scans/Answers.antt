@@ -3,7 +3,7 @@ use Rattle.std.proofs.lemmas.List.{append-nil, length-append}
 use Rattle.change_engine.specs.Finishing.{ScansGoOn, ends_finish, rounds_in}
 use Rattle.change_engine.proofs.Breaking.{broke_behind}
 use Rattle.change_engine.proofs.Growing.{if_err}
-use Rattle.change_engine.proofs.Scanning.{all_push, all_quiet, rounds_pushed, scans_add, scans_are, seen_by}
+use Rattle.change_engine.proofs.Scanning.{all_push, all_quiet, rounds_pushed, scans_add, scans_are, scans_twice, seen_by}
 use Rattle.change_engine.proofs.finishing.make_scans.Goals as goal
 
 pub loop-made-init : goal.loop-made-init
@@ -12,6 +12,7 @@ loop-made-init g c = record {
   scans = [];
   all_scans = refl;
   are_scans = λ r s. tt;
+  twice = λ is r s. tt;
   go_on = tt;
   rounds_are = refl;
   few = omega arith;
@@ -33,6 +34,7 @@ loop-made-preserved g c =
       scans = inv.scans ++ w ∷ [];
       all_scans = length-append inv.scans (w ∷ []) ∙ ap (λ k. k + 1) inv.all_scans;
       are_scans = scans_are W a b d inv.scans s x inv.adds inv.are_scans;
+      twice = scans_twice W a b d inv.scans s x inv.adds inv.twice;
       go_on = all_push (ScansGoOn g.B.Board.alone) inv.scans w inv.go_on (ap (λ alone. ends_finish alone s) (sym c.is_alone-alone.ensures) ∙ sym c.if-ends_finish.ensures);
       rounds_are = ap (λ k. k + c.count_of-rounds.result) inv.rounds_are ∙ ap (λ k. rounds_in inv.scans + k) c.count_of-rounds.ensures.value ∙ sym (rounds_pushed inv.scans w);
       few = omega (arith, inv.few, c.count_of-rounds.ensures.few);
@@ -54,6 +56,7 @@ returns-then-ends_finish-clause-ok g c =
       scans = inv.scans ++ w ∷ [];
       few = omega (arith, long, c.loop-made-test);
       are_scans = scans_are W a b d inv.scans s x inv.adds inv.are_scans;
+      twice = scans_twice W a b d inv.scans s x inv.adds inv.twice;
       rounds_are = ap (λ k. k + c.count_of-rounds.result) inv.rounds_are ∙ ap (λ k. rounds_in inv.scans + k) c.count_of-rounds.ensures.value ∙ sym (rounds_pushed inv.scans w);
       ends = inl (record { before = inv.scans; final = w; parts = refl; go_on = inv.go_on; ends = ap (λ alone. ends_finish alone s) (sym c.is_alone-alone.ensures) ∙ sym c.if-ends_finish.ensures });
       adds = scans_add W a b d inv.scans s x inv.adds;
@@ -67,6 +70,7 @@ returns-clause-ok g c =
       scans = inv.scans;
       few = omega (arith, inv.all_scans, c.loop-made.auto);
       are_scans = inv.are_scans;
+      twice = inv.twice;
       rounds_are = inv.rounds_are;
       ends = inr (omega (arith, inv.all_scans, t, c.loop-made.auto), inv.go_on);
       adds = inv.adds;

@@ -5,7 +5,7 @@ use Rattle.change_engine.specs.Running.{RunsOn, ends_run}
 use Rattle.change_engine.proofs.Breaking.{broke_behind, saw_alone}
 use Rattle.change_engine.proofs.Growing.{if_err}
 use Rattle.change_engine.proofs.RunLemmas.{out_pushed, run_enough, run_on, run_out, since_pushed}
-use Rattle.change_engine.proofs.Scanning.{all_quiet, scans_add, scans_are, seen_by}
+use Rattle.change_engine.proofs.Scanning.{all_quiet, scans_add, scans_are, scans_twice, seen_by}
 use Rattle.change_engine.proofs.running.scan_until.Goals as goal
 
 pub loop-scan-init : goal.loop-scan-init
@@ -13,6 +13,7 @@ loop-scan-init g c = record {
   room = refl;
   scans = [];
   are_scans = λ r s. tt;
+  twice = λ is r s. tt;
   go_on = tt;
   not_out = refl;
   ended_is = refl;
@@ -33,6 +34,7 @@ loop-scan-preserved g c =
       room = c.in_ok-seen.ensures.room ∙ inv.room;
       scans = inv.scans ++ w ∷ [];
       are_scans = scans_are W a b d inv.scans s x inv.adds inv.are_scans;
+      twice = scans_twice W a b d inv.scans s x inv.adds inv.twice;
       go_on = (each_pushed (RunsOn W.alone c.args.k c.args.shown) inv.scans w).1 (
         inv.go_on,
         run_on W.alone c.args.k c.args.shown c.loop-scan.ended inv.scans inv.ended_is
@@ -49,6 +51,7 @@ returns-then-from-ended-clause-ok g c =
     record {
       scans = inv.scans;
       are_scans = inv.are_scans;
+      twice = inv.twice;
       go_on = inv.go_on;
       ends = run_enough g.B.Board.alone c.args.k c.args.shown c.loop-scan.ended inv.scans inv.ended_is
           (omega (arith, c.from.ensures, c.if-from-ended.true));
@@ -69,6 +72,7 @@ returns-then-ends_run-clause-ok g c =
     record {
       scans = inv.scans ++ w ∷ [];
       are_scans = scans_are W a b d inv.scans s x inv.adds inv.are_scans;
+      twice = scans_twice W a b d inv.scans s x inv.adds inv.twice;
       go_on = (each_pushed (RunsOn W.alone c.args.k c.args.shown) inv.scans w).1 (
         inv.go_on,
         run_on W.alone c.args.k c.args.shown c.loop-scan.ended inv.scans inv.ended_is

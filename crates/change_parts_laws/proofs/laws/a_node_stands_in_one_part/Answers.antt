@@ -1,4 +1,4 @@
-use Rattle.change_parts_laws.proofs.PartLemmas.{created_once, removed_once}
+use Rattle.change_parts_laws.proofs.PartLaws.{created_once, removed_once}
 use Rattle.change_parts_laws.proofs.laws.a_node_stands_in_one_part.Goals as goal
 
 pub returns-clause-removed : goal.returns-clause-removed

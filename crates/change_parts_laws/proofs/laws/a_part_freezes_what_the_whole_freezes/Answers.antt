@@ -1,4 +1,4 @@
-use Rattle.change_parts_laws.proofs.PartLemmas.{frozen_before}
+use Rattle.change_parts_laws.proofs.PartLaws.{frozen_before}
 use Rattle.change_parts_laws.proofs.laws.a_part_freezes_what_the_whole_freezes.Goals as goal
 
 pub returns : goal.returns

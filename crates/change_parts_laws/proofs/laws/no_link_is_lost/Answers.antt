@@ -1,4 +1,4 @@
-use Rattle.change_parts_laws.proofs.PartLemmas.{has_links}
+use Rattle.change_parts_laws.proofs.PartLaws.{has_links}
 use Rattle.change_parts_laws.proofs.laws.no_link_is_lost.Goals as goal
 
 pub returns : goal.returns

@@ -1,4 +1,4 @@
-use Rattle.change_parts_laws.proofs.RoomLemmas.{parts_can_carry_out}
+use Rattle.change_parts_laws.proofs.RoomLaws.{parts_can_carry_out}
 use Rattle.change_parts_laws.proofs.laws.parts_may_be_carried_out.Goals as goal
 
 pub returns : goal.returns

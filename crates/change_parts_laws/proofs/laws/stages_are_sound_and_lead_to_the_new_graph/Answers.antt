@@ -1,4 +1,4 @@
-use Rattle.change_parts_laws.proofs.PartLemmas.{last_is_new, stages_sound}
+use Rattle.change_parts_laws.proofs.PartLaws.{last_is_new, stages_sound}
 use Rattle.change_parts_laws.proofs.laws.stages_are_sound_and_lead_to_the_new_graph.Goals as goal
 
 pub returns-clause-sound : goal.returns-clause-sound

@@ -2,12 +2,12 @@
 use Rattle.command_law.specs.OneFile.{cannot_read_events, events_file_too_long}
 use Rattle.command_files.proofs.scripts.read_events.Goals as goal
 
-pub returns-in_ok-script_too_long-in-TooLong : goal.returns-in_ok-script_too_long-in-TooLong
-returns-in_ok-script_too_long-in-TooLong c =
+pub returns-in_ok-script_too_long-in-TooLong-clause-refused : goal.returns-in_ok-script_too_long-in-TooLong-clause-refused
+returns-in_ok-script_too_long-in-TooLong-clause-refused c =
     let is = c.in_ok-script_too_long-in-TooLong.ensures in
     rw (c.in-TooLong.is, is.status_is, is.text_is) events_file_too_long
 
-pub returns-in_ok-unreadable-in-Failed : goal.returns-in_ok-unreadable-in-Failed
-returns-in_ok-unreadable-in-Failed c =
+pub returns-in_ok-unreadable-in-Failed-clause-refused : goal.returns-in_ok-unreadable-in-Failed-clause-refused
+returns-in_ok-unreadable-in-Failed-clause-refused c =
     let is = c.in_ok-unreadable-in-Failed.ensures in
     rw (c.in-Failed.is, is.status_is, is.text_is) cannot_read_events

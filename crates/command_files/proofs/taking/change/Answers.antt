@@ -3,7 +3,7 @@ use Rattle.std.proofs.Common.{refl}
 use Rattle.std.proofs.lemmas.Result.{err_from_is_err_and}
 use Rattle.command_law.specs.Courses.{not_judged}
 use Rattle.command_law.specs.Lines.{changes}
-use Rattle.command_files.proofs.Lines.{change_fits, changed, found_marks, step_marks}
+use Rattle.command_files.proofs.Lines.{change_fits, changed, step_marks}
 use Rattle.command_files.proofs.taking.change.Goals as goal
 
 pub add_change-requires : goal.add_change-requires
@@ -20,11 +20,8 @@ returns-in_ok-add_change-in-Ok-clause-marks c = step_marks _ _ _ _ _ c.in_ok-add
 pub returns-in_err-add_change-in-Ok-clause-lead : goal.returns-in_err-add_change-in-Ok-clause-lead
 returns-in_err-add_change-in-Ok-clause-lead c = λ p at.
     let q = err_from_is_err_and c.from_residual.result c.from_residual.ensures.1 in
-    rw q.1 (λ rest. not_judged)
+    rw (q.1, q.2) (λ rest. not_judged)
 
 pub returns-in-Err-clause-lead : goal.returns-in-Err-clause-lead
 returns-in-Err-clause-lead c = λ p at.
-    c.refuse.ensures.lead p (changes c.args.within c.args.moves) c.args.name c.args.args at (c.in-Err.ensures.refused p at)
-
-pub returns-in-Err-clause-marks : goal.returns-in-Err-clause-marks
-returns-in-Err-clause-marks c = found_marks _ _ _ c.refuse.result c.refuse.ensures.found
+    c.refuse.ensures.stops p (changes c.args.within c.args.moves) c.args.name c.args.args at (c.in-Err.ensures.refused p at)

@@ -1,8 +1,7 @@
 -- What the run does of itself refuses nothing.
 use Rattle.std.proofs.lemmas.Result.{err_from_is_err_and}
-use Rattle.command_law.specs.Lines.{running, with_statement}
-use Rattle.command_law.specs.Schedules.{rounds}
-use Rattle.command_files.proofs.Courses.{always_short}
+use Rattle.command_law.specs.Lines.{with_statement}
+use Rattle.command_law.proofs.CourseLaws.{ends_short}
 use Rattle.command_files.proofs.Lines.{did, step_marks}
 use Rattle.change_law.specs.Asked.{statement_of}
 use Rattle.command_files.proofs.taking.do_step.Goals as goal
@@ -16,4 +15,4 @@ returns-clause-marks c = λ body no_file no_start. step_marks _ _ _ _ body c.in_
 pub returns-in_err-add_step-clause-lead : goal.returns-in_err-add_step-clause-lead
 returns-in_err-add_step-clause-lead c = λ p at.
     let q = err_from_is_err_and c.from_residual.result c.from_residual.ensures.1 in
-    rw q.1 (λ rest. always_short (running rounds) (with_statement p (statement_of c.args.step)) rest)
+    rw (q.1, q.2) (λ rest. ends_short (with_statement p (statement_of c.args.step)) rest)

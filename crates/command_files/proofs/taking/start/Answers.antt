@@ -1,6 +1,6 @@
 -- A start leads on, or is refused.
 use Rattle.command_law.specs.Lines.{starts}
-use Rattle.command_files.proofs.Lines.{found_marks, start_marks, started}
+use Rattle.command_files.proofs.Lines.{start_marks, started}
 use Rattle.command_files.proofs.taking.start.Goals as goal
 
 pub returns-in-Ok-clause-lead : goal.returns-in-Ok-clause-lead
@@ -12,7 +12,4 @@ pub returns-in-Ok-clause-marks : goal.returns-in-Ok-clause-marks
 returns-in-Ok-clause-marks c = rw c.begin.ensures (start_marks c.args.way.now c.in-Ok.start c.args.name c.args.args)
 
 pub returns-in-Err-clause-lead : goal.returns-in-Err-clause-lead
-returns-in-Err-clause-lead c = λ p at. c.refuse.ensures.lead p starts c.args.name c.args.args at (c.in-Err.ensures.refused p at)
-
-pub returns-in-Err-clause-marks : goal.returns-in-Err-clause-marks
-returns-in-Err-clause-marks c = found_marks _ _ _ c.refuse.result c.refuse.ensures.found
+returns-in-Err-clause-lead c = λ p at. c.refuse.ensures.stops p starts c.args.name c.args.args at (c.in-Err.ensures.refused p at)

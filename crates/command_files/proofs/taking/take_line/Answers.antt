@@ -48,7 +48,7 @@ pub returns-in-Show-clause-marks : goal.returns-in-Show-clause-marks
 returns-in-Show-clause-marks g c = rw c.in-Show.is (c.do_step-in-Show.ensures.marks bodies.Show refl refl)
 
 pub returns-in-Stop-clause-took : goal.returns-in-Stop-clause-took
-returns-in-Stop-clause-took g c = λ p at. rw c.in-Stop.is (none_took _ p _ _ at)
+returns-in-Stop-clause-took g c = λ p at. rw c.in-Stop.is (none_took _ _ p _ _ at)
 
 pub returns-in-Stop-clause-marks : goal.returns-in-Stop-clause-marks
 returns-in-Stop-clause-marks g c = rw c.in-Stop.is (stop_marks c.args.way.now)

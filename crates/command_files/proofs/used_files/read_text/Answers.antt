@@ -4,11 +4,11 @@ use Rattle.command_answers.specs.Statuses.{is_of_run}
 use Rattle.command_files.proofs.Lines.{text_refused}
 use Rattle.command_files.proofs.used_files.read_text.Goals as goal
 
-pub returns-in-Ok : goal.returns-in-Ok
-returns-in-Ok c = (c.args.text.now, refl, c.in-Ok.ensures.checked)
+pub returns-in-Ok-clause-read : goal.returns-in-Ok-clause-read
+returns-in-Ok-clause-read c = (c.args.text.now, refl, c.in-Ok.ensures.checked)
 
-pub returns-in_ok-refuse_description-in-Err : goal.returns-in_ok-refuse_description-in-Err
-returns-in_ok-refuse_description-in-Err c = (
+pub returns-in_ok-refuse_description-in-Err-clause-refused : goal.returns-in_ok-refuse_description-in-Err-clause-refused
+returns-in_ok-refuse_description-in-Err-clause-refused c = (
   ap is_of_run c.in_ok-refuse_description-in-Err.ensures.status_is,
   λ p rest.
       text_refused c.args.file.now c.args.text.now c.in-Err.fault c.in_ok-refuse_description-in-Err.field-0 c.in-Err.ensures.refused c.in_ok-refuse_description-in-Err.ensures p rest,

@@ -1,5 +1,5 @@
 use Rattle.command_law.specs.Lines.{behind}
-use Rattle.command_law.proofs.CourseLaws.{script_refused, statements_read, statements_unfetched, statements_unread}
+use Rattle.command_law.proofs.CourseLaws.{behind_short, script_ends_early, script_leads, script_refused, statements_read, statements_unfetched, statements_unread}
 use Rattle.command_law.proofs.laws.courses_of_runs_are_by_their_lines.Goals as goal
 
 pub returns : goal.returns
@@ -7,4 +7,6 @@ returns c = record {
   refused = λ aim. script_refused (behind aim);
   read = λ aim. statements_read (behind aim);
   short = λ aim name given. (statements_unfetched (behind aim) name, statements_unread (behind aim) name given);
+  leads = λ aim. script_leads (behind aim);
+  early = λ aim. script_ends_early (behind aim) (behind_short aim);
 }

@@ -1,22 +1,25 @@
 -- Words of no form, and want of memory, have one answer each; a command has its own.
 use Rattle.std.proofs.Common.{map, refl, string_bytes}
 use Rattle.command_answers.specs.Answers.{refusal, usage, no_memory}
-use Rattle.command_law.specs.Runs.{no_form, not_read}
+use Rattle.command_law.specs.Runs.{no_form, not_read, run_of}
 use Rattle.command_law.specs.Known.{on_one_thread}
 use Rattle.command_program.proofs.Running.{runs_alone}
 use Rattle.command_program.proofs.answering.run_words.Goals as goal
 
 pub returns-in-Ok-None-clause-runs : goal.returns-in-Ok-None-clause-runs
 returns-in-Ok-None-clause-runs g c =
-    runs_alone on_one_thread _ (refusal usage) refl (no_form (λ command asks. (rw c.in-Ok-None.field-0-is at c.in-Ok-None.ensures.none) command asks.1))
-    (rw c.as_bytes.ensures.value at c.write.ensures)
+    let seen = run_of g.H.Shelf g.K.Sink (map string_bytes c.args.words.now) c.args.shelf.now c.args.shelf.now c.args.out.now c.write.new.out c.write.result in
+    runs_alone on_one_thread seen (refusal usage) refl (no_form (λ command asks. (rw c.in-Ok-None.field-0-is at c.in-Ok-None.ensures.none) command asks.1))
+    (rw c.as_bytes.ensures.value at c.write.ensures seen)
 
 pub returns-in-Ok-Some-clause-runs : goal.returns-in-Ok-Some-clause-runs
 returns-in-Ok-Some-clause-runs g c =
     c.run_command.ensures.runs (map string_bytes c.args.words.now) (rw c.in-Ok-Some.field-0-is at c.in-Ok-Some.ensures.found)
 
 pub returns-in-Err-clause-runs : goal.returns-in-Err-clause-runs
-returns-in-Err-clause-runs g c = runs_alone on_one_thread _ (refusal no_memory) refl not_read c.no_memory.ensures
+returns-in-Err-clause-runs g c =
+    let seen = run_of g.H.Shelf g.K.Sink (map string_bytes c.args.words.now) c.args.shelf.now c.args.shelf.now c.args.out.now c.no_memory.new.out c.no_memory.result in
+    runs_alone on_one_thread seen (refusal no_memory) refl not_read (c.no_memory.ensures seen)
 
 pub returns-in-Ok-Some-clause-untouched : goal.returns-in-Ok-Some-clause-untouched
 returns-in-Ok-Some-clause-untouched g c none =

@@ -1,3 +1,5 @@
+use Rattle.std.proofs.Common.{true, refl, sym, ◌∙◌}
+use Rattle.std.proofs.lemmas.Bool.{both_ways}
 use Rattle.step_board.specs.Seeing.{found_all, sights_of}
 use Rattle.step_board.proofs.BoardLemmas.{looked_at_all, scan_entries_added, seen_at_rest, sighted_all, some_after}
 use Rattle.step_board.proofs.standing.StepBoardBoard.scan.Goals as goal
@@ -20,12 +22,15 @@ returns-clause-ok g c =
     let moved = c.in_ok-moved.moved in
     let gave = c.in_ok-moved.ensures.ok in
     let ports = c.look_at_ports-ports in
+    let exact = seen_at_rest S machine is reached folds logs logs_are old new c.args.begins moved ports.result.idle c.rests-done.result gave c.rests-done.ensures ports.ensures.idle in
     record {
       sights = sights_of (logs new);
       found = found_all (machine new);
       adds = scan_entries_added S machine is reached folds logs logs_are old new c.args.begins moved gave;
       all_sighted = λ alone. sighted_all S machine is reached folds logs logs_are old new c.args.begins moved gave;
       at_ports = looked_at_all S machine is reached folds logs logs_are old new c.args.begins moved gave;
-      done = seen_at_rest S machine is reached folds logs logs_are old new c.args.begins moved ports.result.idle c.rests-done.result gave c.rests-done.ensures ports.ensures.idle;
+      done = λ alone. exact;
+      at_rest = λ r h done. sym (exact r h) ∙ done;
+      twice = λ crowded. absurd (both_ways true crowded refl);
       ended = ports.ensures.ended;
     }

@@ -1,0 +1,9 @@
+pub mod ClassLemmas
+pub mod PairLemmas
+pub mod MemberLemmas
+pub mod StagingLemmas
+pub mod GroupLemmas
+pub mod ChangedLemmas
+pub mod TyingLemmas
+pub mod PartingLemmas
+pub mod GroupingLemmas

@@ -1,0 +1,158 @@
+-- What was seen stays seen as more is seen.
+use Rattle.std.proofs.Common.{◌≡◌, ◌∙◌, ℕ, zero, suc, ◌+◌, ◌<◌, ◌≤◌, Bool, true, false, ◌&&◌, List, [], ◌∷◌, ◌++◌, append_assoc, map, Option, Some, None, refl, sym, ap, subst, ⊎_elim, arith}
+use Rattle.std.specs.Prelude.{option_and_then, option_map}
+use Rattle.std.specs.Option.{option_map_or}
+use Rattle.std.specs.List.{list_any}
+use Rattle.std.proofs.lemmas.Bool.{and_parts, both_ways, cases_lt}
+use Rattle.std.proofs.lemmas.List.{append-nil, map-append}
+use Rattle.change_board.specs.Sights.{fold_seen, fold_seen_within, is_seen_done, seen_in, sight_entry}
+use Rattle.change_law.specs.Opening.{argument_of, fold_at}
+use Rattle.component_trait.specs.Moves as moves
+use Rattle.component_trait.specs.States.{Kept, NodeState}
+use Rattle.component_trait.specs.Tables.{opening}
+use Rattle.config_graph.specs.declared.kind.Kind.{Kind}
+use Rattle.quiesce_core.specs.State.{Configuration, is_live, slot}
+use Rattle.quiesce_core.specs.declared.event.Event.{Event}
+use Rattle.quiesce_core.specs.declared.state.Slot.{Slot}
+use Rattle.txn_records.specs.declared.entry.Entry.{Entry}
+use Rattle.live_laws.specs.Lines.{IsMadeLine, LineSight, is_in_slot}
+use Rattle.live_board.specs.Lengths.{AreLengths}
+use Rattle.live_board.specs.Seeing.{IsOfLine, SawNodes, SeesNode}
+use Rattle.live_board.proofs.LengthLaws.{seen_first, seen_next}
+
+none_is_some : {A B : Type 0} (x : A) → None ≡ Some x → B
+none_is_some x h = absurd (cc)
+
+-- what more sights show
+abbrev pub ShowsMore : (ℕ → Option (List Event)) → (ℕ → Option (List Event)) → Type 0
+ShowsMore f g = (n : ℕ) (es : List Event) → f n ≡ Some es → g n ≡ Some es
+
+module _ (c : Configuration) (f g : ℕ → Option (List Event)) (more_ : ShowsMore f g) where
+  abbrev opened : (ℕ → Option NodeState) → Slot → Option ℕ → Option Kept
+  opened before m from = option_map_or (λ k. option_map (λ (s : NodeState). s.kept) (before k)) from (Some (opening m.node.kind (argument_of m)))
+
+  abbrev own : (ℕ → Option NodeState) → Slot → List Event → Option NodeState
+  own before m es = option_and_then (fold_at m es) (opened before m m.from)
+
+  abbrev Grows : (ℕ → Option NodeState) → (ℕ → Option NodeState) → Type 0
+  Grows a b = (n : ℕ) (s : NodeState) → a n ≡ Some s → b n ≡ Some s
+
+  opened_grows : (a b : ℕ → Option NodeState) → Grows a b → (m : Slot) (from : Option ℕ) (k : Kept) → opened a m from ≡ Some k → opened b m from ≡ Some k
+  opened_grows a b h m None k at = at
+  opened_grows a b h m (Some j) k at = by (a j) refl at
+    where
+      by : (o : Option NodeState) → a j ≡ o → option_map (λ (s : NodeState). s.kept) o ≡ Some k → option_map (λ (s : NodeState). s.kept) (b j) ≡ Some k
+      by None is none_ = none_is_some k none_
+      by (Some s) is there = ap (option_map (λ (s : NodeState). s.kept)) (h j s is) ∙ there
+
+  own_grows : (a b : ℕ → Option NodeState) → Grows a b → (m : Slot) (es : List Event) (s : NodeState) → own a m es ≡ Some s → own b m es ≡ Some s
+  own_grows a b h m es s at = by (opened a m m.from) refl at
+    where
+      by : (o : Option Kept) → opened a m m.from ≡ o → option_and_then (fold_at m es) o ≡ Some s → option_and_then (fold_at m es) (opened b m m.from) ≡ Some s
+      by None is none_ = none_is_some s none_
+      by (Some k) is there = ap (option_and_then (fold_at m es)) (opened_grows a b h m m.from k is) ∙ there
+
+  step : (a b : ℕ → Option NodeState) → Grows a b → (n : ℕ) (s : NodeState)
+      → option_and_then (λ (m : Slot). option_and_then (own a m) (f n)) (slot c n) ≡ Some s → option_and_then (λ (m : Slot). option_and_then (own b m) (g n)) (slot c n) ≡ Some s
+  step a b h n s at = by (slot c n) at
+    where
+      seen : (m : Slot) (o : Option (List Event)) → f n ≡ o → option_and_then (own a m) o ≡ Some s → option_and_then (own b m) (g n) ≡ Some s
+      seen m None is none_ = none_is_some s none_
+      seen m (Some es) is there = ap (option_and_then (own b m)) (more_ n es is) ∙ own_grows a b h m es s there
+
+      by : (o : Option Slot) → option_and_then (λ (m : Slot). option_and_then (own a m) (f n)) o ≡ Some s → option_and_then (λ (m : Slot). option_and_then (own b m) (g n)) o ≡ Some s
+      by None none_ = none_is_some s none_
+      by (Some m) there = seen m (f n) refl there
+
+  within : (fuel : ℕ) → Grows (fold_seen_within c f fuel) (fold_seen_within c g fuel)
+  within zero n s at = none_is_some s at
+  within (suc fuel) n s at = step (fold_seen_within c f fuel) (fold_seen_within c g fuel) (within fuel) n s at
+
+  pub done_more : (n : ℕ) → is_seen_done c f n ≡ true → is_seen_done c g n ≡ true
+  done_more n at = by (fold_seen c f n) refl at
+    where
+      by : (o : Option NodeState) → fold_seen c f n ≡ o → option_map_or moves.is_done o false ≡ true → option_map_or moves.is_done (fold_seen c g n) false ≡ true
+      by None is none_ = absurd (both_ways false refl none_)
+      by (Some s) is there = ap (λ o. option_map_or moves.is_done o false) (within (suc n) n s is) ∙ there
+
+-- ---- one node more
+
+abbrev pub LinesAreApart : Configuration → Type 0
+LinesAreApart c = (k j : Kind) (past other : List LineSight) (last final : LineSight) (n : ℕ) → IsMadeLine c k None (past ++ last ∷ []) → IsMadeLine c j None (other ++ final ∷ [])
+    → is_live c last.slot ≡ true → is_live c final.slot ≡ true → list_any (is_in_slot n) (past ++ last ∷ []) ≡ true → list_any (is_in_slot n) (other ++ final ∷ []) ≡ true → last.slot ≡ final.slot
+
+module _ (c : Configuration) (r r1 r2 : List Entry) (lengths lengths' : List (Option ℕ)) (n : ℕ) (so_far : Bool) (h : SawNodes c r r1 lengths n so_far) where
+  -- a slot without a live node, or with one that is passed over
+  pub saw_none : (done : Bool) → (done ≡ true → so_far ≡ true) → (done ≡ true → is_live c n ≡ false) → SawNodes c r r1 lengths (n + 1) done
+  saw_none done was gone = record {
+    sights = h.sights;
+    adds = h.adds;
+    lengths_are = h.lengths_are;
+    of_lines = λ i es at. let x = h.of_lines i es at in (x.0, (let below = x.1 in omega (arith, below)), x.2, x.3);
+    seen = λ is i few live. ⊎_elim
+        (λ (below : i < n). h.seen (was is) i below live)
+        (λ (past : n ≤ i). let same : i ≡ n = omega (arith, few, past) in absurd (both_ways (is_live c i) (ap (is_live c) same ∙ gone is) live))
+        (cases_lt i n);
+  }
+
+  module _ (apart : LinesAreApart c) (live : is_live c n ≡ true) (done : Bool) (x : SeesNode c r1 r2 lengths lengths' n done) where
+    fresh : (i : ℕ) (es : List Event) → seen_in x.sights i ≡ Some es → seen_in h.sights i ≡ None
+    fresh i es at = by (seen_in h.sights i) refl
+      where
+        by : (o : Option (List Event)) → seen_in h.sights i ≡ o → seen_in h.sights i ≡ None
+        by None is = is
+        by (Some fs) is =
+            let a = h.of_lines i fs is in
+            let b = x.of_line i es at in
+            let same : a.3.last.slot ≡ b.last.slot =
+            apart a.3.kind b.kind a.3.past b.past a.3.last b.last i a.3.made b.made (ap (is_live c) a.3.is_last ∙ a.2) (ap (is_live c) b.is_last ∙ live) a.3.among b.among in
+            let one : a.0 ≡ n = sym a.3.is_last ∙ same ∙ b.is_last in
+            let below = a.1 in
+            absurd (omega (arith, one, below))
+
+    shows : ShowsMore (seen_in x.sights) (seen_in (h.sights ++ x.sights))
+    shows i es at = seen_next h.sights x.sights i (fresh i es at) ∙ at
+
+    pub saw_one : SawNodes c r r2 lengths' (n + 1) (so_far && done)
+    saw_one = record {
+      sights = h.sights ++ x.sights;
+      adds = x.adds ∙ ap (λ (q : List Entry). q ++ map sight_entry x.sights) h.adds ∙ append_assoc r (map sight_entry h.sights) (map sight_entry x.sights)
+          ∙ ap (λ (q : List Entry). r ++ q) (sym (map-append sight_entry h.sights x.sights));
+      lengths_are = x.lengths_are h.sights h.lengths_are;
+      of_lines = λ i es at. by_seen i es at (seen_in h.sights i) refl;
+      seen = λ is i few alive. ⊎_elim
+          (λ (below : i < n). done_more c (seen_in h.sights) (seen_in (h.sights ++ x.sights)) (λ j es at. seen_first h.sights x.sights j es at) i (h.seen (and_parts so_far done is).0 i below alive))
+          (λ (past : n ≤ i).
+          let same : n ≡ i = omega (arith, few, past) in
+          subst (λ j. is_seen_done c (seen_in (h.sights ++ x.sights)) j ≡ true) same
+          (done_more c (seen_in x.sights) (seen_in (h.sights ++ x.sights)) shows n (x.seen (and_parts so_far done is).1)))
+          (cases_lt i n);
+    }
+      where
+        by_seen : (i : ℕ) (es : List Event) → seen_in (h.sights ++ x.sights) i ≡ Some es → (o : Option (List Event)) → seen_in h.sights i ≡ o
+            → (s : ℕ) × (s < n + 1) × (is_live c s ≡ true) × IsOfLine c s i
+        by_seen i es at (Some fs) is = let a = h.of_lines i fs is in (a.0, (let below = a.1 in omega (arith, below)), a.2, a.3)
+        by_seen i es at None is = (n, omega arith, live, x.of_line i es (sym (seen_next h.sights x.sights i is) ∙ at))
+
+-- a node that isn't done, or isn't there
+pub sees_none : (c : Configuration) (r : List Entry) (lengths : List (Option ℕ)) (n : ℕ) (done : Bool) → done ≡ false → SeesNode c r r lengths lengths n done
+sees_none c r lengths n done off = record {
+  sights = [];
+  adds = sym (append-nil r);
+  lengths_are = λ before h. subst (λ ss. AreLengths ss lengths) (sym (append-nil before)) h;
+  of_line = λ i es at. none_is_some es at;
+  seen = λ on. absurd (both_ways done off on);
+}
+
+pub saw_nothing : (c : Configuration) (r : List Entry) (lengths : List (Option ℕ)) → AreLengths [] lengths → SawNodes c r r lengths 0 true
+saw_nothing c r lengths h = record {
+  sights = [];
+  adds = sym (append-nil r);
+  lengths_are = h;
+  of_lines = λ i es at. none_is_some es at;
+  seen = λ on i few live. absurd (omega arith);
+}
+
+pub saw_as : (c : Configuration) (r r1 r2 : List Entry) (lengths lengths' : List (Option ℕ)) (n : ℕ) (done done' : Bool) → r2 ≡ r1 → lengths' ≡ lengths → done' ≡ done → SawNodes c r r1 lengths n done → SawNodes c r r2 lengths' n done'
+saw_as c r r1 r2 lengths lengths' n done done' entries long same h =
+    subst (λ q. SawNodes c r q lengths' n done') (sym entries) (subst (λ ls. SawNodes c r r1 ls n done') (sym long) (subst (SawNodes c r r1 lengths n) (sym same) h))

@@ -1,0 +1,17 @@
+use Rattle.std.proofs.Common.{◌∙◌, ap, refl, sym}
+use Rattle.txn_gate.specs.Seats.{node_in, record_of}
+use Rattle.txn_law.specs.declared.view.ChangeView.{ChangeView}
+use Rattle.txn_records.specs.Entries.{config_of}
+use Rattle.live_board.proofs.SightingLaws.{saw}
+use Rattle.live_board.proofs.seeing.see_guest.Goals as goal
+
+pub returns-then-done-clause-seen : goal.returns-then-done-clause-seen
+returns-then-done-clause-seen c =
+    let g = c.args.guest.now in
+    let x = g.node in
+    saw (λ p. node_in p.seat) (λ p. record { slot = p.slot; first = p.first_port; arg = p.arg; log = p.log.items }) (λ p. p.told _ refl) x.past.items (node_in x.seat) _ _
+    (config_of (record_of c.args.seat.now)) (record_of c.args.seat.now) (record_of c.sight.new.seat) c.args.lengths.now.items c.note_line.new.lengths.items c.done-done.result
+    (x.hosted.tells _ refl) g.line x.hosted.folds c.sight.ensures.made (sym c.done-done.ensures ∙ c.if-done.true)
+    (λ line seats. c.seats_tell_of_their_line.ensures.made (config_of (record_of c.args.seat.now)) _ line seats)
+    (λ past. c.done_nodes_are_seen_as_done.ensures.done (record_of c.args.seat.now) _ past _ _ c.requires.known)
+    (ap (λ (k : ChangeView). k.entries) c.sight.ensures.change) c.note_line.ensures.lengths

@@ -1,0 +1,4 @@
+pub mod Keeping
+pub mod Lengths
+pub mod Looking
+pub mod Seeing

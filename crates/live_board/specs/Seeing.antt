@@ -1,0 +1,42 @@
+-- What a scan sees of nodes.
+use Rattle.std.specs.Prelude.{◌≡◌, ℕ, ◌<◌, Bool, true, List, [], ◌∷◌, ◌++◌, map, Option, Some, None}
+use Rattle.std.specs.List.{list_any}
+use Rattle.change_board.specs.Sights.{Sight, is_seen_done, seen_in, sight_entry}
+use Rattle.config_graph.specs.declared.kind.Kind.{Kind}
+use Rattle.live_board.specs.Lengths.{AreLengths}
+use Rattle.live_hall.specs.declared.guest.Guest.{Guest}
+use Rattle.live_laws.specs.Lines.{IsMadeLine, LineSight, is_in_slot}
+use Rattle.quiesce_core.specs.State.{Configuration, is_live}
+use Rattle.quiesce_core.specs.declared.event.Event.{Event}
+use Rattle.txn_records.specs.declared.entry.Entry.{Entry}
+
+-- what is seen of a line, the earliest node first
+abbrev pub sights_of : Guest → List Sight
+sights_of x = map (λ p. record { slot = p.slot; events = p.log.items }) x.node.past.items ++ record { slot = x.node.slot; events = x.node.log.items } ∷ []
+
+-- the configuration made a line whose last node is in this slot, and the other is one of it
+pub record IsOfLine (c : Configuration) (slot n : ℕ) : Type 0 where
+  pub kind : Kind
+  pub past : List LineSight
+  pub last : LineSight
+  pub made : IsMadeLine c kind None (past ++ last ∷ [])
+  pub is_last : last.slot ≡ slot
+  pub among : list_any (is_in_slot n) (past ++ last ∷ []) ≡ true
+
+-- Of the node in this slot: where it is done it was sighted with its line, by which it is seen as done; and the lengths
+-- of what was seen so far go on.
+pub record SeesNode (c : Configuration) (r r' : List Entry) (lengths lengths' : List (Option ℕ)) (slot : ℕ) (done : Bool) : Type 0 where
+  pub sights : List Sight
+  pub adds : r' ≡ r ++ map sight_entry sights
+  pub lengths_are : (before : List Sight) → AreLengths before lengths → AreLengths (before ++ sights) lengths'
+  pub of_line : (n : ℕ) (es : List Event) → seen_in sights n ≡ Some es → IsOfLine c slot n
+  pub seen : done ≡ true → is_seen_done c (seen_in sights) slot ≡ true
+
+-- Of all nodes in slots below this: each sight is of the line of a live one; and where all were done, each live one is
+-- seen as done.
+pub record SawNodes (c : Configuration) (r r' : List Entry) (lengths : List (Option ℕ)) (slots : ℕ) (done : Bool) : Type 0 where
+  pub sights : List Sight
+  pub adds : r' ≡ r ++ map sight_entry sights
+  pub lengths_are : AreLengths sights lengths
+  pub of_lines : (n : ℕ) (es : List Event) → seen_in sights n ≡ Some es → (slot : ℕ) × (slot < slots) × (is_live c slot ≡ true) × IsOfLine c slot n
+  pub seen : done ≡ true → (n : ℕ) → n < slots → is_live c n ≡ true → is_seen_done c (seen_in sights) n ≡ true

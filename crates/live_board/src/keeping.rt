@@ -1,0 +1,103 @@
+//! What a board keeps: removed nodes, by slot, and empty lists for the pasts of nodes to be made.
+
+ghost use Rattle.std.specs.Prelude.{◌≡◌, ◌<◌, ◌≤◌, IfOk, IfSome, OnOk, length};
+ghost use Rattle.config_graph.specs.declared.TheConstants.{MAX_NODES};
+ghost use Rattle.live_board.specs.Keeping.{AreKept, HaveRoom};
+ghost use Rattle.live_hall.specs.Houses.{FitsCell};
+
+use crate::blank::Blank;
+use config_graph::NoMemory;
+use live_hall::{Door, Guest, Named};
+use std::alloc::Global;
+use std::sync::Wait;
+use std::thread;
+
+/// The node of a slot, once it lies in the hall.
+pub fn await_guest<J: Named, R: Wait>(rt: &R, door: &mut Door<J, R>, slot: u32) -> Guest
+    requires { slot < MAX_NODES }
+    ensures { FitsCell J.gates slot result }
+{
+    for _ in rt.forever() {
+        if let Some(guest) = door.take(slot) {
+            return guest;
+        }
+        thread::yield_now();
+    }
+    unreachable!()
+}
+
+/// Makes a place for the removed node of each slot below this.
+pub fn make_places<J: Named>(kept: &mut Vec<Option<Guest>>, slots: u32) -> Result<(), NoMemory>
+    requires { AreKept J.gates kept.old.items }
+    ensures { AreKept J.gates kept.new.items }
+{
+    for _ in kept.len()..slots as usize {
+        kept.push(None)?;
+    }
+    Ok(())
+}
+
+/// Puts a removed node away: into its place, or into the hall where it has none.
+pub fn put_away<J: Named, R: Wait>(
+    kept: &mut Vec<Option<Guest>>,
+    door: &mut Door<J, R>,
+    slot: u32,
+    guest: Guest,
+)
+    requires slot { slot < MAX_NODES }
+    requires fits { FitsCell J.gates slot guest }
+    requires kept { AreKept J.gates kept.old.items }
+    ensures kept { AreKept J.gates kept.new.items }
+    ensures door { door.new ≡ door.old }
+{
+    let at = slot as usize;
+    if at < kept.len() {
+        kept[at] = Some(guest);
+    } else {
+        door.put(guest);
+    }
+}
+
+/// What lies in a place, if there is one.
+fn taken_out<J: Named>(kept: &mut Vec<Option<Guest>>, slot: u32) -> Option<Guest>
+    requires { AreKept J.gates kept.old.items }
+    ensures fits { IfSome result (FitsCell J.gates slot) }
+    ensures kept { AreKept J.gates kept.new.items }
+{
+    let at = slot as usize;
+    if at < kept.len() {
+        kept[at].take()
+    } else {
+        None
+    }
+}
+
+/// The removed node of a slot: from its place, or else from the hall.
+pub fn take_back<J: Named, R: Wait>(
+    rt: &R,
+    kept: &mut Vec<Option<Guest>>,
+    door: &mut Door<J, R>,
+    slot: u32,
+) -> Guest
+    requires slot { slot < MAX_NODES }
+    requires kept { AreKept J.gates kept.old.items }
+    ensures fits { FitsCell J.gates slot result }
+    ensures kept { AreKept J.gates kept.new.items }
+{
+    match taken_out::<J>(kept, slot) {
+        Some(guest) => guest,
+        None => await_guest(rt, door, slot),
+    }
+}
+
+/// So many empty lists, each with room for so many earlier nodes.
+pub fn blanks(alloc: Global, nodes: u32, lines: u32) -> Result<Vec<Blank>, NoMemory>
+    ensures { IfOk result (λ v. HaveRoom v.items nodes lines) }
+{
+    let mut all = Vec::with_capacity(alloc, nodes as usize)?;
+    for _ in 0..nodes {
+        let blank = Blank::new(alloc, lines)?;
+        all.push(blank)?;
+    }
+    Ok(all)
+}

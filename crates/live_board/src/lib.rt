@@ -1,0 +1,11 @@
+//! The board over the gates: what a change acts on while nodes take their turns in other threads.
+#![tactic(auto)]
+
+mod blank;
+mod keeping;
+mod looking;
+mod seeing;
+mod stile;
+mod turning;
+
+pub use stile::{Free, Turnstile};

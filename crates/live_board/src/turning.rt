@@ -1,0 +1,58 @@
+//! The turns that a scan gives.
+
+ghost use Rattle.std.specs.Prelude.{◌≡◌, ◌≤◌, ◌<◌};
+ghost use Rattle.config_graph.specs.declared.TheConstants.{MAX_NODES};
+ghost use Rattle.txn_gate.specs.Seats.{IsChangeSeatOf};
+
+use crate::stile::Turnstile;
+use config_graph::NoMemory;
+use live_hall::{Door, Named};
+use live_hands::Hand;
+use node_host::Turn;
+use std::sync::Wait;
+use txn_gate::{ChangeSeat, Gates};
+
+/// Gives the node of a slot a turn, where it lies in the hall. Tells whether it moved. After want of memory the node lies
+/// there again.
+fn give_turn<J: Named, R: Wait, T: Turnstile>(
+    gates: &Gates,
+    door: &mut Door<J, R>,
+    hand: &mut Hand<R>,
+    stile: &T,
+    slot: u32,
+    begins: bool,
+) -> Result<bool, NoMemory>
+    requires named { J.gates ≡ gates.now.words.shared.table_id }
+    requires slot { slot < MAX_NODES }
+{
+    let Some(mut guest) = door.take(slot) else {
+        return Ok(false);
+    };
+    stile.before(0, slot);
+    let turn = guest.turn(gates, hand, begins);
+    door.put(guest);
+    Ok(matches!(turn?, Turn::Moved(_)))
+}
+
+/// Gives each live node that lies in the hall a turn, in the order of slots. Tells whether one moved.
+pub fn give_turns<J: Named, R: Wait, T: Turnstile>(
+    gates: &Gates,
+    seat: &ChangeSeat,
+    door: &mut Door<J, R>,
+    hand: &mut Hand<R>,
+    stile: &T,
+    slots: u32,
+    begins: bool,
+) -> Result<bool, NoMemory>
+    requires named { J.gates ≡ gates.now.words.shared.table_id }
+    requires few { slots ≤ MAX_NODES }
+{
+    let mut moved = false;
+    for slot in 0..slots {
+        if seat.is_live(slot) {
+            let more = give_turn(gates, door, hand, stile, slot, begins)?;
+            moved = moved | more;
+        }
+    }
+    Ok(moved)
+}

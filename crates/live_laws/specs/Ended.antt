@@ -1,0 +1,49 @@
+-- What a system on threads leaves behind: a report, and the seat of its change, with its record and the nodes that it
+-- took in for good.
+use Rattle.std.specs.Prelude.{◌≡◌, false, List, None, map, length, All}
+use Rattle.std.specs.List.{range_with_len}
+use Rattle.base.specs.Each.{Each}
+use Rattle.change_board.specs.Bearing.{Bears}
+use Rattle.change_board.specs.Collecting.{IsEndOf, first_undone}
+use Rattle.change_board.specs.Transcripts.{Item, entries, lines}
+use Rattle.change_engine.specs.Ending.{unfinished_after}
+use Rattle.change_law.specs.Endings.{status_of}
+use Rattle.change_law.specs.Lawful.{LawfulOnThreads}
+use Rattle.change_law.specs.Statements.{Statement}
+use Rattle.report_types.specs.declared.report.NodeLog.{NodeLog}
+use Rattle.report_types.specs.declared.report.Report.{Report}
+use Rattle.txn_records.specs.Entries.{config_of}
+use Rattle.txn_records.specs.declared.entry.Entry.{Entry}
+use Rattle.txn_law.specs.Views.{log_in}
+use Rattle.txn_law.specs.declared.view.NodeView.{NodeView}
+use Rattle.change_transcript_laws.specs.Pieces.{IsTranscript}
+use Rattle.change_transcript_laws.specs.Reports.{taken_in}
+use Rattle.change_transcript_laws.specs.Rests.{FinishedEarly, RestedIfShort}
+use Rattle.quiesce_core.specs.declared.event.Event.{Event}
+
+-- the events of each node made, by slot, as the seat took them in
+abbrev pub collected_logs : List Entry → List NodeView → List (List Event)
+collected_logs r nodes = map (log_in nodes) (range_with_len 0 (length (config_of r).slots))
+
+-- the statements were carried out on the board whose seat has this record, and the logs were taken in
+pub record CarriedOutOnThreads (statements : List Statement) (report : Report) (r : List Entry) (nodes : List NodeView) : Type 0 where
+  pub transcript : List Item
+  pub is_transcript : IsTranscript false statements transcript
+  pub record_is : entries transcript ≡ r
+  pub history_is : report.history ≡ lines transcript
+  pub logs_are : taken_in report ≡ collected_logs r nodes
+  pub slots : map (λ (l : NodeLog). l.slot) report.logs ≡ range_with_len 0 (length (config_of r).slots)
+  pub ends : All (IsEndOf (config_of r) (collected_logs r nodes)) report.logs
+  pub unfinished_is : report.unfinished ≡ unfinished_after report.history (first_undone (config_of r) (collected_logs r nodes))
+  pub status_is : report.status ≡ status_of report.history report.unfinished
+
+-- The report is lawful on threads by members in which all rested at one place where a run ended with fewer transactions
+-- than were asked for, or a finish made fewer rounds than were allowed. The record bears it, and its logs are what was
+-- taken in, slot by slot. Where a finish made fewer rounds and no change was committed behind it, no node is named as
+-- undone.
+pub record AgreesWith (statements : List Statement) (report : Report) (r : List Entry) (nodes : List NodeView) : Type 0 where
+  pub lawful : LawfulOnThreads statements report
+  pub at_once : Each RestedIfShort lawful.lawful.members
+  pub bears : Bears r report.history
+  pub logs_are : taken_in report ≡ collected_logs r nodes
+  pub early : FinishedEarly report.history → report.unfinished ≡ None

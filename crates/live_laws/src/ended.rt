@@ -1,0 +1,48 @@
+//! What a system on threads leaves behind.
+
+ghost use Rattle.std.specs.Prelude.{◌≡◌, ℕ, false, List, [], ◌∷◌, ◌++◌};
+ghost use Rattle.change_law.specs.Statements.{Statement};
+ghost use Rattle.change_runner.specs.Ran.{HasCarriedOut};
+ghost use Rattle.report_types.specs.declared.report.Report.{Report};
+ghost use Rattle.txn_records.specs.declared.entry.Entry.{Entry};
+ghost use Rattle.txn_records.specs.declared.entry.Entry.TheVariants.{Looked};
+ghost use Rattle.txn_law.specs.Merging.{MergeIntoRun};
+ghost use Rattle.txn_law.specs.declared.view.NodeView.{NodeView};
+ghost use Rattle.change_transcript_laws.specs.Rests.{FinishedEarly};
+ghost use Rattle.live_laws.specs.Ended.{AgreesWith, CarriedOutOnThreads, collected_logs};
+ghost use Rattle.worked_report_laws.specs.Filled as filled;
+
+use change_board::Board;
+use change_transcript_laws::{
+    early_finishes_leave_nothing_undone, records_and_transcripts_join, records_bear_their_reports,
+    reports_of_threads_are_lawful,
+};
+
+/// Where the last look of the change's seat showed that its record and what it took in are of one run, the report of
+/// the statements that were carried out is lawful, the record bears it, and its logs are what was taken in.
+pub fn reports_agree_with_their_seat()
+    ensures agrees { (statements : List Statement) (report : Report) (r : List Entry) (p w : ℕ) (nodes : List NodeView)
+        → CarriedOutOnThreads statements report r nodes → MergeIntoRun (r ++ Looked p w ∷ []) nodes
+        → AgreesWith statements report r nodes }
+{
+    early_finishes_leave_nothing_undone();
+    records_and_transcripts_join();
+    records_bear_their_reports();
+    reports_of_threads_are_lawful();
+}
+
+/// What a runner carried out on a board that isn't alone is so, where the board stands for the record of the seat alone,
+/// and took in the logs that the seat took in.
+pub fn boards_carry_out_on_threads<B: Board>()
+    ensures carried { (statements : List Statement) (report : Report) (board : B) (r : List Entry)
+        (nodes : List NodeView) → B.alone ≡ false → ((t : List Entry) → B.stands_for board t → t ≡ r)
+        → B.taken board ≡ collected_logs r nodes → HasCarriedOut B.Board statements report board
+        → CarriedOutOnThreads statements report r nodes }
+{}
+
+/// Two scans, the one behind the other, see no rest that was at different places. So the worked report in which a finish
+/// made no round, and a node is named as undone, is lawful on threads, and agrees with no seat.
+pub fn rest_at_different_places_agrees_with_no_seat()
+    ensures early { FinishedEarly filled.report.history }
+    ensures refuted { (r : List Entry) (nodes : List NodeView) → AgreesWith filled.script filled.report r nodes → ⊥ }
+{}

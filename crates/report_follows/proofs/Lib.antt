@@ -1,0 +1,7 @@
+mod SortedLemmas
+mod FrontLemmas
+mod LineLemmas
+mod ChangeLemmas
+mod OpeningLemmas
+mod FoundLemmas
+mod ExpectedLemmas

@@ -1,0 +1,11 @@
+//! The parts of a history, read from its front: a start, the opening and the ends of a change, and the stop. What is read
+//! is exact both ways: where the lines begin so their rest is found, and where none is found they don't.
+#![tactic(auto)]
+
+mod fronts;
+mod laws;
+mod reading;
+mod testing;
+
+pub use laws::what_is_expected_may_be_read;
+pub use reading::{after_committed, after_given_up, after_opening, after_start, is_stop};
