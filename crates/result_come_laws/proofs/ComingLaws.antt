@@ -40,17 +40,17 @@ use Rattle.result_come_laws.specs.Coming.{HasFolds, come}
 use Rattle.result_come_laws.proofs.AgreeingLaws.{agreed, change_does, doer_lives}
 use Rattle.result_come_laws.proofs.FactLaws.{Facts, FoldsTo}
 
-abbrev opened : List Event → Slot → Option Kept
-opened es m = option_map_or (λ k. option_map (λ (s : NodeState). s.kept) (fold_of_node es k)) m.from (Some (opening m.node.kind (argument_of m)))
+abbrev opening_of : List Event → Slot → Option Kept
+opening_of es m = option_map_or (λ k. option_map (λ (s : NodeState). s.kept) (fold_of_node es k)) m.from (Some (opening m.node.kind (argument_of m)))
 
-fold_is : StatesAreHanded → (es : List Event) → IsRun es → (n : ℕ) (m : Slot) → slot (state_after es).config n ≡ Some m → fold_of_node es n ≡ option_and_then (fold_at m (done_by n es)) (opened es m)
+fold_is : StatesAreHanded → (es : List Event) → IsRun es → (n : ℕ) (m : Slot) → slot (state_after es).config n ≡ Some m → fold_of_node es n ≡ option_and_then (fold_at m (done_by n es)) (opening_of es m)
 fold_is handed es run n m there = by m.from refl
   where
     unfolded : fold_of_node es n ≡ option_and_then (fold_at m (done_by n es)) (option_map_or (λ k. option_map (λ (s : NodeState). s.kept) (fold_within es n k)) m.from (Some (opening m.node.kind (argument_of m))))
     unfolded = ap (option_and_then (λ (x : Slot). option_and_then (fold_at x (done_by n es))
         (option_map_or (λ k. option_map (λ (s : NodeState). s.kept) (fold_within es n k)) x.from (Some (opening x.node.kind (argument_of x)))))) there
 
-    by : (from : Option ℕ) → m.from ≡ from → fold_of_node es n ≡ option_and_then (fold_at m (done_by n es)) (opened es m)
+    by : (from : Option ℕ) → m.from ≡ from → fold_of_node es n ≡ option_and_then (fold_at m (done_by n es)) (opening_of es m)
     by None is =
         unfolded
         ∙ ap (λ o. option_and_then (fold_at m (done_by n es)) (option_map_or (λ k. option_map (λ (s : NodeState). s.kept) (fold_within es n k)) o (Some (opening m.node.kind (argument_of m))))) is
@@ -66,12 +66,12 @@ pub record Came (es : List Event) (n : ℕ) (m : Slot) : Type 0 where
   pub is : fold_at m (done_by n es) kept ≡ Some (come es n)
 
 pub came : StatesAreHanded → (es : List Event) → IsRun es → HasFolds es → (n : ℕ) (m : Slot) → slot (state_after es).config n ≡ Some m → Came es n m
-came handed es run folds n m there = by (opened es m) refl
+came handed es run folds n m there = by (opening_of es m) refl
   where
     t : (x : NodeState) × (fold_of_node es n ≡ Some x)
     t = Some-from_is_some (fold_of_node es n) (folds.all n m there)
 
-    by : (o : Option Kept) → opened es m ≡ o → Came es n m
+    by : (o : Option Kept) → opening_of es m ≡ o → Came es n m
     by None none_ = absurd (none-some _ (sym (ap (option_and_then (fold_at m (done_by n es))) none_) ∙ sym (fold_is handed es run n m there) ∙ t.1))
     by (Some kept) some_ = record {
       kept = kept;
@@ -192,7 +192,7 @@ module _ (handed : StatesAreHanded) (es : List Event) (e : Event) (here : IsNext
       own_kept = Some (opening m.node.kind (argument_of m))
 
       same_kept : (from : Option ℕ) → m.from ≡ from → ((k : ℕ) (old : Slot) → k < bound → slot (state_after es).config k ≡ Some old → old.live ≡ false → fold_of_node (es ++ e ∷ []) k ≡ fold_of_node es k)
-          → opened (es ++ e ∷ []) after.then_ ≡ opened es m
+          → opening_of (es ++ e ∷ []) after.then_ ≡ opening_of es m
       same_kept None is earlier =
           (λ i. option_map_or (λ k. option_map (λ (s : NodeState). s.kept) (fold_of_node (es ++ e ∷ []) k)) (after.from i) (Some (opening (after.node i).kind (argument_of (record after.then_ { node = after.node i })))))
           ∙ ap (λ o. option_map_or (λ k. option_map (λ (s : NodeState). s.kept) (fold_of_node (es ++ e ∷ []) k)) o own_kept) is
@@ -209,10 +209,10 @@ module _ (handed : StatesAreHanded) (es : List Event) (e : Event) (here : IsNext
           → fold_of_node (es ++ e ∷ []) n ≡ cond (is_doer (state_after es) n e) (fold_next m.first_port (fold_of_node es n) e) (fold_of_node es n)
       by from is earlier =
           fold_is handed (es ++ e ∷ []) run' n after.then_ (ap (λ (x : State). slot x.config n) (state_more es e) ∙ after.there)
-          ∙ same_made after.then_ m (done_by n (es ++ e ∷ [])) (opened (es ++ e ∷ []) after.then_) after.node after.first
+          ∙ same_made after.then_ m (done_by n (es ++ e ∷ [])) (opening_of (es ++ e ∷ []) after.then_) after.node after.first
           ∙ ap (option_and_then (fold_at m (done_by n (es ++ e ∷ [])))) (same_kept from is earlier)
-          ∙ ap (λ xs. option_and_then (fold_at m xs) (opened es m)) (done_by_more n es e)
-          ∙ by_doer m (done_by n es) (opened es m) (is_doer (state_after es) n e)
+          ∙ ap (λ xs. option_and_then (fold_at m xs) (opening_of es m)) (done_by_more n es e)
+          ∙ by_doer m (done_by n es) (opening_of es m) (is_doer (state_after es) n e)
           ∙ ap (λ o. cond (is_doer (state_after es) n e) (fold_next m.first_port o e) o) (sym (fold_is handed es here.run n m there))
 
   grows : (n : ℕ) (m : Slot) → slot (state_after es).config n ≡ Some m → fold_of_node (es ++ e ∷ []) n ≡ cond (is_doer (state_after es) n e) (fold_next m.first_port (fold_of_node es n) e) (fold_of_node es n)
@@ -312,10 +312,10 @@ module _ (handed : StatesAreHanded) (es : List Event) (i : ℕ) (node : Node) (f
       k : ℕ
       k = length (state_after es).config.slots
 
-      folded : fold_of_node (es ++ Make i node from ∷ []) k ≡ option_and_then (fold_at new_one []) (opened (es ++ Make i node from ∷ []) new_one)
-      folded = fold_is handed (es ++ Make i node from ∷ []) run' k new_one new_there ∙ ap (λ xs. option_and_then (fold_at new_one xs) (opened (es ++ Make i node from ∷ []) new_one)) nothing_done
+      folded : fold_of_node (es ++ Make i node from ∷ []) k ≡ option_and_then (fold_at new_one []) (opening_of (es ++ Make i node from ∷ []) new_one)
+      folded = fold_is handed (es ++ Make i node from ∷ []) run' k new_one new_there ∙ ap (λ xs. option_and_then (fold_at new_one xs) (opening_of (es ++ Make i node from ∷ []) new_one)) nothing_done
 
-      then_ : (kept : Kept) → opened (es ++ Make i node from ∷ []) new_one ≡ Some kept → (come (es ++ Make i node from ∷ []) k).kept ≡ kept
+      then_ : (kept : Kept) → opening_of (es ++ Make i node from ∷ []) new_one ≡ Some kept → (come (es ++ Make i node from ∷ []) k).kept ≡ kept
       then_ kept is = ap (λ o. (unwrap_or o (at_rest Fork 0 nothing)).kept) (folded ∙ ap (option_and_then (fold_at new_one [])) is)
 
       by : (o : Option ℕ) → from ≡ o → (come (es ++ Make i node from ∷ []) k).kept ≡ given_to es node o

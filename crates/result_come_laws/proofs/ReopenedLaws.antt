@@ -42,17 +42,17 @@ opens_rootless P before (to.Reopen p) w = record {
 }
 opens_rootless P before _ w = tt
 
-rootless : (P : Graph → Type 0) (before xs : List HistoryLine) → EachAfter (Opens P) before xs → EachAfter (Opens P) (without_roots before) (without_roots xs)
-rootless P before [] each = tt
-rootless P before (l ∷ xs) each = ⊎_elim
+roots_aside : (P : Graph → Type 0) (before xs : List HistoryLine) → EachAfter (Opens P) before xs → EachAfter (Opens P) (without_roots before) (without_roots xs)
+roots_aside P before [] each = tt
+roots_aside P before (l ∷ xs) each = ⊎_elim
     (λ (e : is_root l ≡ true).
     subst (EachAfter (Opens P) (without_roots before)) (sym (rooted l xs e))
     (subst (λ ys. EachAfter (Opens P) ys (without_roots xs)) (filter-append (λ x. not (is_root x)) before (l ∷ []) ∙ ap (λ ys. without_roots before ++ ys) (rooted l [] e) ∙ append-nil (without_roots before))
-    (rootless P (before ++ l ∷ []) xs each.1)))
+    (roots_aside P (before ++ l ∷ []) xs each.1)))
     (λ (e : is_root l ≡ false).
     subst (EachAfter (Opens P) (without_roots before)) (sym (kept l xs e)) (
       opens_rootless P before l each.0,
-      subst (λ ys. EachAfter (Opens P) ys (without_roots xs)) (filter-append (λ x. not (is_root x)) before (l ∷ []) ∙ ap (λ ys. without_roots before ++ ys) (kept l [] e)) (rootless P (before ++ l ∷ []) xs each.1),
+      subst (λ ys. EachAfter (Opens P) ys (without_roots xs)) (filter-append (λ x. not (is_root x)) before (l ∷ []) ∙ ap (λ ys. without_roots before ++ ys) (kept l [] e)) (roots_aside P (before ++ l ∷ []) xs each.1),
     ))
     (cases_Bool (is_root l))
 
@@ -65,7 +65,7 @@ pub reopened_at : EachMayCommit → CommitsByConfiguration → CommitsLeaveGraph
     → Follows statements report.history → Merge m report → IsRun (events m) → (before after : List Member) (p : _) → m ≡ before ++ of_history (to.Reopen p) ∷ after → NamedAt P before
 reopened_at each_may by_config leaves statements P report m sound all follows merge goes before after p parts =
     let changed : filter is_of_change (events m) ≡ changes report.history = changes_are_lines m merge.by_nodes ∙ ap changes merge.history ∙ events_without_roots report.history in
-    let each = rootless P [] report.history (history_opens each_may by_config leaves statements P report.history sound all follows (subst IsRun changed (changes_run (events m) goes))) in
+    let each = roots_aside P [] report.history (history_opens each_may by_config leaves statements P report.history sound all follows (subst IsRun changed (changes_run (events m) goes))) in
     let there : without_roots report.history ≡ lines before ++ to.Reopen p ∷ lines after = sym merge.history ∙ ap lines parts ∙ lines_parts before (of_history (to.Reopen p) ∷ after) in
     let here = each_at (Opens P) (lines before) (lines after) (to.Reopen p) (subst (Each (Opens P)) there each) in
     let kinds = (all_parts IsOfItsKind before (of_history (to.Reopen p) ∷ after) (subst (All IsOfItsKind) parts merge.by_nodes)).0 in

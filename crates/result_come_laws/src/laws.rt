@@ -35,12 +35,13 @@ pub fn nodes_agree_with_their_folds()
 /// Where each node made has a fold, an event of a node leads on its own fold, by what its kind does, and no other:
 /// through any chain of nodes that took over from one another.
 pub fn folds_go_on_by_events_of_their_nodes()
-    ensures own { (es : List Event) (e : Event) → IsRun (es ++ e ∷ []) → HasFolds (es ++ e ∷ []) → is_of_change e ≡ false
-        → (n : ℕ) (m : Slot) → slot (state_after es).config n ≡ Some m → is_doer (state_after es) n e ≡ true
+    ensures own { (es : List Event) (e : Event) → IsRun (es ++ e ∷ []) → HasFolds (es ++ e ∷ [])
+        → is_of_change e ≡ false → (n : ℕ) (m : Slot) → slot (state_after es).config n ≡ Some m
+        → is_doer (state_after es) n e ≡ true
         → (s t : NodeState) → fold_of_node es n ≡ Some s → fold_of_node (es ++ e ∷ []) n ≡ Some t
         → after_event m.first_port s e ≡ Some t }
-    ensures others { (es : List Event) (e : Event) → IsRun (es ++ e ∷ []) → HasFolds (es ++ e ∷ []) → is_of_change e ≡ false
-        → (n : ℕ) → is_doer (state_after es) n e ≡ false
+    ensures others { (es : List Event) (e : Event) → IsRun (es ++ e ∷ []) → HasFolds (es ++ e ∷ [])
+        → is_of_change e ≡ false → (n : ℕ) → is_doer (state_after es) n e ≡ false
         → (s t : NodeState) → fold_of_node es n ≡ Some s → fold_of_node (es ++ e ∷ []) n ≡ Some t → t ≡ s }
 {
     a_moved_state_is_the_last_one();

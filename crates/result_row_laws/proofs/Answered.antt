@@ -1,8 +1,8 @@
 -- Which transactions of a row are answered: a Begin is its source's, and a run begins a port's serial once.
-use Rattle.std.proofs.Common.{◌≡◌, ◌∙◌, ℕ, zero, suc, ◌+◌, ◌<◌, ◌≤◌, Bool, true, false, cond, List, [], ◌∷◌, ◌++◌, append_assoc, length, Option, Some, None, refl, sym, ap, subst, arith, inl, inr, ⊎_elim}
-use Rattle.std.specs.Prelude.{◌⊎◌, ◌==◌, ◌&&◌, not}
+use Rattle.std.proofs.Common.{◌≡◌, ◌∙◌, ℕ, suc, ◌+◌, ◌<◌, ◌≤◌, Bool, true, false, cond, List, [], ◌∷◌, ◌++◌, append_assoc, length, Some, refl, sym, ap, subst, arith, inl, inr, ⊎_elim}
+use Rattle.std.specs.Prelude.{◌⊎◌, ◌==◌}
 use Rattle.std.specs.List.{count_by}
-use Rattle.std.proofs.lemmas.Bool.{and_from, and_parts, both_ways, cases_Bool, eq-eqb, eqb-true}
+use Rattle.std.proofs.lemmas.Bool.{and_from, and_parts, cases_Bool, eq-eqb, eqb-true}
 use Rattle.base.proofs.MapLaws.{count_by-append}
 use Rattle.std.proofs.lemmas.List.{append_cancel_left}
 use Rattle.std.proofs.lemmas.Option.{none-some}
@@ -52,9 +52,9 @@ uncounted t x xs h =
     let more_ = count_by-append t (x ∷ []) xs in
     let one : count_by t (x ∷ []) ≡ 0 = ap (λ b. 0 + cond b 1 0) h ∙ omega arith in omega (arith, more_, one)
 
-none_counted : {A : Type 0} (t : A → Bool) (before after : List A) (x : A) → t x ≡ true → count_by t (before ++ x ∷ after) ≡ 0 → ⊥
-none_counted t [] after x passes h = let one = counted t x after passes in absurd (omega (arith, one, h))
-none_counted t (b ∷ before) after x passes h = by (t b) refl h (none_counted t before after x passes)
+never_counted : {A : Type 0} (t : A → Bool) (before after : List A) (x : A) → t x ≡ true → count_by t (before ++ x ∷ after) ≡ 0 → ⊥
+never_counted t [] after x passes h = let one = counted t x after passes in absurd (omega (arith, one, h))
+never_counted t (b ∷ before) after x passes h = by (t b) refl h (never_counted t before after x passes)
   where
     by : (c : Bool) → t b ≡ c → count_by t (b ∷ (before ++ x ∷ after)) ≡ 0 → (count_by t (before ++ x ∷ after) ≡ 0 → ⊥) → ⊥
     by true is h' later = let one = counted t b (before ++ x ∷ after) is in omega (arith, one, h')
@@ -66,11 +66,11 @@ one_place_of t [] (z ∷ c) d e x y h tx ty few =
     let rest = tails_are x z d (c ++ y ∷ e) h in
     let one = counted t x d tx in
     let same : count_by t d ≡ count_by t (c ++ y ∷ e) = ap (count_by t) rest in
-    absurd (none_counted t c e y ty (omega (arith, one, few, same)))
+    absurd (never_counted t c e y ty (omega (arith, one, few, same)))
 one_place_of t (z ∷ b) [] d e x y h tx ty few =
     let head = heads_are z y (b ++ x ∷ d) e h in
     let one = counted t z (b ++ x ∷ d) (ap t head ∙ ty) in
-    absurd (none_counted t b d x tx (omega (arith, one, few)))
+    absurd (never_counted t b d x tx (omega (arith, one, few)))
 one_place_of t (z ∷ b) (w ∷ c) d e x y h tx ty few =
     let rest = tails_are z w (b ++ x ∷ d) (c ++ y ∷ e) h in
     let less : count_by t (b ++ x ∷ d) ≤ count_by t (z ∷ (b ++ x ∷ d)) = fewer (t z) refl in
@@ -125,14 +125,14 @@ pub record IsSourcePort (es : List Event) (p : ℕ) : Type 0 where
   pub there : slot (state_after es).config (owner (state_after es).config p) ≡ Some node
   pub kind : node.node.kind ≡ Source
 
-ports_more : (c : Configuration) (e : Event) → length c.gates ≤ ports_next c e
-ports_more c (Make n node from) = omega arith
-ports_more c _ = omega arith
+gates_grow : (c : Configuration) (e : Event) → length c.gates ≤ ports_next c e
+gates_grow c (Make n node from) = omega arith
+gates_grow c _ = omega arith
 
 source_port_next : (es : List Event) (e : Event) → IsNext es e → (p : ℕ) → IsSourcePort es p → IsSourcePort (es ++ e ∷ []) p
 source_port_next es e here p w =
     let r = reconfigured (state_after es) e here.legal in
-    let more_ = ports_more (state_after es).config e in
+    let more_ = gates_grow (state_after es).config e in
     let long = r.ports in
     let low = w.made in
     let after = stays (state_after es).config (effect (state_after es) e).config e r (owner (state_after es).config p) w.node w.there in

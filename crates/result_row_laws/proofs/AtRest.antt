@@ -1,28 +1,21 @@
 -- While all ports are idle, and no port of a source is open, nodes do nothing; and so it is with a row whose source's port is
 -- closed and idle.
-use Rattle.std.proofs.Common.{◌≡◌, ◌∙◌, ℕ, ◌%◌, Bool, true, false, not, List, [], ◌∷◌, Option, Some, None, refl, sym, ap, subst, inl, inr}
-use Rattle.std.specs.Prelude.{◌⊎◌, option_map}
-use Rattle.std.specs.Option.{option_map_or}
+use Rattle.std.proofs.Common.{◌≡◌, ◌∙◌, ℕ, Bool, true, false, not, List, [], ◌∷◌, Some, refl, sym, ap, inl, inr}
 use Rattle.std.proofs.lemmas.Bool.{and_parts, both_ways, eq-eqb}
-use Rattle.std.proofs.lemmas.Option.{none-some, same_Some}
-use Rattle.base.proofs.OptionLaws.{map_or_true, Some-from_is_some}
+use Rattle.std.proofs.lemmas.Option.{none-some}
+use Rattle.base.proofs.OptionLaws.{map_or_true}
 use Rattle.config_graph.specs.declared.kind.Kind.TheVariants.{Map}
-use Rattle.component_trait.specs.Fold.{after_event, is_request}
-use Rattle.component_trait.specs.Moves as moves
+use Rattle.component_trait.specs.Fold.{after_event}
 use Rattle.component_trait.specs.States.{NodeState}
-use Rattle.component_trait.proofs.FoldLaws.{where_so_then}
-use Rattle.quiesce_word.specs.Phases.{is_answered, is_asked, is_idle, is_in_more}
+use Rattle.quiesce_word.specs.Phases.{is_idle}
 use Rattle.quiesce_word.proofs.PhaseLaws.{answered_busy, asked_busy, more_busy, serving_busy}
-use Rattle.quiesce_core.specs.Doers.{is_of_change}
-use Rattle.quiesce_core.specs.Legal.{Legal}
-use Rattle.quiesce_core.specs.Rules.{is_open, is_taken, serves_through}
+use Rattle.quiesce_core.specs.Rules.{is_taken, serves_through}
 use Rattle.quiesce_core.specs.State.{State, depends, exchange, gate, is_live, owner, provision, service, slot}
 use Rattle.quiesce_core.specs.declared.event.Event.{Event}
 use Rattle.quiesce_core.specs.declared.event.Event.TheVariants.{Begin, Call, Take, Give, End, More, Ask, Hear, Miss}
 use Rattle.quiesce_core.specs.declared.state.Service.{Service}
 use Rattle.quiesce_core.specs.declared.state.Slot.{Slot}
-use Rattle.quiesce_core.proofs.StateLaws.{served_busy, taken_busy}
-use Rattle.quiesce_core.proofs.TableLaws.{live_made}
+use Rattle.quiesce_core.proofs.StateLaws.{taken_busy}
 use Rattle.result_come_laws.proofs.FactLaws.{Facts, of_parts}
 use Rattle.result_row_laws.proofs.Passing.{Stop, ToMap, Way}
 use Rattle.result_row_laws.proofs.Onward.{Now, free_map, idle_untaken, unserved}

@@ -1,6 +1,6 @@
 -- Between two changes of the configuration a row goes on from where it stands: what gates are closed and opened meanwhile doesn't
 -- matter.
-use Rattle.std.proofs.Common.{◌≡◌, ◌∙◌, ℕ, ◌+◌, ◌%◌, Bool, true, false, cond, not, List, [], ◌∷◌, ◌++◌, append_assoc, length, Option, Some, None, refl, sym, ap, subst, inl, inr}
+use Rattle.std.proofs.Common.{◌≡◌, ◌∙◌, ℕ, ◌+◌, ◌%◌, Bool, true, false, not, List, [], ◌∷◌, ◌++◌, append_assoc, length, refl, sym, ap, subst, inl}
 use Rattle.std.specs.Prelude.{◌==◌, ◌||◌, ◌⊎◌, option_and_then}
 use Rattle.std.specs.List.{list_any}
 use Rattle.std.specs.Option.{option_map_or}
@@ -18,7 +18,7 @@ use Rattle.quiesce_core.specs.Doers.{is_make, is_of_change}
 use Rattle.quiesce_core.specs.Effect.{effect}
 use Rattle.quiesce_core.specs.Rules.{is_taken}
 use Rattle.quiesce_core.specs.Runs.{IsRun, is_doer, state_after}
-use Rattle.quiesce_core.specs.State.{Configuration, State, exchange, owner, service, slot, target}
+use Rattle.quiesce_core.specs.State.{Configuration, State, exchange, service, slot}
 use Rattle.quiesce_core.specs.declared.event.Event.{Event}
 use Rattle.quiesce_core.specs.declared.event.Event.TheVariants as event
 use Rattle.quiesce_core.specs.declared.state.Exchange.{Exchange}
@@ -35,7 +35,7 @@ use Rattle.result_come_laws.specs.Coming.{HasFolds, come}
 use Rattle.result_come_laws.proofs.ComingLaws.{facts, folds_before, folds_on, folds_stay}
 use Rattle.result_row_laws.proofs.Onward.{Now}
 use Rattle.result_come_laws.proofs.ReopeningLaws.{links_stay}
-use Rattle.result_row_laws.proofs.Rounds.{Goes, IsEndOf, IsSource, Stands, goes, resting, under_way}
+use Rattle.result_row_laws.proofs.Rounds.{IsEndOf, IsSource, Stands, goes, resting, under_way}
 
 -- ---- two states and two tellings of nodes that are alike
 

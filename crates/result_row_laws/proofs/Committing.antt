@@ -1,10 +1,9 @@
 -- The makes of a commit from a row to a row, and those of a start.
-use Rattle.std.proofs.Common.{◌≡◌, ◌∙◌, ℕ, zero, suc, ◌+◌, ◌<◌, ◌≤◌, Bool, true, false, List, [], ◌∷◌, ◌++◌, append_assoc, length, map, Option, Some, None, refl, sym, ap, subst, arith, inl, inr, ⊎_elim}
-use Rattle.std.specs.Prelude.{◌⊎◌, ⊤, ◌||◌, All, Contains, option_map, slice_get, unwrap_or}
+use Rattle.std.proofs.Common.{◌≡◌, ◌∙◌, ℕ, ◌+◌, true, false, List, [], ◌∷◌, ◌++◌, append_assoc, length, map, Option, Some, None, refl, sym, ap, subst, ⊎_elim}
+use Rattle.std.specs.Prelude.{All, Contains, option_map, slice_get, unwrap_or}
 use Rattle.std.specs.List.{list_any, range_with_len}
-use Rattle.std.proofs.lemmas.Option.{none-some, same_Some}
+use Rattle.std.proofs.lemmas.Option.{same_Some}
 use Rattle.std.proofs.lemmas.List.{append-nil}
-use Rattle.change_law.proofs.TestLaws.{none_both}
 use Rattle.base.specs.Each.{Each, EachAfter}
 use Rattle.base.proofs.ContainsLaws.{Contains-cons_cases, Contains-here, Contains-nil, Contains-there}
 use Rattle.base.proofs.EachLaws.{each_at, each_joined}
@@ -15,7 +14,7 @@ use Rattle.config_graph.specs.declared.kind.Kind.TheVariants.{Fork, Sink, Source
 use Rattle.config_graph.specs.declared.node.Node.{Node}
 use Rattle.quiesce_commit_laws.specs.Commits.{Differ}
 use Rattle.quiesce_commit_laws.proofs.MemberLaws.{contains_in}
-use Rattle.quiesce_commit_laws.specs.Lists.{Apart, In}
+use Rattle.quiesce_commit_laws.specs.Lists.{Apart}
 use Rattle.quiesce_commit_laws.specs.Steps.{change_all}
 use Rattle.quiesce_commit_laws.specs.Work.{NewNode, Work, link_new, make_new, work_of}
 use Rattle.change_plan.specs.Differences.{IsGone}
@@ -24,7 +23,7 @@ use Rattle.change_plan.specs.declared.plan_data.Move.{Move}
 use Rattle.change_plan.specs.declared.plan_data.Plan.{Plan}
 use Rattle.change_plan.proofs.SelectsLaws.{Selects-only}
 use Rattle.change_plan_laws.specs.Commit.{commit_events, makes_from, new_links, node_at, reopened_ports, source_of, work}
-use Rattle.result_row_laws.proofs.StandingLemmas.{selects_apart}
+use Rattle.result_row_laws.proofs.Standing.{selected_differ}
 use Rattle.quiesce_core.specs.Doers.{is_make}
 use Rattle.quiesce_core.specs.Live.{IsGraphOf}
 use Rattle.quiesce_core.specs.Rules.{is_kind}
@@ -37,7 +36,7 @@ use Rattle.change_round_laws.specs.SoundStatements.{IsSoundGraph}
 use Rattle.result_row_laws.specs.Keeping.{KeepsEnds, KeepsOrMoves}
 use Rattle.result_row_laws.specs.Rows.{IsRow, kind_at}
 use Rattle.result_row_laws.proofs.Ends.{IsMadeWell, OneEach, each_is_last, last_made, same_sink, same_source, touched, touched_more}
-use Rattle.result_row_laws.proofs.Making.{NoneOf, OnceFrom, Well, calm_well, last_calm, makes_well, none_map, one_sink_at, one_source_at, stays_touched}
+use Rattle.result_row_laws.proofs.Making.{OnceFrom, Well, calm_well, last_calm, makes_well, none_map, one_sink_at, one_source_at, stays_touched}
 use Rattle.result_row_laws.proofs.Rising.{stand_of}
 use Rattle.result_row_laws.proofs.Staying.{is_reopen}
 use Rattle.result_row_laws.proofs.Takings.{none_created, takes_from}
@@ -81,7 +80,7 @@ module _ (es : List Event) (run : IsRun es) (each : Each Well es) (old new : Gra
       let at = stand_of c old is i n.0 n.1 in
       let kind : at.1.made.node.kind ≡ k = same_Some at.1.made.node.kind k (sym (ap (option_map (λ (x : Node). x.kind)) at.1.stands) ∙ here) in
       let last_ = one_each at.0 at.1.made at.1.there at.1.live kind in
-      create_once old new plan c k one (last_made k es) (length c.slots) plan.create (selects_apart (IsGone new old) (length new.nodes) plan.create is_plan.steps.create) gone_there
+      create_once old new plan c k one (last_made k es) (length c.slots) plan.create (selected_differ (IsGone new old) (length new.nodes) plan.create is_plan.steps.create) gone_there
       (λ j there kind'. takes_from c old new sound_old sound_new is moves plan is_plan (nodes_are_named es run) k keep i j at.0 here kind' (gone_there j there) at.1 ∙ sym last_)
 
   one_of : (k : Kind) → ((j : Kind) → is_kind j k ≡ true → j ≡ k) → ((before after : List Event) (n : ℕ) (node : Node) (from : Option ℕ) → es ≡ before ++ event.Make n node from ∷ after → node.kind ≡ k → from ≡ last_made k before) → OneEach k es

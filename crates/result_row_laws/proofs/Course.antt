@@ -1,12 +1,11 @@
 -- The course of a run of rows: behind each of its events the row stands with what went through it, or a commit is under way, and
 -- all rests.
-use Rattle.std.proofs.Common.{◌≡◌, ◌∙◌, ℕ, ◌+◌, Bool, true, false, cond, List, [], ◌∷◌, ◌++◌, append_assoc, length, Option, Some, None, refl, sym, ap, subst, inl, inr, ⊎_elim}
+use Rattle.std.proofs.Common.{◌≡◌, ◌∙◌, ℕ, ◌+◌, Bool, true, false, cond, List, [], ◌∷◌, ◌++◌, append_assoc, length, Option, None, refl, sym, ap, subst, inl, inr, ⊎_elim}
 use Rattle.std.specs.Prelude.{◌⊎◌, ◌||◌, ◌==◌}
 use Rattle.std.proofs.lemmas.Bool.{both_ways, cases_Bool, eq-eqb, eqb-true}
 use Rattle.std.proofs.lemmas.List.{append-nil}
-use Rattle.std.proofs.lemmas.Option.{none-some}
 use Rattle.quiesce_commit_laws.specs.Steps.{is_shaping}
-use Rattle.quiesce_commit_laws.proofs.TurningLaws.{SameLinks, live_still, same_graph}
+use Rattle.quiesce_commit_laws.proofs.TurningLaws.{live_still, same_graph}
 use Rattle.config_graph.specs.Graph.{Graph}
 use Rattle.config_graph.specs.declared.kind.Kind.TheVariants.{Sink, Source}
 use Rattle.config_graph.specs.declared.node.Node.{Node}
@@ -17,12 +16,12 @@ use Rattle.quiesce_core.specs.Alters.{exchange_by, exchange_next}
 use Rattle.quiesce_core.specs.declared.state.Exchange.{Exchange}
 use Rattle.quiesce_core.proofs.AlterLaws.{exchanges_next}
 use Rattle.result_row_laws.proofs.Onward.{Now, idle_passes, starts_at}
-use Rattle.quiesce_core.specs.Doers.{is_make, is_of_change}
+use Rattle.quiesce_core.specs.Doers.{is_of_change}
 use Rattle.quiesce_core.specs.Legal.{Legal}
 use Rattle.quiesce_core.specs.Live.{IsGraphOf}
 use Rattle.quiesce_core.specs.Rules.{is_settled}
 use Rattle.quiesce_core.specs.Runs.{IsRun, is_doer, state_after}
-use Rattle.quiesce_core.specs.State.{State, exchange, is_live, owner, service}
+use Rattle.quiesce_core.specs.State.{State, exchange, owner, service}
 use Rattle.quiesce_core.specs.declared.event.Event.{Event}
 use Rattle.quiesce_core.specs.declared.event.Event.TheVariants as event
 use Rattle.quiesce_core.proofs.InductionLaws.{IsNext, place}

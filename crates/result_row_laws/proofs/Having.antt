@@ -1,18 +1,15 @@
 -- A lawful report of rows has its items.
-use Rattle.std.proofs.Common.{◌≡◌, ◌∙◌, ℕ, ◌+◌, true, false, List, [], ◌∷◌, ◌++◌, length, Some, refl, sym, ap, subst, arith}
-use Rattle.std.specs.Prelude.{◌≢◌, ◌==◌, slice_get}
+use Rattle.std.proofs.Common.{◌≡◌, ◌∙◌, ℕ, ◌+◌, true, false, List, [], ◌∷◌, ◌++◌, Some, refl, sym, ap, arith}
+use Rattle.std.specs.Prelude.{◌==◌, slice_get}
 use Rattle.std.specs.Option.{option_map_or}
 use Rattle.std.proofs.lemmas.Bool.{both_ways, eq-eqb, ne_eqb}
 use Rattle.std.proofs.lemmas.List.{append-nil, append_cancel_left}
 use Rattle.std.proofs.lemmas.Option.{none-some, same_Some}
 use Rattle.base.specs.Each.{Each}
 use Rattle.base.proofs.PlaceLaws.{one_at, tails_are}
-use Rattle.config_graph.specs.declared.kind.Kind.{Kind}
 use Rattle.config_graph.specs.declared.kind.Kind.TheVariants.{Sink, Source}
-use Rattle.quiesce_word.specs.Phases.{is_idle}
 use Rattle.quiesce_core.specs.Doers.{is_of_change}
-use Rattle.quiesce_core.specs.Runs.{IsRun, is_open_after, state_after}
-use Rattle.quiesce_core.specs.State.{exchange}
+use Rattle.quiesce_core.specs.Runs.{IsRun, is_open_after}
 use Rattle.quiesce_core.specs.declared.event.Event.{Event}
 use Rattle.quiesce_core.specs.declared.event.Event.TheVariants as event
 use Rattle.report_types.specs.declared.report.HistoryLine.{HistoryLine}
@@ -34,10 +31,10 @@ use Rattle.result_row_laws.specs.Rows.{through}
 use Rattle.result_come_laws.specs.Coming.{HasFolds, come}
 use Rattle.result_row_laws.proofs.Course.{Course, RowAt}
 use Rattle.result_row_laws.proofs.Ends.{MakesWell, each_is_last, last_made, same_sink, same_source}
-use Rattle.result_row_laws.proofs.Lawfully.{Placed, makes, opens, placed, placed_courses}
+use Rattle.result_row_laws.proofs.Lawfully.{makes, opens, placed, placed_courses}
 use Rattle.result_row_laws.proofs.Placing.{ItemAt, PlacedCourse}
 use Rattle.result_row_laws.proofs.Resting.{Ends}
-use Rattle.result_row_laws.proofs.Serving.{Served, served}
+use Rattle.result_row_laws.proofs.Serving.{served}
 use Rattle.result_row_laws.proofs.Stopping.{ends_there, log_ends, logs_fold, open_nowhere}
 
 -- a line's event is one of the change

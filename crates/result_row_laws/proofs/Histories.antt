@@ -1,14 +1,14 @@
 -- In a history that follows sound statements of rows, each make stands where a commit or the start is under way, and a source or a
 -- sink takes over from the last one.
-use Rattle.std.proofs.Common.{◌≡◌, ◌∙◌, ℕ, zero, suc, ◌+◌, Bool, true, false, List, [], ◌∷◌, ◌++◌, append_assoc, length, map, Option, Some, None, refl, sym, ap, subst, arith, inl, inr, ⊎_elim}
-use Rattle.std.specs.Prelude.{◌⊎◌, ⊤, ℤ, ◌||◌, not, All, Contains, filter, filter_map, option_map, slice_get}
+use Rattle.std.proofs.Common.{◌≡◌, ◌∙◌, ℕ, suc, ◌+◌, Bool, true, false, List, [], ◌∷◌, ◌++◌, append_assoc, map, Option, Some, None, refl, sym, ap, subst, arith, ⊎_elim}
+use Rattle.std.specs.Prelude.{ℤ, ◌||◌, not, All, Contains, filter, filter_map, option_map, slice_get}
 use Rattle.std.specs.List.{cons_option, enumerate_from, list_any}
 use Rattle.std.proofs.lemmas.Bool.{both_ways, cases_Bool, or_parts}
 use Rattle.std.proofs.lemmas.List.{append-nil}
-use Rattle.std.proofs.lemmas.List.Elements.{All-head, filter-append}
+use Rattle.std.proofs.lemmas.List.Elements.{All-head}
 use Rattle.base.specs.Each.{Each, EachAfter}
-use Rattle.base.proofs.ContainsLaws.{Contains-cons_cases, Contains-nil, at_some_place}
-use Rattle.base.proofs.EachLaws.{each_at, each_joined}
+use Rattle.base.proofs.ContainsLaws.{Contains-cons_cases, Contains-nil}
+use Rattle.base.proofs.EachLaws.{each_joined}
 use Rattle.config_graph.specs.Graph.{Graph, ports, target_of}
 use Rattle.config_graph.specs.declared.kind.Kind.{Kind}
 use Rattle.config_graph.specs.declared.kind.Kind.TheVariants.{Sink, Source}
@@ -17,7 +17,7 @@ use Rattle.config_graph.specs.declared.node.Node.{Node}
 use Rattle.config_graph.specs.declared.node.Port.{Port}
 use Rattle.config_graph.specs.declared.node.Target.{Target}
 use Rattle.config_graph.proofs.GraphByLaws.{one_graph}
-use Rattle.quiesce_commit_laws.specs.Steps.{change_all, is_shaping, live_ports}
+use Rattle.quiesce_commit_laws.specs.Steps.{change_all, is_shaping}
 use Rattle.quiesce_commit_laws.specs.Work.{NewNode, link_new, make_new, work_of}
 use Rattle.change_plan.specs.Plans.{IsPlanOf}
 use Rattle.change_plan.specs.declared.plan_data.Move.{Move}
@@ -25,29 +25,28 @@ use Rattle.change_plan.specs.declared.plan_data.Plan.{Plan}
 use Rattle.change_plan_laws.specs.Commit.{commit_events, new_links, ports_to_close, reopened_ports, work}
 use Rattle.quiesce_core.specs.Doers.{is_make, is_of_change}
 use Rattle.quiesce_core.specs.Live.{AreLinked, IsGraphOf, IsLiveNode}
-use Rattle.quiesce_core.specs.Runs.{IsRun, state_after}
+use Rattle.quiesce_core.specs.Runs.{IsRun}
 use Rattle.quiesce_core.specs.State.{Configuration}
 use Rattle.quiesce_core.specs.declared.event.Event.{Event}
 use Rattle.quiesce_core.specs.declared.event.Event.TheVariants as event
-use Rattle.quiesce_core.proofs.RunLaws.{fronts_are_runs}
 use Rattle.quiesce_laws.specs.Starts.{link_of, make_of, reopen_of, start_of}
 use Rattle.report_types.specs.declared.report.HistoryLine.{HistoryLine}
 use Rattle.report_types.specs.declared.report.HistoryLine.TheVariants as to
 use Rattle.change_law.specs.Changes.{IsChange, IsCommitted, IsGivenUp, drained_lines, opening_lines, pending_lines, seen_in_all}
-use Rattle.change_law.specs.Follows.{Follows, IsRight, Part, lines_of, start_lines}
+use Rattle.change_law.specs.Follows.{IsRight, Part, lines_of}
 use Rattle.change_law.specs.Members.{is_pending, lines_of_events}
 use Rattle.change_law.specs.Scene.{Seen, config_after, drained_line, root_line}
-use Rattle.change_law.specs.Statements.{Statement, start, change, run, finish, show, graph_of}
+use Rattle.change_law.specs.Statements.{Statement, start, change, run, finish, show}
 use Rattle.change_law.proofs.MemberLaws.{all_parts}
 use Rattle.change_law.proofs.TestLaws.{none_both}
-use Rattle.change_round_laws.specs.SoundStatements.{AreSound, GoOnSoundly, IsSoundGraph, named_by}
-use Rattle.change_round_laws.proofs.CommitGraphLaws.{AreRightAfter, CommitsByConfiguration, CommitsLeaveGraphs, EachMayCommit, Fits, Onward, begun, onward}
+use Rattle.change_round_laws.specs.SoundStatements.{GoOnSoundly, IsSoundGraph, named_by}
+use Rattle.change_round_laws.proofs.CommitGraphLaws.{AreRightAfter, CommitsByConfiguration, CommitsLeaveGraphs, EachMayCommit, Fits, Onward, onward}
 use Rattle.change_round_laws.proofs.LineLaws.{changes, changes_both, changes_of_closes, changes_of_lines, changes_of_looks, changes_of_reopens, changes_of_roots, config_of}
 use Rattle.result_come_laws.specs.Describing.{Describes}
-use Rattle.result_row_laws.specs.Keeping.{AreRows, KeepEndsFrom, KeepsEnds}
-use Rattle.result_row_laws.specs.Rows.{IsRow, kind_at}
+use Rattle.result_row_laws.specs.Keeping.{KeepEndsFrom, KeepsEnds}
+use Rattle.result_row_laws.specs.Rows.{IsRow}
 use Rattle.result_row_laws.proofs.Committing.{commit_well}
-use Rattle.result_row_laws.proofs.Making.{NoneOf, OnceFrom, Well, calm_well, makes_well, none_map, one_sink_at, one_source_at}
+use Rattle.result_row_laws.proofs.Making.{OnceFrom, Well, calm_well, makes_well, none_map, one_sink_at, one_source_at}
 use Rattle.result_come_laws.proofs.ReopeningLaws.{front_runs, graph_on}
 
 -- ---- events of the change alone
@@ -84,9 +83,9 @@ abbrev news : ℕ → List Node → List NewNode
 news n [] = []
 news n (x ∷ xs) = record { slot = n; node = x; from = None } ∷ news (n + 1) xs
 
-start_makes : (n : ℕ) (xs : List Node) → map make_of (enumerate_from n xs) ≡ map make_new (news n xs)
-start_makes n [] = refl
-start_makes n (x ∷ xs) = ap (λ es. event.Make n x None ∷ es) (start_makes (n + 1) xs)
+makes_of_start : (n : ℕ) (xs : List Node) → map make_of (enumerate_from n xs) ≡ map make_new (news n xs)
+makes_of_start n [] = refl
+makes_of_start n (x ∷ xs) = ap (λ es. event.Make n x None ∷ es) (makes_of_start (n + 1) xs)
 
 new_place : (n : ℕ) (xs : List Node) (m : NewNode) → Contains (news n xs) m → (j : ℕ) × (slice_get xs j ≡ Some m.node)
 new_place n [] m there = absurd (Contains-nil m there)
@@ -128,7 +127,7 @@ start_well g q =
     let links = filter_map (link_of g) (enumerate_from 0 (ports g.nodes)) in
     each_joined Well [] (makes ++ links) (map reopen_of (enumerate_from 0 (ports g.nodes)))
     (each_joined Well [] makes links
-    (subst (EachAfter Well []) (sym (start_makes 0 g.nodes)) (makes_well [] (news 0 g.nodes) refl
+    (subst (EachAfter Well []) (sym (makes_of_start 0 g.nodes)) (makes_well [] (news 0 g.nodes) refl
     (start_once Source 0 g.nodes (λ i j a b. one_source_at g q i a ∙ sym (one_source_at g q j b))) (start_once Sink 0 g.nodes (λ i j a b. one_sink_at g q i a ∙ sym (one_sink_at g q j b)))))
     (calm_well makes links (none_linked g (enumerate_from 0 (ports g.nodes)) is_make (λ p n x. refl))))
     (calm_well (makes ++ links) (map reopen_of (enumerate_from 0 (ports g.nodes))) (none_map is_make reopen_of (λ x. refl) (enumerate_from 0 (ports g.nodes))))

@@ -1,11 +1,11 @@
 -- The course of a lawful report of row systems.
-use Rattle.std.proofs.Common.{◌≡◌, ◌∙◌, ℕ, Bool, true, false, List, [], ◌∷◌, ◌++◌, append_assoc, map, Option, Some, None, refl, sym, ap, subst, inl, inr, ⊎_elim}
-use Rattle.std.specs.Prelude.{◌⊎◌, ⊤, ℤ, All, filter, filter_map, fold}
+use Rattle.std.proofs.Common.{◌≡◌, ◌∙◌, ℕ, Bool, true, false, List, [], ◌∷◌, ◌++◌, map, Option, Some, None, refl, sym, ap, subst}
+use Rattle.std.specs.Prelude.{All, filter, fold}
 use Rattle.std.specs.List.{cons_option, list_any}
-use Rattle.std.proofs.lemmas.Bool.{both_ways, cases_Bool}
+use Rattle.std.proofs.lemmas.Bool.{both_ways}
 use Rattle.std.proofs.lemmas.List.{append-nil}
-use Rattle.std.proofs.lemmas.List.Elements.{All-head, All-tail, filter-append}
-use Rattle.std.proofs.lemmas.Option.{none-some, same_Some}
+use Rattle.std.proofs.lemmas.List.Elements.{All-head, filter-append}
+use Rattle.std.proofs.lemmas.Option.{same_Some}
 use Rattle.base.specs.Each.{Each, EachAfter}
 use Rattle.base.proofs.EachLaws.{each_at, each_joined}
 use Rattle.base.proofs.PlaceLaws.{heads_are, tails_are}
@@ -13,7 +13,6 @@ use Rattle.config_graph.specs.Graph.{Graph}
 use Rattle.config_graph.specs.declared.kind.Kind.{Kind}
 use Rattle.config_graph.specs.declared.kind.Kind.TheVariants.{Sink, Source}
 use Rattle.config_graph.specs.declared.node.Made.{Made}
-use Rattle.config_graph.specs.declared.node.Node.{Node}
 use Rattle.quiesce_commit_laws.specs.Steps.{live_ports}
 use Rattle.quiesce_core.specs.Doers.{is_make, is_of_change}
 use Rattle.quiesce_core.specs.Live.{IsGraphOf}
@@ -22,13 +21,12 @@ use Rattle.quiesce_core.specs.declared.event.Event.{Event}
 use Rattle.quiesce_core.specs.declared.event.Event.TheVariants as event
 use Rattle.quiesce_core.proofs.RunLaws.{fronts_are_runs}
 use Rattle.quiesce_laws.specs.Starts.{start_of}
-use Rattle.change_plan.specs.declared.plan_data.Move.{Move}
 use Rattle.report_types.specs.declared.report.HistoryLine.{HistoryLine}
 use Rattle.report_types.specs.declared.report.HistoryLine.TheVariants as to
 use Rattle.report_types.specs.declared.report.Report.{Report}
-use Rattle.change_law.specs.Follows.{Follows, IsRight, Part, lines_of, start_lines}
+use Rattle.change_law.specs.Follows.{Follows, IsRight, Part, lines_of}
 use Rattle.change_law.specs.Lawful.{IsOfItsKind, Merge}
-use Rattle.change_law.specs.Members.{Member, by_node, of_history, event_in, event_of, events, lines_of_events, state_at}
+use Rattle.change_law.specs.Members.{Member, by_node, of_history, event_in, event_of, events, lines_of_events}
 use Rattle.change_law.specs.Scene.{config_after, drained_line}
 use Rattle.change_law.specs.Statements.{Statement, start, change, run, finish, show}
 use Rattle.change_law.proofs.MemberLaws.{all_parts, changes_are_lines, events_without_roots}
@@ -42,7 +40,7 @@ use Rattle.result_row_laws.specs.Keeping.{AreRows, KeepEndsFrom}
 use Rattle.result_row_laws.specs.Rows.{IsRow}
 use Rattle.result_come_laws.specs.Coming.{HasFolds}
 use Rattle.result_row_laws.proofs.Course.{CourseAt, CourseNext, Course, RowAt, course_at, course_next}
-use Rattle.result_row_laws.proofs.Ends.{IsMadeWell, MakesWell, last_made, last_next, touch_next, touched}
+use Rattle.result_row_laws.proofs.Ends.{IsMadeWell, MakesWell, last_next, touch_next}
 use Rattle.result_row_laws.proofs.Histories.{all_well, closes_makeless, described_has, looks_makeless, makeless, start_kept, start_well}
 use Rattle.result_row_laws.proofs.Making.{Well, calm_well}
 use Rattle.result_come_laws.proofs.ReopenedLaws.{reopened_at}

@@ -14,7 +14,7 @@ pub mod Resting
 pub mod Rising
 pub mod Staying
 pub mod Course
-pub mod StandingLemmas
+pub mod Standing
 pub mod Takings
 pub mod Making
 pub mod Committing

@@ -1,43 +1,25 @@
 -- Each make of a commit from a row to a row stands behind an unlink or a removal, and a source or a sink takes over from the last one.
-use Rattle.std.proofs.Common.{◌≡◌, ◌∙◌, ℕ, zero, suc, ◌+◌, ◌<◌, ◌≤◌, Bool, true, false, cond, List, [], ◌∷◌, ◌++◌, append_assoc, length, map, Option, Some, None, refl, sym, ap, subst, arith, inl, inr, ⊎_elim}
-use Rattle.std.specs.Prelude.{◌⊎◌, ⊤, ◌||◌, Contains, fold, filter, option_map, slice_get, unwrap_or}
-use Rattle.std.specs.List.{list_any, range_with_len}
+use Rattle.std.proofs.Common.{◌≡◌, ◌∙◌, ℕ, ◌<◌, Bool, true, false, cond, List, [], ◌∷◌, ◌++◌, append_assoc, length, map, Option, Some, refl, sym, ap, subst, inl, inr, ⊎_elim}
+use Rattle.std.specs.Prelude.{◌⊎◌, ⊤, ◌||◌, Contains, slice_get}
+use Rattle.std.specs.List.{list_any}
 use Rattle.std.proofs.lemmas.Bool.{both_ways, cases_Bool, or_parts}
 use Rattle.std.proofs.lemmas.List.{append-nil}
-use Rattle.std.proofs.lemmas.Option.{none-some, same_Some}
-use Rattle.base.specs.Each.{Each, EachAfter}
-use Rattle.base.proofs.ContainsLaws.{Contains-cons_cases, Contains-here, Contains-nil, Contains-there, at_some_place}
-use Rattle.base.proofs.EachLaws.{each_at, each_joined}
+use Rattle.base.specs.Each.{EachAfter}
+use Rattle.base.proofs.ContainsLaws.{Contains-here, Contains-there}
 use Rattle.base.proofs.OptionLaws.{option_map_some}
 use Rattle.base.proofs.PlaceLaws.{slice_get-below}
 use Rattle.config_graph.specs.Graph.{Graph}
 use Rattle.config_graph.specs.declared.kind.Kind.{Kind}
-use Rattle.config_graph.specs.declared.kind.Kind.TheVariants.{Fork, Map, Sink, Source}
+use Rattle.config_graph.specs.declared.kind.Kind.TheVariants.{Sink, Source}
 use Rattle.config_graph.specs.declared.node.Node.{Node}
-use Rattle.quiesce_commit_laws.specs.Steps.{change_all}
-use Rattle.quiesce_commit_laws.specs.Work.{NewNode, Work, link_new, make_new, work_of}
-use Rattle.change_plan.specs.Differences.{IsGone}
-use Rattle.change_plan.specs.Plans.{IsPlanOf}
-use Rattle.change_plan.specs.declared.plan_data.Move.{Move}
-use Rattle.change_plan.specs.declared.plan_data.Plan.{Plan}
-use Rattle.change_plan.proofs.SelectsLaws.{Selects-only}
-use Rattle.change_plan_laws.specs.Commit.{commit_events, commit_steps, makes_from, new_links, node_at, reopened_ports, source_of, work}
-use Rattle.quiesce_core.specs.Doers.{is_make, is_of_change}
-use Rattle.quiesce_core.specs.Live.{IsGraphOf}
+use Rattle.quiesce_commit_laws.specs.Work.{NewNode, make_new}
+use Rattle.quiesce_core.specs.Doers.{is_make}
 use Rattle.quiesce_core.specs.Rules.{is_kind}
-use Rattle.quiesce_core.specs.Runs.{IsRun, state_after}
-use Rattle.quiesce_core.specs.State.{Configuration, slot}
 use Rattle.quiesce_core.specs.declared.event.Event.{Event}
 use Rattle.quiesce_core.specs.declared.event.Event.TheVariants as event
-use Rattle.quiesce_core.specs.declared.state.Slot.{Slot}
-use Rattle.quiesce_core.proofs.RunLaws.{nodes_are_named}
-use Rattle.change_round_laws.specs.SoundStatements.{IsSoundGraph}
-use Rattle.result_row_laws.specs.Keeping.{KeepsEnds, KeepsOrMoves}
 use Rattle.result_row_laws.specs.Rows.{IsRow, kind_at}
-use Rattle.result_row_laws.proofs.Ends.{IsMadeWell, OneEach, each_is_last, last_made, last_more, last_next, same_sink, same_source, touch_next, touched, touched_more}
-use Rattle.result_row_laws.proofs.Rising.{stand_of}
+use Rattle.result_row_laws.proofs.Ends.{IsMadeWell, last_made, last_more, same_sink, same_source, touch_next, touched, touched_more}
 use Rattle.result_row_laws.proofs.Staying.{calm_last, is_reopen}
-use Rattle.result_row_laws.proofs.Takings.{none_created, takes_from}
 
 abbrev pub Well : List Event → Event → Type 0
 Well before (event.Make n node from) = IsMadeWell before node from

@@ -1,13 +1,13 @@
 -- Each event of a node leads a value on its way through a row.
-use Rattle.std.proofs.Common.{◌≡◌, ◌∙◌, ℕ, ◌+◌, ◌%◌, Bool, true, false, cond, List, [], ◌∷◌, ◌++◌, Option, Some, None, refl, sym, ap, subst, arith, ⊎_elim, inl, inr}
-use Rattle.std.specs.Prelude.{◌⊎◌, not, ◌==◌, ◌&&◌, option_map, is_some, is_none}
+use Rattle.std.proofs.Common.{◌≡◌, ◌∙◌, ℕ, ◌+◌, ◌%◌, Bool, true, false, cond, List, [], ◌∷◌, ◌++◌, Option, Some, None, refl, sym, ap, subst, inl, inr}
+use Rattle.std.specs.Prelude.{◌⊎◌, not, ◌==◌, option_map, is_some}
 use Rattle.std.specs.Option.{option_map_or}
 use Rattle.std.proofs.lemmas.Bool.{and_parts, both_ways, eq-eqb, eqb-true, false_from_ne_true}
 use Rattle.std.proofs.lemmas.Option.{none-some, same_Some}
 use Rattle.base.proofs.OptionLaws.{map_or_true, option_map_some}
 use Rattle.base.proofs.PlaceLaws.{heads_are}
 use Rattle.config_graph.specs.declared.TheConstants.{VALUE_LIMIT}
-use Rattle.config_graph.specs.declared.kind.Kind.TheVariants.{Map, Sink}
+use Rattle.config_graph.specs.declared.kind.Kind.TheVariants.{Map}
 use Rattle.config_graph.specs.declared.node.Target.{Target}
 use Rattle.component_trait.specs.Fold.{after_event}
 use Rattle.component_trait.specs.States.{Kept, NodeState}
@@ -21,16 +21,16 @@ use Rattle.quiesce_core.specs.Effect.{effect}
 use Rattle.quiesce_core.specs.Legal.{Legal}
 use Rattle.quiesce_core.specs.Rules.{is_taken}
 use Rattle.quiesce_core.specs.Runs.{is_doer}
-use Rattle.quiesce_core.specs.State.{Configuration, State, exchange, owner, service, slot, target, target_service}
+use Rattle.quiesce_core.specs.State.{Configuration, State, exchange, owner, service, target}
 use Rattle.quiesce_core.specs.declared.event.Event.{Event}
-use Rattle.quiesce_core.specs.declared.event.Event.TheVariants.{Begin, Call, Take, Give, End, More, Ask, Hear, Miss, Close, Reopen, Make, Link, Unlink, Remove}
+use Rattle.quiesce_core.specs.declared.event.Event.TheVariants.{Begin, Call, Take, Give, End, More, Ask, Hear, Miss}
 use Rattle.quiesce_core.specs.declared.state.Exchange.{Exchange}
 use Rattle.quiesce_core.specs.declared.state.Service.{Service}
 use Rattle.quiesce_core.proofs.AlterLaws.{exchanges_next, services_next}
 use Rattle.quiesce_core.proofs.PortEventLaws.{Turn, asks, ends, gives, passes, replies, replies_are_of_servers, starts, turn_of}
 use Rattle.quiesce_core.proofs.RunLaws.{node_events_keep_the_configuration}
 use Rattle.quiesce_core.proofs.StabilityLaws.{answers_stay, taken_ports_stay}
-use Rattle.quiesce_core.proofs.StateLaws.{answered_unserved, idle_unserved, is_taken_if, taken_busy, taken_is, target_service_is}
+use Rattle.quiesce_core.proofs.StateLaws.{answered_unserved, is_taken_if, taken_busy, taken_is}
 use Rattle.node_turn_laws.specs.Agreement.{expects}
 use Rattle.result_come_laws.proofs.FactLaws.{Facts, FoldsTo, at_work, of_parts}
 use Rattle.result_row_laws.proofs.Passing.{Stop, OnlyTo, ToMap, ToSink, Way, passed, last_port, Inside, MapHas, SinkHas, At, Going, MapDoes, SinkDoes, TakesUp, is_take, map_does, map_takes, sink_does, sink_keeps, sink_takes}

@@ -1,39 +1,23 @@
 -- A value on its way through a row: where it stands, and how each event of a node leads it on.
-use Rattle.std.proofs.Common.{◌≡◌, ◌∙◌, ℕ, zero, suc, ◌+◌, ◌%◌, Bool, true, false, cond, List, [], ◌∷◌, ◌++◌, Option, Some, None, refl, sym, ap, subst, arith, ⊎_elim, inl, inr}
-use Rattle.std.specs.Prelude.{◌⊎◌, not, ◌==◌, ◌&&◌, ◌||◌, option_map, is_some, is_none}
-use Rattle.std.specs.Option.{option_map_or}
-use Rattle.std.proofs.lemmas.Bool.{and_parts, both_ways, cases_Bool, eq-eqb, eqb-true}
+use Rattle.std.proofs.Common.{◌≡◌, ◌∙◌, ℕ, ◌+◌, ◌%◌, Bool, true, false, cond, List, [], ◌∷◌, ◌++◌, Option, Some, None, refl, sym, ap, arith}
+use Rattle.std.specs.Prelude.{not, ◌==◌, ◌&&◌, ◌||◌, is_none}
+use Rattle.std.proofs.lemmas.Bool.{and_parts, both_ways, eqb-true}
 use Rattle.std.proofs.lemmas.Option.{none-some, same_Some}
 use Rattle.config_graph.specs.declared.TheConstants.{VALUE_LIMIT}
 use Rattle.config_graph.specs.declared.kind.Kind.{Kind}
 use Rattle.config_graph.specs.declared.kind.Kind.TheVariants.{Map, Sink}
-use Rattle.config_graph.specs.declared.node.Target.{Target}
 use Rattle.component_trait.specs.Fold.{after_event, asked_by, may_take, is_request_at}
 use Rattle.component_trait.specs.States.{Kept, NodeState}
 use Rattle.component_trait.specs.States as node
 use Rattle.component_trait.specs.Moves as moves
 use Rattle.component_trait.proofs.FoldLaws.{where_so_then}
-use Rattle.quiesce_word.specs.Phases.{is_idle, is_asked, is_answered, is_in_more}
-use Rattle.quiesce_word.specs.declared.phase.Phase.{Phase}
-use Rattle.quiesce_word.specs.declared.phase.Phase.TheVariants as phase
-use Rattle.quiesce_core.specs.Alters.{exchange_next, service_next, service_by}
-use Rattle.quiesce_core.specs.Doers.{is_of_change, is_end_at, is_give_at}
-use Rattle.quiesce_core.specs.Effect.{effect}
-use Rattle.quiesce_core.specs.Legal.{Legal}
+use Rattle.quiesce_word.specs.Phases.{is_idle, is_asked, is_answered}
 use Rattle.quiesce_core.specs.Rules.{is_taken}
-use Rattle.quiesce_core.specs.Runs.{doer, is_doer}
-use Rattle.quiesce_core.specs.State.{Configuration, State, exchange, owner, service, slot, target, target_service}
-use Rattle.quiesce_core.specs.Traffic.{IsConsistent}
-use Rattle.quiesce_core.specs.WellFormed.{IsWellFormed}
+use Rattle.quiesce_core.specs.State.{Configuration, State, exchange, owner, slot, target}
 use Rattle.quiesce_core.specs.declared.event.Event.{Event}
 use Rattle.quiesce_core.specs.declared.event.Event.TheVariants.{Begin, Call, Take, Give, End, More, Ask, Hear, Miss, Close, Reopen, Make, Link, Unlink, Remove}
-use Rattle.quiesce_core.specs.declared.state.Exchange.{Exchange}
-use Rattle.quiesce_core.specs.declared.state.Service.{Service}
 use Rattle.quiesce_core.specs.declared.state.Slot.{Slot}
-use Rattle.quiesce_core.proofs.AlterLaws.{exchanges_next, services_next}
-use Rattle.quiesce_core.proofs.StateLaws.{answered_unserved, idle_unserved, is_taken_if, taken_busy, taken_is, target_service_is}
-use Rattle.node_turn_laws.specs.Agreement.{expects}
-use Rattle.result_come_laws.proofs.FactLaws.{Facts, FoldsTo, at_work, of_parts}
+use Rattle.result_come_laws.proofs.FactLaws.{at_work, of_parts}
 
 -- ---- the way of a value
 
@@ -119,9 +103,9 @@ pub data MapDoes (first : ℕ) (a : ℕ) (kept : Kept) (x r : ℕ) (answers : Li
 port_is : (first p : ℕ) (b : Bool) → ((first + 0 == p) && b) ≡ true → p ≡ first
 port_is first p b h = let same = eqb-true (first + 0) p (and_parts (first + 0 == p) b h).0 in omega (arith, same)
 
-or_false : (b : Bool) → (b || false) ≡ true → b ≡ true
-or_false true h = refl
-or_false false h = h
+or_no_more : (b : Bool) → (b || false) ≡ true → b ≡ true
+or_no_more true h = refl
+or_no_more false h = h
 
 pub map_does : (first a : ℕ) (kept : Kept) (x r : ℕ) (answers : List ℕ) (e : Event) (t : NodeState) → after_event first (at_work Map a kept x r answers) e ≡ Some t
     → MapDoes first a kept x r answers t e
@@ -142,7 +126,7 @@ map_does first a kept x r (b ∷ bs) (More p j v) t h = absurd (none-some t h)
 map_does first a kept x r answers (Hear p j v) t h = absurd (none-some t h)
 map_does first a kept x r [] (Ask p j v) t h =
     let w = where_so_then (((first + 0 == p) || false) && (v == 0)) (at_work Map a kept x r []) t h in
-    asks p j v refl (let same = eqb-true (first + 0) p (or_false (first + 0 == p) (and_parts ((first + 0 == p) || false) (v == 0) w.0).0) in omega (arith, same))
+    asks p j v refl (let same = eqb-true (first + 0) p (or_no_more (first + 0 == p) (and_parts ((first + 0 == p) || false) (v == 0) w.0).0) in omega (arith, same))
 map_does first a kept x r (b ∷ bs) (Ask p j v) t h = absurd (none-some t h)
 map_does first a kept x r [] (End p j v) t h =
     let w = where_so_then (first + 0 == p) (at_work Map a kept x r (v ∷ [])) t h in

@@ -1,23 +1,17 @@
 -- From a row to rest: where a node is settled, all ports are idle, and those that are open are ports of maps; and a rest stays.
-use Rattle.std.proofs.Common.{◌≡◌, ◌∙◌, ℕ, ◌+◌, ◌<◌, ◌≤◌, Bool, true, false, cond, List, [], ◌∷◌, ◌++◌, length, Option, Some, None, refl, sym, ap, subst, arith, inl, inr, ⊎_elim}
-use Rattle.std.specs.Prelude.{◌⊎◌, ◌==◌, ◌&&◌, nat_lt, nat_le}
+use Rattle.std.proofs.Common.{◌≡◌, ◌∙◌, ℕ, ◌+◌, ◌<◌, ◌≤◌, true, false, List, [], ◌∷◌, ◌++◌, length, Some, refl, sym, ap, subst, arith, inl, inr, ⊎_elim}
+use Rattle.std.specs.Prelude.{◌⊎◌, nat_lt}
 use Rattle.std.specs.Option.{option_map_or}
-use Rattle.std.proofs.lemmas.Bool.{and_parts, both_ways, cases_Bool, cases_eq, cases_lt, eq-eqb, ltb-true, ne_eqb, true_from_ne_false}
-use Rattle.std.proofs.lemmas.List.{append-nil, get_or_past}
-use Rattle.std.proofs.lemmas.Option.{none-some, same_Some}
-use Rattle.base.proofs.OptionLaws.{map_or_at, map_or_true}
-use Rattle.base.proofs.PlaceLaws.{slice_get-there}
+use Rattle.std.proofs.lemmas.Bool.{and_parts, both_ways, cases_Bool, cases_lt, ltb-true, true_from_ne_false}
+use Rattle.std.proofs.lemmas.List.{get_or_past}
+use Rattle.std.proofs.lemmas.Option.{same_Some}
 use Rattle.config_graph.specs.Graph.{Graph}
 use Rattle.config_graph.specs.Kinds.{row}
 use Rattle.config_graph.specs.declared.kind.Kind.{Kind}
 use Rattle.config_graph.specs.declared.kind.Kind.TheVariants.{Map, Sink, Source}
-use Rattle.config_graph.specs.declared.node.Node.{Node}
 use Rattle.component_trait.specs.States.{NodeState, at_rest}
 use Rattle.component_trait.proofs.FoldLaws.{fold_keeps_argument, fold_keeps_kind}
 use Rattle.quiesce_word.specs.Phases.{is_idle}
-use Rattle.quiesce_core.specs.Alters.{gate_next, slot_next}
-use Rattle.quiesce_core.specs.Doers.{is_make, is_of_change}
-use Rattle.quiesce_core.specs.Effect.{effect}
 use Rattle.quiesce_core.specs.Live.{IsGraphOf}
 use Rattle.quiesce_core.specs.Reach.{IsPortOf}
 use Rattle.quiesce_core.specs.Rules.{is_settled}
@@ -25,11 +19,8 @@ use Rattle.quiesce_core.specs.Runs.{IsRun, done_by, state_after}
 use Rattle.quiesce_core.specs.State.{Configuration, State, exchange, fresh_gate, gate, is_live, owner, slot}
 use Rattle.quiesce_core.specs.declared.event.Event.{Event}
 use Rattle.quiesce_core.specs.declared.event.Event.TheVariants as event
-use Rattle.quiesce_core.specs.declared.state.Exchange.{Exchange}
 use Rattle.quiesce_core.specs.declared.state.Gate.{Gate}
 use Rattle.quiesce_core.specs.declared.state.Slot.{Slot}
-use Rattle.quiesce_core.proofs.AlterLaws.{exchanges_next, reconfigured}
-use Rattle.quiesce_core.proofs.InductionLaws.{IsNext}
 use Rattle.quiesce_core.proofs.RunLaws.{runs_are_consistent, runs_are_well_formed}
 use Rattle.quiesce_core.proofs.SettledLaws.{settled_if}
 use Rattle.quiesce_core.proofs.StabilityLaws.{busy_is_live}
@@ -39,11 +30,10 @@ use Rattle.result_row_laws.specs.Rows.{IsRow, through}
 use Rattle.result_row_laws.proofs.AtRest.{IsStill, all_idle}
 use Rattle.result_row_laws.proofs.Between.{Row}
 use Rattle.result_come_laws.specs.Coming.{HasFolds, come}
-use Rattle.result_come_laws.proofs.ComingLaws.{came, facts, folds_stay, given_to, made_has, old_stays}
-use Rattle.result_row_laws.proofs.Ends.{IsMadeWell, kind_is, last_made, last_more, last_next}
+use Rattle.result_come_laws.proofs.ComingLaws.{came, facts}
+use Rattle.result_row_laws.proofs.Ends.{last_made}
 use Rattle.result_row_laws.proofs.Onward.{way_busy}
-use Rattle.result_come_laws.proofs.FactLaws.{Facts}
-use Rattle.result_row_laws.proofs.Passing.{Going, Stop, ToMap, Way, passed}
+use Rattle.result_row_laws.proofs.Passing.{Stop, ToMap, Way, passed}
 use Rattle.result_row_laws.proofs.Rounds.{IsSource, Stands, resting, under_way}
 use Rattle.result_row_laws.proofs.RowWays.{Fits}
 use Rattle.result_row_laws.proofs.Touching.{IsOnWay, quiet_where_settled}
@@ -104,8 +94,8 @@ on_way_port c f (m ∷ ms) p t n q w (inl here) o = ap (λ i. (f i).kind) here �
 on_way_port c f (m ∷ ms) p t n q w (inr later) o = on_way_port c f ms m.port t n q w.1 later o
 
 -- a map has one port
-one_port : (c : Configuration) (f : ℕ → NodeState) (m : Stop) (r q : ℕ) → ToMap c f r m → IsPortOf c m.at q → q ≡ m.port
-one_port c f m r q to o =
+sole_port : (c : Configuration) (f : ℕ → NodeState) (m : Stop) (r q : ℕ) → ToMap c f r m → IsPortOf c m.at q → q ≡ m.port
+sole_port c f m r q to o =
     let one : o.node ≡ to.to.made = same_Some o.node to.to.made (sym o.made ∙ to.to.there) in
     let one_ : length (row o.node.node.kind).requires_ ≡ 1 = ap (λ (m : Slot). length (row m.node.kind).requires_) one ∙ ap (λ (k : Kind). length (row k).requires_) to.to.kind in
     let first : o.node.first_port ≡ m.port = ap (λ (m : Slot). m.first_port) one ∙ to.first in
@@ -169,7 +159,7 @@ module _ (handed : StatesAreHanded) (es : List Event) (run : IsRun es) (folds : 
           by made (inr on) =
               all_idle (state_after es) (come es) (facts handed es run folds) w.ms w.p w.t q w.row.way quiet.1 (owner (state_after es).config q) on
               (λ is. cc (sym (on_way_port (state_after es).config (come es) w.ms w.p w.t (owner (state_after es).config q) q w.row.way on (port_there q made)) ∙ ap (λ i. (come es i).kind) is ∙ end_kind (state_after es).config (come es) w.ms w.p w.t w.row.way)) refl
-              (λ m r to is. one_port (state_after es).config (come es) m r q to (subst (λ k. IsPortOf (state_after es).config k q) is (port_there q made)))
+              (λ m r to is. sole_port (state_after es).config (come es) m r q to (subst (λ k. IsPortOf (state_after es).config k q) is (port_there q made)))
 
       opened : (q : ℕ) → (gate (state_after es).config q).closed ≡ false → (come es (owner (state_after es).config q)).kind ≡ Map
       opened q open_ = ⊎_elim

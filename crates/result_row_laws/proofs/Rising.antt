@@ -1,23 +1,22 @@
 -- From rest to a row: at a reopen the graph that stands is a row, and its source and sink are the ones made last.
-use Rattle.std.proofs.Common.{◌≡◌, ◌∙◌, ℕ, ◌+◌, ◌<◌, ◌≤◌, Bool, true, false, List, [], ◌∷◌, ◌++◌, length, Option, Some, None, refl, sym, ap, subst, arith, inl, inr, ⊎_elim}
-use Rattle.std.specs.Prelude.{◌⊎◌, All, Contains, option_map, slice_get}
+use Rattle.std.proofs.Common.{◌≡◌, ◌∙◌, ℕ, true, List, [], ◌∷◌, length, Some, refl, sym, ap, subst, arith, inl, inr, ⊎_elim}
+use Rattle.std.specs.Prelude.{◌⊎◌, Contains, option_map, slice_get}
 use Rattle.std.specs.Option.{option_map_or}
 use Rattle.std.proofs.lemmas.Bool.{both_ways}
 use Rattle.quiesce_word.specs.Phases.{is_idle}
-use Rattle.std.proofs.lemmas.Option.{none-some, same_Some}
+use Rattle.std.proofs.lemmas.Option.{same_Some}
 use Rattle.base.proofs.ContainsLaws.{Contains-at, at_some_place}
 use Rattle.base.proofs.OptionLaws.{map_or_true, option_map_some}
 use Rattle.base.proofs.PlaceLaws.{slice_get-below}
 use Rattle.config_graph.specs.Graph.{Graph}
 use Rattle.config_graph.specs.Kinds.{row}
 use Rattle.config_graph.specs.declared.kind.Kind.{Kind}
-use Rattle.config_graph.specs.declared.kind.Kind.TheVariants.{Map, Sink, Source}
+use Rattle.config_graph.specs.declared.kind.Kind.TheVariants.{Sink, Source}
 use Rattle.config_graph.specs.declared.node.Node.{Node}
-use Rattle.config_graph.specs.declared.node.Target.{Target}
 use Rattle.component_trait.specs.States.{NodeState}
 use Rattle.quiesce_core.specs.Live.{IsGraphOf, StandsAt}
 use Rattle.quiesce_core.specs.Runs.{IsRun, state_after}
-use Rattle.quiesce_core.specs.State.{Configuration, State, exchange, is_live, owner, slot, target}
+use Rattle.quiesce_core.specs.State.{Configuration, exchange, owner, slot}
 use Rattle.quiesce_core.specs.WellFormed.{IsSound}
 use Rattle.quiesce_core.specs.declared.event.Event.{Event}
 use Rattle.quiesce_core.specs.declared.state.Slot.{Slot}
@@ -26,13 +25,12 @@ use Rattle.quiesce_core.proofs.SameWiringLaws.{alive_if}
 use Rattle.change_round_laws.proofs.FoldLaws.{StatesAreHanded}
 use Rattle.result_row_laws.specs.Rows.{IsRow, kind_at}
 use Rattle.result_come_laws.specs.Coming.{HasFolds, come}
-use Rattle.result_row_laws.proofs.Ends.{OneEach, last_made}
+use Rattle.result_row_laws.proofs.Ends.{OneEach}
 use Rattle.result_row_laws.proofs.Passing.{Stop, Way}
 use Rattle.result_row_laws.proofs.Resting.{InRow, Rest, fits_of}
 use Rattle.result_row_laws.proofs.Rounds.{resting}
 use Rattle.result_row_laws.proofs.RowLinks.{on_map, on_source}
 use Rattle.result_row_laws.proofs.RowWays.{one_stand, sink_ends, ways}
-use Rattle.result_row_laws.proofs.Touching.{IsOnWay}
 
 record Ended (c : Configuration) (t : ℕ) : Type 0 where
   made : Slot

@@ -1,34 +1,33 @@
 -- A row from one transaction of its source to the next: the sink has an item for each that the source was answered.
-use Rattle.std.proofs.Common.{◌≡◌, ◌∙◌, ℕ, ◌+◌, ◌%◌, Bool, true, false, cond, List, [], ◌∷◌, ◌++◌, length, Option, Some, None, refl, sym, ap, subst, arith, inl, inr, length-append}
-use Rattle.std.specs.Prelude.{◌⊎◌, not, ◌==◌, ◌&&◌, ◌||◌, option_map}
-use Rattle.std.proofs.lemmas.Bool.{and_parts, both_ways, eq-eqb, eqb-true, false_from_ne_true}
+use Rattle.std.proofs.Common.{◌≡◌, ◌∙◌, ℕ, ◌+◌, Bool, true, false, cond, List, [], ◌∷◌, ◌++◌, length, Option, Some, None, refl, sym, ap, subst, arith, inl, inr, length-append}
+use Rattle.std.specs.Prelude.{◌⊎◌, not, ◌==◌}
+use Rattle.std.proofs.lemmas.Bool.{and_parts, both_ways, eq-eqb, eqb-true}
 use Rattle.std.proofs.lemmas.List.{append-nil}
-use Rattle.std.proofs.lemmas.Option.{none-some, same_Some}
+use Rattle.std.proofs.lemmas.Option.{none-some}
 use Rattle.config_graph.specs.declared.kind.Kind.TheVariants.{Source}
-use Rattle.component_trait.specs.Fold.{after_event, asked_by, is_request, is_request_at, may_take}
+use Rattle.component_trait.specs.Fold.{after_event, asked_by, is_request, is_request_at}
 use Rattle.component_trait.specs.Moves as moves
 use Rattle.component_trait.specs.States.{Kept, NodeState}
 use Rattle.component_trait.specs.States as node
 use Rattle.component_trait.specs.Tables.{kept_after_end, wants}
 use Rattle.component_trait.proofs.FoldLaws.{where_so_then}
 use Rattle.component_trait.specs.declared.next.Next.TheVariants as next
-use Rattle.quiesce_word.specs.Phases.{is_idle, is_asked, is_answered, is_in_more}
-use Rattle.quiesce_word.proofs.PhaseLaws.{answered_busy, answered_not_asked, asked_busy}
-use Rattle.quiesce_core.specs.Alters.{exchange_by, is_message_at}
+use Rattle.quiesce_word.specs.Phases.{is_idle, is_asked}
+use Rattle.quiesce_word.proofs.PhaseLaws.{answered_busy}
+use Rattle.quiesce_core.specs.Alters.{exchange_by}
 use Rattle.quiesce_core.specs.Doers.{is_end_at}
 use Rattle.quiesce_core.specs.Effect.{effect}
 use Rattle.quiesce_core.specs.Legal.{Legal}
-use Rattle.quiesce_core.specs.Rules.{is_taken}
 use Rattle.quiesce_core.specs.Runs.{is_doer}
-use Rattle.quiesce_core.specs.State.{Configuration, State, exchange, owner, service, slot}
+use Rattle.quiesce_core.specs.State.{State, exchange, owner, service, slot}
 use Rattle.quiesce_core.specs.declared.event.Event.{Event}
-use Rattle.quiesce_core.specs.declared.event.Event.TheVariants.{Begin, Call, Take, Give, End, More, Ask, Hear, Miss, Close, Reopen, Make, Link, Unlink, Remove}
+use Rattle.quiesce_core.specs.declared.event.Event.TheVariants.{Begin, Call, Take, Give, End, More, Ask, Hear, Miss}
 use Rattle.quiesce_core.specs.declared.state.Exchange.{Exchange}
 use Rattle.quiesce_core.specs.declared.state.Slot.{Slot}
 use Rattle.quiesce_core.proofs.AlterLaws.{exchanges_next}
-use Rattle.result_come_laws.proofs.FactLaws.{Facts, FoldsTo, of_parts}
+use Rattle.result_come_laws.proofs.FactLaws.{Facts, of_parts}
 use Rattle.result_row_laws.proofs.Passing.{Stop, Way, Going, passed, last_port}
-use Rattle.result_row_laws.proofs.Onward.{Now, Led, idle_stays, idle_untaken, items_stay, onward, passes_by, rest_stays, untaken_stays, waits_there, way_answered, way_busy, way_end, starts_at, takes_at, idle_passes}
+use Rattle.result_row_laws.proofs.Onward.{Now, Led, idle_stays, idle_untaken, items_stay, onward, rest_stays, untaken_stays, waits_there, way_answered, way_end, starts_at, takes_at, idle_passes}
 
 -- what a source does
 pub data SourceDoes (first : ℕ) (arg : ℕ) (kept : Kept) (t : NodeState) : Event → Type 0 where
@@ -36,10 +35,10 @@ pub data SourceDoes (first : ℕ) (arg : ℕ) (kept : Kept) (t : NodeState) : Ev
   ends : (p j v : ℕ) → p ≡ first → t.kept ≡ kept_after_end Source kept v → SourceDoes first arg kept t (End p j v)
   other : (e : Event) → ((q : ℕ) → starts_at q e ≡ false) → ((q : ℕ) → is_end_at q e ≡ false) → t.kept ≡ kept → SourceDoes first arg kept t e
 
-abbrev source : ℕ → Kept → Option node.Service → NodeState
-source arg kept o = record { kind = Source; arg = arg; kept = kept; service = o }
+abbrev source_at_work : ℕ → Kept → Option node.Service → NodeState
+source_at_work arg kept o = record { kind = Source; arg = arg; kept = kept; service = o }
 
-asks_nothing : (arg : ℕ) (kept : Kept) (o : Option node.Service) (first p : ℕ) → is_request_at first p (asked_by (moves.next (source arg kept o))) ≡ false
+asks_nothing : (arg : ℕ) (kept : Kept) (o : Option node.Service) (first p : ℕ) → is_request_at first p (asked_by (moves.next (source_at_work arg kept o))) ≡ false
 asks_nothing arg kept None first p = refl
 asks_nothing arg kept (Some w) first p = by w.waits
   where
@@ -47,7 +46,7 @@ asks_nothing arg kept (Some w) first p = by w.waits
     by true = refl
     by false = refl
 
-calls_nothing : (arg : ℕ) (kept : Kept) (o : Option node.Service) (first p v : ℕ) → is_request first p v (asked_by (moves.next (source arg kept o))) ≡ false
+calls_nothing : (arg : ℕ) (kept : Kept) (o : Option node.Service) (first p v : ℕ) → is_request first p v (asked_by (moves.next (source_at_work arg kept o))) ≡ false
 calls_nothing arg kept None first p v = refl
 calls_nothing arg kept (Some w) first p v = by w.waits
   where
@@ -65,13 +64,13 @@ wanted_at : (count first p : ℕ) (b : Bool) → is_request_at first p (cond b (
 wanted_at count first p true h = let x = eqb-true (first + 0) p h in omega (arith, x)
 wanted_at count first p false h = absurd (both_ways false refl h)
 
-pub source_does : (first arg : ℕ) (kept : Kept) (o : Option node.Service) (e : Event) (t : NodeState) → after_event first (source arg kept o) e ≡ Some t → SourceDoes first arg kept t e
+pub source_does : (first arg : ℕ) (kept : Kept) (o : Option node.Service) (e : Event) (t : NodeState) → after_event first (source_at_work arg kept o) e ≡ Some t → SourceDoes first arg kept t e
 source_does first arg kept o (Begin p j v) t h =
-    let w = where_so_then (is_request first p v (wants Source arg kept)) (source arg kept o) t h in
+    let w = where_so_then (is_request first p v (wants Source arg kept)) (source_at_work arg kept o) t h in
     let x = wanted arg kept.count first p v _ w.0 in
     begins p j v x.0 x.1 (sym (ap (λ (n : NodeState). n.kept) w.1))
 source_does first arg kept o (Call p j v) t h =
-    let w = where_so_then (is_request first p v (asked_by (moves.next (source arg kept o)))) (source arg kept o) t h in
+    let w = where_so_then (is_request first p v (asked_by (moves.next (source_at_work arg kept o)))) (source_at_work arg kept o) t h in
     absurd (both_ways _ (calls_nothing arg kept o first p v) w.0)
 source_does first arg kept o (Take p j v) t h = absurd (none-some t h)
 source_does first arg kept o (Give p j v) t h = other (Give p j v) (λ q. refl) (λ q. refl) (sym (ap (λ (n : NodeState). n.kept) (where_so_then _ _ t h).1))
@@ -80,8 +79,8 @@ source_does first arg kept o (Hear p j v) t h = other (Hear p j v) (λ q. refl) 
 source_does first arg kept o (Ask p j v) t h = other (Ask p j v) (λ q. refl) (λ q. refl) (sym (ap (λ (n : NodeState). n.kept) (where_so_then _ _ t h).1))
 source_does first arg kept o (Miss p) t h = other (Miss p) (λ q. refl) (λ q. refl) (sym (ap (λ (n : NodeState). n.kept) (where_so_then _ _ t h).1))
 source_does first arg kept o (End p j v) t h =
-    let w = where_so_then (is_request_at first p (wants Source arg kept)) (moves.after_end (source arg kept o) v) t
-    (sym (ap (λ b. cond b (Some (moves.after_answer (source arg kept o) v)) (cond (is_request_at first p (wants Source arg kept)) (Some (moves.after_end (source arg kept o) v)) None)) (asks_nothing arg kept o first p)) ∙ h) in
+    let w = where_so_then (is_request_at first p (wants Source arg kept)) (moves.after_end (source_at_work arg kept o) v) t
+    (sym (ap (λ b. cond b (Some (moves.after_answer (source_at_work arg kept o) v)) (cond (is_request_at first p (wants Source arg kept)) (Some (moves.after_end (source_at_work arg kept o) v)) None)) (asks_nothing arg kept o first p)) ∙ h) in
     ends p j v (wanted_at kept.count first p _ w.0) (sym (ap (λ (n : NodeState). n.kept) w.1))
 source_does first arg kept o _ t h = absurd (none-some t h)
 
@@ -105,9 +104,9 @@ pub record IsEndOf (e : Event) (p : ℕ) : Type 0 where
   pub is : e ≡ End p serial answer
   pub not_0 : (answer == 0) ≡ false
 
-end_at : (p : ℕ) (e : Event) → is_end_at p e ≡ true → (k : ℕ) × (v : ℕ) × (e ≡ End p k v)
-end_at p (End q k v) h = (k, v, ap (λ i. End i k v) (eqb-true q p h))
-end_at p _ h = absurd (both_ways false refl h)
+end_there : (p : ℕ) (e : Event) → is_end_at p e ≡ true → (k : ℕ) × (v : ℕ) × (e ≡ End p k v)
+end_there p (End q k v) h = (k, v, ap (λ i. End i k v) (eqb-true q p h))
+end_there p _ h = absurd (both_ways false refl h)
 
 pub record Goes (s : State) (g : ℕ → NodeState) (e : Event) (a p : ℕ) (ms : List Stop) (t : ℕ) (past : List ℕ) : Type 0 where
   pub next : List ℕ
@@ -218,9 +217,9 @@ module _ (s : State) (f g : ℕ → NodeState) (facts : Facts s f) (e : Event) (
           of_doer false none__ = rest_goes (idle_stays s f g facts p e now.legal idle (ap (λ i. is_doer s i e) src.owned ∙ none__)) none_ idle count items
       by false none_ (under_way d going count items) = on d (onward s f g facts e now ms p (length past + 1) t d way going none_) count items none_
       by true h (resting idle count items) =
-          let it = end_at p e h in
+          let it = end_there p e h in
           let l = subst (Legal s) it.2 now.legal in
           absurd (both_ways (is_idle (exchange s p).phase) (answered_busy (exchange s p).phase l.answered) idle)
       by true h (under_way d going count items) =
-          let it = end_at p e h in
+          let it = end_there p e h in
           ended it.0 it.1 it.2 d going count items e refl it.2 (does (ap (is_doer s a) it.2 ∙ ap (λ i. i == a) src.owned ∙ eq-eqb a a refl))

@@ -1,11 +1,10 @@
 -- Where the graph of a configuration is a row, its ports lead one way, from the source through all maps to the sink.
-use Rattle.std.proofs.Common.{◌≡◌, ◌∙◌, ℕ, zero, suc, ◌+◌, ◌-◌, ◌%◌, ◌<◌, ◌≤◌, true, List, [], ◌∷◌, length, Option, Some, None, refl, sym, ap, subst, arith, inl, inr, ⊎_elim}
-use Rattle.std.specs.Prelude.{◌⊎◌, All, Contains, fold, option_map, slice_get}
+use Rattle.std.proofs.Common.{◌≡◌, ◌∙◌, ℕ, ◌+◌, ◌-◌, ◌%◌, ◌<◌, ◌≤◌, true, List, [], ◌∷◌, length, Some, refl, sym, ap, subst, arith, inl, inr, ⊎_elim}
+use Rattle.std.specs.Prelude.{◌⊎◌, All, Contains, option_map}
 use Rattle.std.specs.Option.{option_map_or}
-use Rattle.std.proofs.lemmas.Option.{none-some, same_Some}
-use Rattle.std.proofs.lemmas.List.Elements.{All-head, All-tail}
-use Rattle.base.proofs.ContainsLaws.{Contains-at, Contains-here, Contains-there, Contains-cons_cases, Contains-nil, at_some_place}
-use Rattle.base.proofs.OptionLaws.{map_or_at, map_or_true, option_map_some}
+use Rattle.std.proofs.lemmas.Option.{same_Some}
+use Rattle.base.proofs.ContainsLaws.{Contains-here, Contains-there, Contains-cons_cases, Contains-nil, at_some_place}
+use Rattle.base.proofs.OptionLaws.{map_or_true}
 use Rattle.base.proofs.PlaceLaws.{slice_get-below}
 use Rattle.config_graph.specs.Cycles.{IsLinked}
 use Rattle.config_graph.specs.Graph.{Graph}
@@ -20,15 +19,14 @@ use Rattle.quiesce_core.specs.Live.{IsGraphOf, StandsAt}
 use Rattle.quiesce_core.specs.Named.{AreNamed}
 use Rattle.quiesce_core.specs.State.{Configuration, gate, is_live, owner, slot, target}
 use Rattle.quiesce_core.specs.WellFormed.{IsSound}
-use Rattle.quiesce_core.specs.declared.state.Gate.{Gate}
 use Rattle.quiesce_core.specs.declared.state.Slot.{Slot}
 use Rattle.quiesce_core.proofs.ConfigurationLaws.{linked_made}
 use Rattle.quiesce_core.proofs.LiveLinkLaws.{IsLiveLink, linked_at}
 use Rattle.change_law.specs.Opening.{argument_of}
 use Rattle.result_row_laws.specs.Rows.{IsRow, LeadsThrough, argument_at, kind_at, through}
-use Rattle.result_row_laws.proofs.Passing.{OnlyTo, Stop, ToMap, ToSink, Way, passed}
+use Rattle.result_row_laws.proofs.Passing.{Stop, Way, passed}
 use Rattle.result_row_laws.proofs.Touching.{IsOnWay}
-use Rattle.result_row_laws.proofs.RowLinks.{On, first_of, on_map, on_source, one_before, one_end}
+use Rattle.result_row_laws.proofs.RowLinks.{On, first_of, on_map, on_source, one_before}
 
 -- what nodes have come to is of their kinds and arguments
 pub record Fits (c : Configuration) (f : ℕ → NodeState) : Type 0 where

@@ -1,7 +1,7 @@
 -- Each transaction of a row that is answered adds what became of its value, and that stays at its place.
-use Rattle.std.proofs.Common.{◌≡◌, ◌∙◌, ℕ, suc, ◌+◌, Bool, true, false, cond, List, [], ◌∷◌, ◌++◌, append_assoc, length, Option, Some, None, refl, sym, ap, subst, arith, inl, inr, ⊎_elim}
+use Rattle.std.proofs.Common.{◌≡◌, ◌∙◌, ℕ, ◌+◌, true, false, cond, List, [], ◌∷◌, ◌++◌, append_assoc, length, Some, refl, sym, ap, subst, arith, inl, inr}
 use Rattle.std.specs.Prelude.{◌⊎◌, ◌==◌, slice_get}
-use Rattle.std.proofs.lemmas.Bool.{both_ways, cases_Bool, eq-eqb}
+use Rattle.std.proofs.lemmas.Bool.{both_ways, eq-eqb}
 use Rattle.std.proofs.lemmas.List.{append-nil}
 use Rattle.std.proofs.lemmas.Option.{same_Some}
 use Rattle.base.proofs.PlaceLaws.{slice_get-front, slice_get-last}
@@ -18,13 +18,13 @@ use Rattle.quiesce_core.specs.declared.event.Event.TheVariants.{Begin, End, Reop
 use Rattle.quiesce_core.proofs.InductionLaws.{IsNext, place}
 use Rattle.change_round_laws.proofs.FoldLaws.{StatesAreHanded}
 use Rattle.result_row_laws.specs.Rows.{IsRow, through}
-use Rattle.result_row_laws.proofs.Answered.{Answered, answered, at_place, untouched_at}
+use Rattle.result_row_laws.proofs.Answered.{answered, at_place, untouched_at}
 use Rattle.result_come_laws.specs.Coming.{HasFolds, come}
 use Rattle.result_come_laws.proofs.ComingLaws.{facts, folds_before, folds_on}
 use Rattle.result_row_laws.proofs.Course.{Course, CourseNext, Grown, RowAt, counted, course_at, course_next}
 use Rattle.result_row_laws.proofs.Ends.{MakesWell, last_made, last_more, last_next, touch_next, touched, touched_more}
 use Rattle.result_row_laws.proofs.Onward.{Now}
-use Rattle.result_row_laws.proofs.Passing.{Stop, passed}
+use Rattle.result_row_laws.proofs.Passing.{passed}
 use Rattle.result_row_laws.proofs.Resting.{InRow}
 use Rattle.result_row_laws.proofs.Rounds.{SourceDoes, begins, does, ends, other}
 

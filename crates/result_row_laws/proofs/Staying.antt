@@ -1,7 +1,7 @@
 -- A rest stays by each event of the change but a reopen: all ports stay idle, and a source or a sink that is made has what the last
 -- one had.
-use Rattle.std.proofs.Common.{◌≡◌, ◌∙◌, ℕ, ◌+◌, ◌-◌, ◌<◌, ◌≤◌, Bool, true, false, cond, List, [], ◌∷◌, ◌++◌, length, Option, Some, None, refl, sym, ap, subst, arith, inl, inr, ⊎_elim}
-use Rattle.std.specs.Prelude.{◌⊎◌, ◌==◌, ◌&&◌, nat_lt, nat_le}
+use Rattle.std.proofs.Common.{◌≡◌, ◌∙◌, ℕ, ◌+◌, ◌-◌, ◌<◌, ◌≤◌, Bool, true, false, cond, List, [], ◌∷◌, ◌++◌, length, Option, Some, None, refl, sym, ap, subst, arith, ⊎_elim}
+use Rattle.std.specs.Prelude.{◌==◌, ◌&&◌, nat_lt, nat_le}
 use Rattle.std.specs.Option.{option_map_or}
 use Rattle.std.proofs.lemmas.Bool.{and_parts, both_ways, cases_Bool, cases_lt, eqb-true}
 use Rattle.std.proofs.lemmas.List.{get_or_past}
@@ -9,31 +9,30 @@ use Rattle.std.proofs.lemmas.Option.{none-some, same_Some}
 use Rattle.base.proofs.PlaceLaws.{slice_get-there}
 use Rattle.config_graph.specs.Kinds.{row}
 use Rattle.config_graph.specs.declared.kind.Kind.{Kind}
-use Rattle.config_graph.specs.declared.kind.Kind.TheVariants.{Map, Sink, Source}
+use Rattle.config_graph.specs.declared.kind.Kind.TheVariants.{Sink, Source}
 use Rattle.config_graph.specs.declared.node.Node.{Node}
 use Rattle.component_trait.specs.States.{Kept, NodeState}
 use Rattle.component_trait.specs.Tables.{opening}
 use Rattle.quiesce_word.specs.Phases.{is_idle}
-use Rattle.quiesce_core.specs.Alters.{exchange_next, gate_next, nodes_next}
+use Rattle.quiesce_core.specs.Alters.{exchange_next, gate_next}
 use Rattle.quiesce_core.specs.Doers.{is_make, is_of_change}
 use Rattle.quiesce_core.specs.Effect.{effect}
 use Rattle.quiesce_core.specs.Legal.{Legal}
 use Rattle.quiesce_core.specs.Rules.{is_kind}
 use Rattle.quiesce_core.specs.Runs.{IsRun, state_after}
-use Rattle.quiesce_core.specs.State.{Configuration, State, exchange, fresh_gate, gate, owner, slot}
+use Rattle.quiesce_core.specs.State.{Configuration, State, exchange, fresh_gate, gate, owner}
 use Rattle.quiesce_core.specs.declared.event.Event.{Event}
 use Rattle.quiesce_core.specs.declared.event.Event.TheVariants as event
 use Rattle.quiesce_core.specs.declared.state.Exchange.{Exchange}
 use Rattle.quiesce_core.specs.declared.state.Gate.{Gate}
-use Rattle.quiesce_core.specs.declared.state.Slot.{Slot}
 use Rattle.quiesce_core.proofs.AlterLaws.{exchanges_next, reconfigured}
 use Rattle.quiesce_core.proofs.InductionLaws.{IsNext, always}
 use Rattle.change_round_laws.proofs.FoldLaws.{StatesAreHanded}
 use Rattle.result_row_laws.proofs.AtRest.{IsStill}
 use Rattle.result_come_laws.specs.Coming.{HasFolds, come}
-use Rattle.result_come_laws.proofs.ComingLaws.{folds_stay, given_to, made_has, old_stays}
+use Rattle.result_come_laws.proofs.ComingLaws.{given_to, made_has, old_stays}
 use Rattle.result_row_laws.proofs.Ends.{IsMadeWell, last_made, last_more, last_next, same_sink, same_source}
-use Rattle.result_row_laws.proofs.Resting.{Ends, Rest}
+use Rattle.result_row_laws.proofs.Resting.{Rest}
 
 abbrev pub is_reopen : Event → Bool
 is_reopen (event.Reopen p) = true

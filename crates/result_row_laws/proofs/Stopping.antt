@@ -1,12 +1,11 @@
 -- A run at its end: nothing is open, so a row rests; and a log of a live node ends with what that has come to.
-use Rattle.std.proofs.Common.{◌≡◌, ◌∙◌, ℕ, zero, suc, ◌+◌, ◌<◌, Bool, true, false, cond, not, List, [], ◌∷◌, ◌++◌, length, map, filter, Option, Some, None, refl, sym, ap, subst, arith, ⊎_elim, Contains}
-use Rattle.std.specs.Prelude.{◌==◌, ◌&&◌, ◌||◌, All, filter_map, find, is_some, slice_get, unwrap_or}
+use Rattle.std.proofs.Common.{◌≡◌, ◌∙◌, ℕ, zero, suc, ◌+◌, ◌<◌, Bool, true, false, cond, not, List, [], ◌∷◌, ◌++◌, length, map, filter, Option, Some, None, refl, sym, ap, subst, arith, ⊎_elim}
+use Rattle.std.specs.Prelude.{◌==◌, ◌&&◌, ◌||◌, All, filter_map, is_some, slice_get, unwrap_or}
 use Rattle.std.specs.List.{list_any, range_with_len}
 use Rattle.std.specs.Option.{option_map_or}
 use Rattle.std.proofs.lemmas.Bool.{and_parts, both_ways, cases_Bool, eq-eqb, eqb-true, not-true, or_cases, or_left, or_right}
-use Rattle.std.proofs.lemmas.List.{append-nil}
 use Rattle.std.proofs.lemmas.List.Elements.{All-contains}
-use Rattle.std.proofs.lemmas.Option.{none-some, same_Some}
+use Rattle.std.proofs.lemmas.Option.{same_Some}
 use Rattle.base.proofs.ContainsLaws.{Contains-at}
 use Rattle.base.proofs.FindLaws.{find_passes}
 use Rattle.base.proofs.OptionLaws.{Some-from_is_some, map_or_true}
@@ -20,11 +19,10 @@ use Rattle.component_trait.specs.Tables.{numbers}
 use Rattle.quiesce_word.specs.Phases.{is_idle}
 use Rattle.quiesce_core.specs.Runs.{IsRun, is_open_after, state_after}
 use Rattle.quiesce_core.specs.Effect.{effect}
-use Rattle.quiesce_core.specs.Rules.{can_move, is_kind, was_moved}
+use Rattle.quiesce_core.specs.Rules.{is_kind, was_moved}
 use Rattle.quiesce_core.specs.State.{Configuration, State, exchange, slot}
 use Rattle.quiesce_core.specs.declared.event.Event.{Event}
 use Rattle.quiesce_core.specs.declared.event.Event.TheVariants as event
-use Rattle.quiesce_core.specs.declared.state.Exchange.{Exchange}
 use Rattle.quiesce_core.specs.declared.state.Slot.{Slot}
 use Rattle.quiesce_core.specs.Doers.{is_of_change}
 use Rattle.quiesce_core.proofs.AlterLaws.{reconfigured}
@@ -72,10 +70,10 @@ ends_there handed es run folds idle past course = ⊎_elim
 
 -- ---- each node made has a log, and a fold
 
-range_at : (a n k : ℕ) → k < n → slice_get (range_with_len a n) k ≡ Some (a + k)
-range_at a zero k h = absurd (omega (arith, h))
-range_at a (suc n) zero h = ap Some (omega arith)
-range_at a (suc n) (suc k) h = range_at (a + 1) n k (omega (arith, h)) ∙ ap Some (omega arith)
+numbered_at : (a n k : ℕ) → k < n → slice_get (range_with_len a n) k ≡ Some (a + k)
+numbered_at a zero k h = absurd (omega (arith, h))
+numbered_at a (suc n) zero h = ap Some (omega arith)
+numbered_at a (suc n) (suc k) h = numbered_at (a + 1) n k (omega (arith, h)) ∙ ap Some (omega arith)
 
 folded : (o : Option NodeState) (j : Option ℕ) (l : Last) → EndsAs o j l → is_some o ≡ true
 folded None None l h = absurd h
@@ -145,7 +143,7 @@ module _ (m : List Member) (report : Report) (merge : Merge m report) (run : IsR
     all = λ n x there.
         let c = (state_after (events m)).config in
         let at : slice_get (map (λ (l : NodeLog). l.slot) report.logs) n ≡ Some n =
-        ap (λ xs. slice_get xs n) slots_of_logs ∙ range_at 0 (length c.slots) n (slice_get-below c.slots n x there) ∙ ap Some (omega arith) in
+        ap (λ xs. slice_get xs n) slots_of_logs ∙ numbered_at 0 (length c.slots) n (slice_get-below c.slots n x there) ∙ ap Some (omega arith) in
         let l = slice_get-map_some (λ (l : NodeLog). l.slot) report.logs n n at in
         let has = All-contains (IsFolded m report.history) report.logs l.0 folds (Contains-at report.logs n l.0 l.1) in
         ap (λ k. is_some (fold_of_node (events m) k)) (sym l.2) ∙ folded (fold_of_node (events m) l.0.slot) (moved_to report.history l.0.slot) l.0.last has;

@@ -1,7 +1,6 @@
 -- Where a change keeps or moves the node of a kind, and it makes a new one, the new one takes the old one's state over.
-use Rattle.std.proofs.Common.{◌≡◌, ◌∙◌, ℕ, suc, ◌<◌, Bool, true, false, List, [], ◌∷◌, length, map, Option, Some, None, refl, sym, ap, subst, arith, inl, inr}
-use Rattle.std.specs.Prelude.{◌⊎◌, ◌==◌, AllPairs, Any, Contains, find, slice_get}
-use Rattle.std.specs.List.Sorted.{IsStrictlyIncreasing}
+use Rattle.std.proofs.Common.{◌≡◌, ◌∙◌, ℕ, suc, ◌<◌, List, [], ◌∷◌, map, Some, refl, sym, ap, subst, arith, inl, inr}
+use Rattle.std.specs.Prelude.{◌⊎◌, ◌==◌, AllPairs, Any, Contains, find}
 use Rattle.std.proofs.lemmas.Bool.{eq-eqb, eqb-true}
 use Rattle.std.proofs.lemmas.List.Kept.{AllPairs-from_increasing}
 use Rattle.base.proofs.ContainsLaws.{Contains-at, Contains-cons_cases, Contains-map, Contains-nil}
@@ -9,8 +8,7 @@ use Rattle.std.proofs.lemmas.Option.{same_Some}
 use Rattle.base.proofs.FindLaws.{find-only}
 use Rattle.config_graph.specs.Graph.{Graph}
 use Rattle.config_graph.specs.declared.kind.Kind.{Kind}
-use Rattle.config_graph.specs.declared.node.Node.{Node}
-use Rattle.change_plan.specs.Differences.{IsGone, IsTwin}
+use Rattle.change_plan.specs.Differences.{IsGone}
 use Rattle.change_plan.specs.Moves.{IsShift, IsShifts, MoveLeads}
 use Rattle.change_plan.specs.declared.plan_data.Move.{Move}
 use Rattle.change_plan.specs.declared.plan_data.Shift.{Shift}

@@ -1,24 +1,21 @@
 -- A node of a row is settled only while the source's port is closed and idle. So nothing is linked, unlinked or removed while a
 -- value is under way, and the row stands that stood when its transaction began.
-use Rattle.std.proofs.Common.{◌≡◌, ◌∙◌, ℕ, ◌+◌, ◌<◌, ◌≤◌, Bool, true, false, List, [], ◌∷◌, length, Option, Some, refl, sym, ap, subst, arith, inl, inr}
-use Rattle.std.specs.Prelude.{◌⊎◌, ◌&&◌, Contains, IsTrue}
-use Rattle.std.specs.Option.{option_map_or}
-use Rattle.std.proofs.lemmas.Bool.{and_parts, both_ways}
-use Rattle.base.proofs.OptionLaws.{map_or_at, map_or_true}
+use Rattle.std.proofs.Common.{◌≡◌, ◌∙◌, ℕ, ◌<◌, true, false, List, [], ◌∷◌, length, sym, ap, subst, arith, inl, inr}
+use Rattle.std.specs.Prelude.{◌⊎◌, IsTrue}
+use Rattle.std.proofs.lemmas.Bool.{and_parts}
+use Rattle.base.proofs.OptionLaws.{map_or_at}
 use Rattle.config_graph.specs.Kinds.{depends_on, row}
 use Rattle.config_graph.specs.Wiring.{Reach, direct, through}
 use Rattle.config_graph.specs.declared.kind.Kind.{Kind}
-use Rattle.config_graph.specs.declared.kind.Kind.TheVariants.{Map}
 use Rattle.component_trait.specs.States.{NodeState}
 use Rattle.quiesce_word.specs.Phases.{is_idle}
 use Rattle.quiesce_core.specs.Reach.{IsPortOf, wiring_of}
 use Rattle.quiesce_core.specs.Rules.{is_quiet, is_settled}
 use Rattle.quiesce_core.specs.State.{Configuration, State, depends, exchange, gate, owner, slot}
 use Rattle.quiesce_core.specs.WellFormed.{IsSound, IsWellFormed}
-use Rattle.quiesce_core.specs.declared.state.Gate.{Gate}
 use Rattle.quiesce_core.specs.declared.state.Slot.{Slot}
 use Rattle.quiesce_core.proofs.SettledLaws.{settled_if}
-use Rattle.result_row_laws.proofs.Passing.{Stop, ToMap, Way, last_port}
+use Rattle.result_row_laws.proofs.Passing.{Stop, ToMap, Way}
 
 -- the node stands on the way
 abbrev pub IsOnWay : List Stop → ℕ → ℕ → Type 0

@@ -3,7 +3,6 @@ use Rattle.std.proofs.Common.{◌≡◌, ◌∙◌, ℕ, zero, suc, ◌<◌, fal
 use Rattle.std.specs.Prelude.{◌⊎◌, All, Contains, is_some, slice_get}
 use Rattle.std.proofs.lemmas.List.Elements.{All-cons, All-head, All-nil, All-tail}
 use Rattle.std.proofs.lemmas.Bool.{both_ways, ne_eqb}
-use Rattle.std.proofs.lemmas.Option.{none-some, same_Some}
 use Rattle.config_graph.specs.declared.node.Target.{Target}
 use Rattle.config_graph.specs.Graph.{Graph, target_of}
 use Rattle.config_graph.specs.Cycles.{IsLinked}
@@ -72,14 +71,14 @@ one_is_row = record {
     each (suc (suc zero)) h = inr (inr refl)
     each (suc (suc (suc i))) h = absurd (omega (arith, h))
 
-abbrev node_of : Option Target → ℕ
-node_of None = 9
-node_of (Some t) = t.node
+abbrev linked_node : Option Target → ℕ
+linked_node None = 9
+linked_node (Some t) = t.node
 
 none_leads : (j : ℕ) → IsLinked with_one_aside j 0 0 0 → ⊥
-none_leads zero h = omega (arith, ap node_of h)
-none_leads (suc zero) h = omega (arith, ap node_of h)
-none_leads (suc (suc zero)) h = omega (arith, ap node_of h)
+none_leads zero h = omega (arith, ap linked_node h)
+none_leads (suc zero) h = omega (arith, ap linked_node h)
+none_leads (suc (suc zero)) h = omega (arith, ap linked_node h)
 none_leads (suc (suc (suc j))) h =
     let none_ : target_of with_one_aside.links (suc (suc (suc j))) 0 ≡ None =
     rw (ne_eqb 0 (suc (suc (suc j))) (λ e. omega (arith, e))) (rw (ne_eqb 2 (suc (suc (suc j))) (λ e. omega (arith, e))) refl) in
@@ -106,10 +105,10 @@ maps_of_one : (r : IsRow row_of_one) → through row_of_one r.maps 1 ≡ 11
 maps_of_one r = by r.source r.maps r.sink r.is_source r.are_maps r.is_sink r.leads
   where
     to_1 : (m : ℕ) → IsLinked row_of_one 0 0 m 0 → m ≡ 1
-    to_1 m l = sym (ap node_of l)
+    to_1 m l = sym (ap linked_node l)
 
     to_2 : (m : ℕ) → IsLinked row_of_one 1 0 m 0 → m ≡ 2
-    to_2 m l = sym (ap node_of l)
+    to_2 m l = sym (ap linked_node l)
 
     rest : (maps : List ℕ) (t : ℕ) → All (λ i. kind_at row_of_one i ≡ Some Map) maps → LeadsThrough row_of_one 1 maps t → through row_of_one (1 ∷ maps) 1 ≡ 11
     rest [] t are l = refl
