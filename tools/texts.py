@@ -27,6 +27,8 @@ LOGS = [["log", "NODE"], ["log", "NODE", "WORD"], ["moved", "NODE"], ["unfinishe
 LOGS += [[name, "PORT", "NUMBER", "NUMBER"] for name in EVENTS]
 # no number of a report has more digits
 DIGITS = 20
+# what builds the program beside the tools
+BUILT = " (`rt run -- --version` in crates/darwin_run builds it)"
 
 
 def by_name(forms):
@@ -73,10 +75,15 @@ def content(name):
         raise Bad("%s can't be read: %s" % (name, error.strerror))
 
 
+def built():
+    """Where the program is left when it is built beside the tools."""
+    top = os.path.dirname(os.path.dirname(os.path.abspath(__file__)))
+    return os.path.join(top, "crates", "darwin_run", "out", "darwin_run")
+
+
 def program():
     """The program that the shell finds, or else the one that is built beside the tools."""
-    top = os.path.dirname(os.path.dirname(os.path.abspath(__file__)))
-    return shutil.which("darwin_run") or os.path.join(top, "crates", "darwin_run", "out", "darwin_run")
+    return shutil.which("darwin_run") or built()
 
 
 def written(program, *words):
@@ -84,7 +91,7 @@ def written(program, *words):
     try:
         run = subprocess.run([program, *words], stdin=subprocess.DEVNULL, stdout=subprocess.PIPE)
     except OSError as error:
-        raise Bad("the program %s can't be run: %s" % (program, error.strerror))
+        raise Bad("the program %s can't be run: %s%s" % (program, error.strerror, BUILT if program == built() else ""))
     text = run.stdout.decode("utf-8", "replace")
     if run.returncode:
         raise Bad("%s ends with status %d: %s" % (" ".join([program, *words]), run.returncode, text.strip()))
@@ -92,7 +99,9 @@ def written(program, *words):
 
 
 def bad_line(number, line, what):
-    return Bad("line %d is none of a %s: %s" % (number, what, line))
+    """That a line is none of a text, with the front of it, since it may be long or no text at all."""
+    shown = "".join(it if it.isprintable() else ascii(it)[1:-1] for it in line[:60])
+    return Bad("line %d is none of a %s: %s%s" % (number, what, shown, " .." if len(line) > 60 else ""))
 
 
 # ---- nodes and graphs
@@ -298,8 +307,10 @@ class Reader:
 def read_report(lines):
     """The report, of either version, of which these lines are the text."""
     reader = Reader()
-    if lines[:1] not in (["report 1"], ["report 2"]):
-        raise bad_line(1, lines[0] if lines else "", "report")
+    if not lines:
+        raise Bad("the text is empty, and no report")
+    if lines[0] not in ("report 1", "report 2"):
+        raise bad_line(1, lines[0], "report")
     for number, line in enumerate(lines[1:], 2):
         words = line.split(" ")
         if not reader.may_stand(words):
