@@ -63,7 +63,10 @@ module _ (s : State) (f : ℕ → NodeState) (s' : State) (g : ℕ → NodeState
       let y = (x + m.arg) % VALUE_LIMIT in
       at_like p x (MapHas s (f m.at) m x (Going s f m.port y ms t)) (MapHas s' (g m.at) m x (Going s' g m.port y ms t))
       (λ d has. record {
-        kept = has.kept; reply = has.reply; answers = has.answers; is = like.folds m.at ∙ has.is;
+        kept = has.kept;
+        reply = has.reply;
+        answers = has.answers;
+        is = like.folds m.at ∙ has.is;
         inside = inside_like m.port (Going s f m.port y ms t) (Going s' g m.port y ms t) (λ d' deep. going_like ms m.port y t d' deep) has.answers d has.inside;
       }) d w
 

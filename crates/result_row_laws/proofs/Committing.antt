@@ -57,10 +57,12 @@ module _ (old new : Graph) (plan : Plan) (c : Configuration) (k : Kind) (one : (
   create_once o n [] apart gone takes = tt
   create_once o n (j ∷ js) apart gone takes = (
     λ kind.
-        let here = kind_of j (gone j (Contains-here j js)) kind in
-        (takes j (Contains-here j js) here, λ m there kind'.
-        let w = made_place (n + 1) js m there in
-        apart.0 w.0 (contains_in js w.0 w.1) (one w.0 j (kind_of w.0 (gone w.0 (Contains-there j w.0 js w.1)) (sym (ap (λ (x : Node). x.kind) w.2) ∙ kind')) here)),
+        let here = kind_of j (gone j (Contains-here j js)) kind in (
+          takes j (Contains-here j js) here,
+          λ m there kind'.
+              let w = made_place (n + 1) js m there in
+              apart.0 w.0 (contains_in js w.0 w.1) (one w.0 j (kind_of w.0 (gone w.0 (Contains-there j w.0 js w.1)) (sym (ap (λ (x : Node). x.kind) w.2) ∙ kind')) here),
+        ),
     create_once o (n + 1) js apart.1 (λ i there. gone i (Contains-there j i js there)) (λ i there. takes i (Contains-there j i js there)),
   )
 

@@ -147,11 +147,13 @@ module _ (handed : StatesAreHanded) (es : List Event) (e : Event) (here : IsNext
       start _ is h (begins q j v at val kept) =
           let v_is = counted (state_after es) (come es) w.a w.p w.ms w.t past w.row.stands in
           record {
-            before = es; after = []; serial = j;
+            before = es;
+            after = [];
+            serial = j;
             parts = ap (λ z. es ++ z ∷ []) (is ∙ (λ i. event.Begin (at i) j ((val ∙ ap (λ n. n + 1) v_is) i)));
             stands = w.stands;
             same = ap (λ (x : Exchange). x.serial) (after_is w.p ∙ ap (exchange_next (state_after es) w.p) is
-            ∙ ap (λ b. cond b (record { phase = phase.Asked; serial = j; value = v; within = None }) (exchange (state_after es) w.p)) (eq-eqb q w.p at));
+                ∙ ap (λ b. cond b (record { phase = phase.Asked; serial = j; value = v; within = None }) (exchange (state_after es) w.p)) (eq-eqb q w.p at));
           }
       start _ is h (ends q j v at kept) = absurd (both_ways false refl h)
       start _ is h (other z calm still kept) = absurd (both_ways (starts_at w.p z) (calm w.p) h)
@@ -160,7 +162,9 @@ module _ (handed : StatesAreHanded) (es : List Event) (e : Event) (here : IsNext
       by false was =
           let old = w.begun was in
           record {
-            before = old.before; after = old.after ++ e ∷ []; serial = old.serial;
+            before = old.before;
+            after = old.after ++ e ∷ [];
+            serial = old.serial;
             parts = ap (λ xs. xs ++ e ∷ []) old.parts ∙ append_assoc old.before (event.Begin w.p old.serial (length past + 1) ∷ old.after) (e ∷ []);
             stands = old.stands;
             same = ap (λ (x : Exchange). x.serial) (after_is w.p) ∙ serial_stays (state_after es) e here.legal w.p was ∙ old.same;
@@ -185,9 +189,15 @@ module _ (handed : StatesAreHanded) (es : List Event) (e : Event) (here : IsNext
       record {
         next = go.next;
         in_row = record {
-          graph = w.graph; stands = same_graph (state_after es).config (state_after (es ++ e ∷ [])).config w.graph same w.stands; is_row = w.is_row;
-          a = w.a; p = w.p; ms = w.ms; t = w.t;
-          row = go.row; same = w.same;
+          graph = w.graph;
+          stands = same_graph (state_after es).config (state_after (es ++ e ∷ [])).config w.graph same w.stands;
+          is_row = w.is_row;
+          a = w.a;
+          p = w.p;
+          ms = w.ms;
+          t = w.t;
+          row = go.row;
+          same = w.same;
           source = last_more Source es e ∙ calm_last Source (last_made Source es) e lasts ∙ w.source;
           sink = last_more Sink es e ∙ calm_last Sink (last_made Sink es) e lasts ∙ w.sink;
           begun = begun_on past w go.next go.grows;

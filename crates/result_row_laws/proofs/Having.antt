@@ -78,7 +78,12 @@ was_answered m v item w =
     let first = node_placed m w.before (w.between ++ e ∷ w.after) b refl w.parts in
     let second = node_placed first.back w.between w.after e refl first.behind in
     record {
-      before = first.front; between = second.front; after = second.back; port = w.port; serial = w.serial; answer = w.answer;
+      before = first.front;
+      between = second.front;
+      after = second.back;
+      port = w.port;
+      serial = w.serial;
+      answer = w.answer;
       parts = first.parts ∙ ap (λ xs. first.front ++ by_node b ∷ xs) second.parts;
       not_0 = λ is. both_ways (w.answer == 0) w.not_0 (eq-eqb w.answer 0 is);
     }
@@ -117,7 +122,9 @@ module _ (handed : StatesAreHanded) (each_may : EachMayCommit) (by_config : Comm
       let place = s.value in
       let here : s.place ≡ j = omega (arith, place) in
       record {
-        graph = s.graph; stands = s.stands; row = s.row;
+        graph = s.graph;
+        stands = s.stands;
+        row = s.row;
         is = one_at whole.past j item (through s.graph s.row.maps (j + 1)) at (sym (λ i. slice_get (same i) (here i)) ∙ s.there);
       }
 

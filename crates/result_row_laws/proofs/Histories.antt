@@ -97,10 +97,13 @@ new_place n (x ∷ xs) m there = ⊎_elim
 start_once : (k : Kind) (n : ℕ) (xs : List Node) → ((i j : ℕ) → kind_in xs i ≡ Some k → kind_in xs j ≡ Some k → i ≡ j) → OnceFrom k None (news n xs)
 start_once k n [] one = tt
 start_once k n (x ∷ xs) one = (
-  λ kind. (refl, λ m there kind'.
-      let w = new_place (n + 1) xs m there in
-      let same = one 0 (suc w.0) (ap Some kind) (ap (option_map (λ (y : Node). y.kind)) w.1 ∙ ap Some kind') in
-      omega (arith, same)),
+  λ kind. (
+    refl,
+    λ m there kind'.
+        let w = new_place (n + 1) xs m there in
+        let same = one 0 (suc w.0) (ap Some kind) (ap (option_map (λ (y : Node). y.kind)) w.1 ∙ ap Some kind') in
+        omega (arith, same),
+  ),
   start_once k (n + 1) xs (λ i j a b. let same = one (suc i) (suc j) a b in omega (arith, same)),
 )
 

@@ -499,7 +499,10 @@ module _ (s : State) (f g : ℕ → NodeState) (facts : Facts s f) where
         let r = no_reply e p m.at 0 w.0.to.leads u other in
         in_map e now false false a v u r.0 (asked_stays p e now.legal a r.0 r.1)
         (record {
-          kept = kept; reply = reply; answers = []; is = is;
+          kept = kept;
+          reply = reply;
+          answers = [];
+          is = is;
           inside = at.not_yet (idle_by_same e m.port (idle_stays m.port e now.legal idle (ap (λ i. is_doer s i e) w.0.owned ∙ other)) idle);
         })
         (inl (refl, rest_stays e now ms m.port t w.1 idle))
@@ -511,7 +514,10 @@ module _ (s : State) (f g : ℕ → NodeState) (facts : Facts s f) where
         let r = no_reply e p m.at 0 w.0.to.leads u other in
         in_map e now d d a v u r.0 (asked_stays p e now.legal a r.0 r.1)
         (record {
-          kept = kept; reply = reply; answers = b ∷ []; is = is;
+          kept = kept;
+          reply = reply;
+          answers = b ∷ [];
+          is = is;
           inside = at.back b d (idle_by_same e m.port (idle_stays m.port e now.legal idle (ap (λ i. is_doer s i e) w.0.owned ∙ other)) idle) dv;
         })
         (inl (refl, rest_stays e now ms m.port t w.1 idle))
@@ -539,7 +545,9 @@ module _ (s : State) (f g : ℕ → NodeState) (facts : Facts s f) where
               next = false;
               going = at.taken (asked_by_same e p up.same a) (valued_by_same e p x up.same v) up.taken
                   (record {
-                    kept = has.kept; reply = 0; answers = [];
+                    kept = has.kept;
+                    reply = 0;
+                    answers = [];
                     is = has.is ∙ ap (λ i. at_work Map i has.kept x 0 []) w.0.arg;
                     inside = at.not_yet (idle_by_same e m.port (up.quiet m.port) (free_map m p w.0 has.idle));
                   });

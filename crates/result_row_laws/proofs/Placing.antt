@@ -40,10 +40,19 @@ HavePlaces es past = (j item : ℕ) → slice_get past j ≡ Some item → ItemA
 
 further : (es : List Event) (e : Event) (v item : ℕ) → ItemAt es v item → ItemAt (es ++ e ∷ []) v item
 further es e v item w = record {
-  before = w.before; between = w.between; after = w.after ++ e ∷ []; port = w.port; serial = w.serial; answer = w.answer;
+  before = w.before;
+  between = w.between;
+  after = w.after ++ e ∷ [];
+  port = w.port;
+  serial = w.serial;
+  answer = w.answer;
   parts = ap (λ xs. xs ++ e ∷ []) w.parts ∙ append_assoc w.before (Begin w.port w.serial v ∷ (w.between ++ End w.port w.serial w.answer ∷ w.after)) (e ∷ [])
       ∙ ap (λ xs. w.before ++ Begin w.port w.serial v ∷ xs) (append_assoc w.between (End w.port w.serial w.answer ∷ w.after) (e ∷ []));
-  not_0 = w.not_0; graph = w.graph; stands = w.stands; row = w.row; is = w.is;
+  not_0 = w.not_0;
+  graph = w.graph;
+  stands = w.stands;
+  row = w.row;
+  is = w.is;
 }
 
 pushed_cases : (xs : List ℕ) (x j item : ℕ) → slice_get (xs ++ x ∷ []) j ≡ Some item → (slice_get xs j ≡ Some item) ⊎ ((j ≡ length xs) × (item ≡ x))
@@ -61,10 +70,19 @@ new_item es e here past next g =
     let message = and_parts (g.end_.serial == (exchange (state_after es) w.p).serial) (g.end_.answer == (exchange (state_after es) w.p).value) legal.message in
     let serial : g.end_.serial ≡ b.serial = eqb-true g.end_.serial (exchange (state_after es) w.p).serial message.0 ∙ b.same in
     record {
-      before = b.before; between = b.after; after = []; port = w.p; serial = b.serial; answer = g.end_.answer;
+      before = b.before;
+      between = b.after;
+      after = [];
+      port = w.p;
+      serial = b.serial;
+      answer = g.end_.answer;
       parts = ap (λ xs. xs ++ e ∷ []) b.parts ∙ append_assoc b.before (Begin w.p b.serial (length past + 1) ∷ b.after) (e ∷ [])
           ∙ ap (λ z. b.before ++ Begin w.p b.serial (length past + 1) ∷ (b.after ++ z ∷ [])) (g.end_.is ∙ ap (λ k. End w.p k g.end_.answer) serial);
-      not_0 = g.end_.not_0; graph = w.graph; stands = b.stands; row = w.is_row; is = w.same (length past + 1);
+      not_0 = g.end_.not_0;
+      graph = w.graph;
+      stands = b.stands;
+      row = w.is_row;
+      is = w.same (length past + 1);
     }
 
 places_next : (es : List Event) (e : Event) → IsNext es e → (past : List ℕ) → (on : CourseNext es e past) → HavePlaces es past → HavePlaces (es ++ e ∷ []) on.next

@@ -76,7 +76,13 @@ module _ (handed : StatesAreHanded) (es : List Event) (run : IsRun es) (folds : 
       let last_source = one_source a at.made at.there at.live kind in
       let last_sink = one_sink w.end_ end_.made end_.there end_.live end_.kind in
       record {
-        graph = g; stands = is; is_row = r; a = a; p = p; ms = w.stops; t = w.end_;
+        graph = g;
+        stands = is;
+        is_row = r;
+        a = a;
+        p = p;
+        ms = w.stops;
+        t = w.end_;
         row = record {
           src = record { made = at.made; there = at.there; first = refl; owned = owned; kind = fits.kinds a at.made at.there ∙ kind };
           way = w.way;

@@ -54,7 +54,7 @@ module _ (old new : Graph) (sound_old : Sound old) (sound_new : Sound new) (r : 
   along (n ∷ xs) (m ∷ ys) i i' x t l k l' k' at none_ = step i i' n t l.0 (λ j tw h.
       let one = one_end new i' 0 j 0 m 0 h l'.0 in
       let tw' : IsTwin old new n m = subst (IsTwin old new n) one tw in
-      by tw' (λ at' . along xs ys n m x tw' l.1 (All-tail (λ k. kind_at old k ≡ Some Map) n xs k) l'.1 (All-tail (λ k. kind_at new k ≡ Some Map) m ys k') at' none_) (cases at))
+      by tw' (λ at'. along xs ys n m x tw' l.1 (All-tail (λ k. kind_at old k ≡ Some Map) n xs k) l'.1 (All-tail (λ k. kind_at new k ≡ Some Map) m ys k') at' none_) (cases at))
     where
       cases : Contains (m ∷ ys) x ⊎ (x ≡ q.sink) → (x ≡ m) ⊎ Contains ys x ⊎ (x ≡ q.sink)
       cases (inl c) = more_ (Contains-cons_cases m ys x c)

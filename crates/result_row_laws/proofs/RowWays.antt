@@ -138,7 +138,8 @@ module _ (c : Configuration) (sound : IsSound c) (named : AreNamed c) (owners : 
           to = record {
             leads = sym (ap (target c) here) ∙ k.leads;
             only = only_port p i r.sink n k.to on l a first k.to_there;
-            made = k.to_there.made; there = k.to_there.there;
+            made = k.to_there.made;
+            there = k.to_there.there;
             kind = kind_there k.to r.sink Sink k.to_there r.is_sink;
           };
           kind = fits.kinds k.to k.to_there.made k.to_there.there ∙ kind_there k.to r.sink Sink k.to_there r.is_sink;
@@ -164,7 +165,9 @@ module _ (c : Configuration) (sound : IsSound c) (named : AreNamed c) (owners : 
             to = record {
               leads = sym (ap (target c) here) ∙ k.leads;
               only = only_port p i m n k.to on l.0 a first k.to_there;
-              made = k.to_there.made; there = k.to_there.there; kind = kind;
+              made = k.to_there.made;
+              there = k.to_there.there;
+              kind = kind;
             };
             first = refl;
             owned = ap (owner c) (omega arith) ∙ row_of.owned 0 (omega (arith, one_));

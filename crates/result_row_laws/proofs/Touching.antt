@@ -30,9 +30,10 @@ module _ (c : Configuration) (f : ℕ → NodeState) (sound : IsSound c) where
       let one_ : length (row made.node.kind).requires_ ≡ 1 = ap (λ (k : Kind). length (row k).requires_) to.to.kind in
       let here = to.first in
       let row_of = sound.rows m.at made to.to.there in
-      let require_0 : (gate c m.port).require ≡ 0 = ap (λ q. (gate c q).require) (omega (arith, here)) ∙ row_of.in_order 0 (omega (arith, one_)) in
-      (record { node = made; made = to.to.there; from = omega (arith, here); below = omega (arith, here, one_) },
-          map_or_at (λ (s : Slot). depends_on s.node.kind 0 (gate c m.port).require) (slot c m.at) false made to.to.there ∙ (λ i. depends_on (to.to.kind i) 0 (require_0 i)))
+      let require_0 : (gate c m.port).require ≡ 0 = ap (λ q. (gate c q).require) (omega (arith, here)) ∙ row_of.in_order 0 (omega (arith, one_)) in (
+        record { node = made; made = to.to.there; from = omega (arith, here); below = omega (arith, here, one_) },
+        map_or_at (λ (s : Slot). depends_on s.node.kind 0 (gate c m.port).require) (slot c m.at) false made to.to.there ∙ (λ i. depends_on (to.to.kind i) 0 (require_0 i)),
+      )
 
   -- the first port reaches each node on the way
   reaches_all : (ms : List Stop) (p t n : ℕ) → Way c f p ms t → IsOnWay ms t n → Reach (wiring_of c) n p

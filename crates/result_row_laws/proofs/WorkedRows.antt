@@ -46,8 +46,12 @@ passed_there = refl
 
 pub none_is_row : IsRow row_of_none
 none_is_row = record {
-  source = 1; maps = []; sink = 0;
-  is_source = refl; are_maps = All-nil (λ i. kind_at row_of_none i ≡ Some Map); is_sink = refl;
+  source = 1;
+  maps = [];
+  sink = 0;
+  is_source = refl;
+  are_maps = All-nil (λ i. kind_at row_of_none i ≡ Some Map);
+  is_sink = refl;
   no_others = each;
   leads = refl;
 }
@@ -59,8 +63,12 @@ none_is_row = record {
 
 pub one_is_row : IsRow row_of_one
 one_is_row = record {
-  source = 0; maps = 1 ∷ []; sink = 2;
-  is_source = refl; are_maps = All-cons (λ i. kind_at row_of_one i ≡ Some Map) 1 [] refl (All-nil (λ i. kind_at row_of_one i ≡ Some Map)); is_sink = refl;
+  source = 0;
+  maps = 1 ∷ [];
+  sink = 2;
+  is_source = refl;
+  are_maps = All-cons (λ i. kind_at row_of_one i ≡ Some Map) 1 [] refl (All-nil (λ i. kind_at row_of_one i ≡ Some Map));
+  is_sink = refl;
   no_others = each;
   leads = (refl, refl);
 }
