@@ -8,7 +8,7 @@ ghost use Rattle.change_law.specs.Asked.{CanStart};
 use cfg_io::{MemShelf, NoMemory};
 use change_engine::Engine;
 use change_law::Start;
-use command_files::{Prepared, prepare};
+use command_files::{Prepared, Stop, prepare};
 use node_table::NodeTable;
 use std::alloc::{AllocError, AllocFailed, Global};
 use std::rt::Clock;
@@ -49,6 +49,15 @@ impl<T: Drop> From<AllocFailed<T>> for Unmeasured {
     }
 }
 
+impl From<Stop> for Unmeasured {
+    fn from(stop: Stop) -> Unmeasured {
+        match stop {
+            Stop::Refused(_) => Unmeasured::Refused,
+            Stop::NoMemory => Unmeasured::NoMemory,
+        }
+    }
+}
+
 impl From<io::Error> for Unmeasured {
     fn from(_error: io::Error) -> Unmeasured {
         Unmeasured::NoClock
@@ -69,10 +78,8 @@ fn start_of(alloc: Global, items: u32) -> Result<Start, Unmeasured>
     ensures { IfOk result CanStart }
 {
     let mut shelf = files_of(alloc, items)?;
-    match prepare(alloc, &mut shelf, SCRIPT_NAME)? {
-        Prepared::Asked { start, steps: _ } => Ok(start),
-        Prepared::Refused(_) => Err(Unmeasured::Refused),
-    }
+    let Prepared { start, steps: _ } = prepare(alloc, &mut shelf, SCRIPT_NAME)?;
+    Ok(start)
 }
 
 /// How many transactions ended until a scan moved nothing, and how long that took: neither the start nor a report is
