@@ -8,8 +8,8 @@ pub mod LinkedLemmas
 pub mod MayCommitLemmas
 pub mod PlannedLemmas
 pub mod ReadyLemmas
-pub mod RisingLemmas
+pub mod RisingLaws
 pub mod RoomLemmas
-pub mod StandingLemmas
+pub mod StandingLaws
 pub mod TakingOverLemmas
 pub mod WholeLemmas

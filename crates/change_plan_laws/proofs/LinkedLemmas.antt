@@ -42,7 +42,7 @@ use Rattle.quiesce_core.proofs.LiveLinkLaws.{IsLiveLink, linked_at}
 use Rattle.quiesce_commit_laws.proofs.MakingLaws.{Making}
 use Rattle.change_plan_laws.proofs.PlannedLemmas.{PortOf, kept_if, link_if, linked_if, old_link, port_of_link}
 use Rattle.quiesce_commit_laws.proofs.MemberLaws.{apart_pairs, contains_in, in_contains, map_apart, map_in, mapped}
-use Rattle.change_plan_laws.proofs.StandingLemmas.{in_if_stands, one_slot, stands_if_in, stands_if_slot}
+use Rattle.change_plan_laws.proofs.StandingLaws.{in_if_stands, one_slot, stands_if_in, stands_if_slot}
 use Rattle.quiesce_commit_laws.specs.Commits.{AreLinks, Changed, IsToLink, OtherPort}
 
 position_some : {A : Type 0} (f : A → Bool) (xs : List A) (i : ℕ) (x : A) → slice_get xs i ≡ Some x → f x ≡ true → (k : ℕ) × (position f xs ≡ Some k)

@@ -44,8 +44,8 @@ use Rattle.quiesce_commit_laws.specs.Work.{AreNumbered, NewNode}
 use Rattle.quiesce_core.proofs.ConfigurationLaws.{linked_made}
 use Rattle.quiesce_commit_laws.proofs.MakingLaws.{argument_test}
 use Rattle.quiesce_commit_laws.proofs.MemberLaws.{apart_pairs, contains_in, in_contains, any_if, any_of, select, select_apart, selected}
-use Rattle.change_plan_laws.proofs.RisingLemmas.{selects_apart}
-use Rattle.change_plan_laws.proofs.StandingLemmas.{in_if_stands, one_port, one_slot, stands_if_in, stands_if_live, stands_if_slot, stands_live_at}
+use Rattle.change_plan_laws.proofs.RisingLaws.{selects_apart}
+use Rattle.change_plan_laws.proofs.StandingLaws.{in_if_stands, one_port, one_slot, stands_if_in, stands_if_live, stands_if_slot, stands_live_at}
 use Rattle.quiesce_commit_laws.specs.Commits.{Differ, IsToRemove, IsToUnlink, IsWork, OtherPath, OtherSource}
 
 -- a link of a graph, as what it says

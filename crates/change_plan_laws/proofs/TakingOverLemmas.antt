@@ -24,7 +24,7 @@ use Rattle.change_plan_laws.specs.Commit.{is_at, node_path, slot_at, source_of, 
 use Rattle.change_plan_laws.specs.Committing.{MayCommit, TakesOver}
 use Rattle.change_plan_laws.proofs.PlannedLemmas.{makes_are, source_is}
 use Rattle.change_plan_laws.proofs.ReadyLemmas.{IsReady, ready}
-use Rattle.change_plan_laws.proofs.StandingLemmas.{one_slot, path_of, stands_if_slot}
+use Rattle.change_plan_laws.proofs.StandingLaws.{one_slot, path_of, stands_if_slot}
 
 -- a member of a list whose targets rise is told by its target
 

@@ -19,7 +19,7 @@ use Rattle.change_plan_laws.proofs.ReadyLemmas.{IsReady}
 use Rattle.change_plan_laws.proofs.LinkedLemmas.{are_links}
 use Rattle.change_plan_laws.proofs.PlannedLemmas.{is_work}
 use Rattle.quiesce_commit_laws.proofs.MemberLaws.{any_if, selected}
-use Rattle.change_plan_laws.proofs.StandingLemmas.{in_if_stands}
+use Rattle.change_plan_laws.proofs.StandingLaws.{in_if_stands}
 use Rattle.quiesce_commit_laws.specs.Commits.{AreNoted, IsCommit, AreLinks, IsWork}
 
 module _ (old new : Graph) (plan : Plan) (c : Configuration) (ready : IsReady old new plan c) where

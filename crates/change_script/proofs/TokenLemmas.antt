@@ -1,7 +1,7 @@
 -- What the tokens of a line are by its first byte, and by its first word.
 use Rattle.std.proofs.Common.{◌≡◌, ℕ, zero, suc, ◌+◌, Bool, true, false, not, ◌||◌, ◌&&◌, ◌==◌, ◌-◌, ◌≤◌, length, inl, inr, List, [], ◌∷◌, ◌++◌, take, drop, refl, sym, ap, ◌∙◌, arith}
 use Rattle.std.specs.List.{prefix_len, list_all}
-use Rattle.std.proofs.lemmas.Bool.{cond-true, cond-false, and_parts, cases_Bool, not-true}
+use Rattle.std.proofs.lemmas.Bool.{cond-true, cond-false, and_parts, and_right, cases_Bool, not-true}
 use Rattle.std.proofs.lemmas.Bool.Decides.{nat_tests}
 use Rattle.std.proofs.lemmas.Grind.{common_steps}
 use Rattle.change_script.specs.Tokens.{ScriptToken, word, opened, closed, comma, arrow, is_blank, begins_blank, is_sign, sign, is_word_byte, is_arrow, begins_word, is_word, word_len, onto_word, tokens, tokens_behind}
@@ -231,14 +231,10 @@ no_dash b (next ∷ rest) h = ap (λ x. x && (next == 62)) h
 head_word : (b : ℕ) (rest : List ℕ) → (b == 62) ≡ true → begins_word (b ∷ rest) ≡ false → ⊥
 head_word b rest holds ends = let is = head_is b holds in let no = no_word b rest (record { no_blank = is.0; no_sign = is.1; no_arrow = no_dash b rest is.2 }) in let e : true ≡ false = sym no ∙ ends in cc
 
-and_no : (x y : Bool) → y ≡ false → x && y ≡ false
-and_no true y h = h
-and_no false y h = refl
-
 -- No arrow goes past the end of a word.
 no_arrow_over : (b : ℕ) (rest : List ℕ) → begins_word rest ≡ false → is_arrow b rest ≡ false
 no_arrow_over b [] ends = refl
-no_arrow_over b (next ∷ rest) ends = elim (cases_Bool (next == 62)) [ inl holds ↦ absurd (head_word next rest holds ends) | inr fails ↦ and_no (b == 45) (next == 62) fails ]
+no_arrow_over b (next ∷ rest) ends = elim (cases_Bool (next == 62)) [ inl holds ↦ absurd (head_word next rest holds ends) | inr fails ↦ and_right (b == 45) (next == 62) fails ]
 
 -- The bytes of a word stay those of one before what begins no word.
 last_apart : (b : ℕ) (rest : List ℕ) → begins_word (b ∷ []) ≡ true → begins_word rest ≡ false → Apart b rest

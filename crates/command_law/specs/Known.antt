@@ -1,3 +1,4 @@
+-- To be believed (docs/definitions.md).
 -- Words that ask for one of the commands that a call knows.
 use Rattle.std.specs.Prelude.{◌≡◌, ℕ, Bool, true, List}
 use Rattle.command_words.specs.CommandLine.{Asks}

@@ -1,3 +1,4 @@
+-- To be believed (docs/definitions.md).
 -- How the nodes of a run take their turns, and what the report of the run must be then.
 use Rattle.std.specs.Prelude.{List}
 use Rattle.change_law.specs.Lawful.{LawfulOnThreads}

@@ -1,3 +1,4 @@
+-- To be believed (docs/definitions.md).
 -- The code with which the program exits.
 use Rattle.std.specs.Prelude.{◌≡◌}
 use Rattle.std.specs.Process.{exit_status}

@@ -1,3 +1,4 @@
+-- To be believed (docs/definitions.md).
 -- Which words name no file of the shelf.
 use Rattle.std.specs.Prelude.{⊤, ℕ, List}
 use Rattle.command_words.specs.CommandLine.{Asks}

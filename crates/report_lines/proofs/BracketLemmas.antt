@@ -1,5 +1,6 @@
 -- Names with parentheses behind them, and what stands inside.
 use Rattle.std.proofs.Common.{◌≡◌, ◌==◌, ◌<◌, not, ℕ, true, List, [], ◌∷◌, ◌++◌, Option, Some, None, refl, sym, ap, subst, ◌∙◌, arith, inl, inr}
+use Rattle.std.proofs.lemmas.Option.{same_Some}
 use Rattle.std.specs.List.{join_with_byte, onto_first, slice_split}
 use Rattle.std.specs.Char.{digit_value}
 use Rattle.std.specs.Str.Parse.{AllDigits}
@@ -9,7 +10,7 @@ use Rattle.std.proofs.lemmas.List.Splits.{join_with_byte-slice_split, slice_spli
 use Rattle.report_lines.specs.Parts.{bracketed, closed, is_used_up, opened, two_of}
 use Rattle.report_lines.specs.ReportLines.{lacks}
 use Rattle.report_lines.proofs.TextLaws.{lacks_append, lacks_at}
-use Rattle.report_lines.proofs.NumberLemmas.{ended_is, some_is, when_some}
+use Rattle.report_lines.proofs.NumberLemmas.{ended_is, when_some}
 
 abbrev pub PartsLack : ℕ → List (List ℕ) → Type 0
 PartsLack at [] = Unit {0}
@@ -46,7 +47,7 @@ two_are_all [] p e = let never : ⊥ = cc in absurd never
 two_are_all (first ∷ []) p e = let never : ⊥ = cc in absurd never
 two_are_all (first ∷ second ∷ more) p e =
     let last = when_some (is_used_up more) (Some (first, second)) p e in
-    ap (λ rest. first ∷ second ∷ rest) (ended_is more last.0) ∙ ap (λ q. q.0 ∷ q.1 ∷ []) (some_is (first, second) p last.1)
+    ap (λ rest. first ∷ second ∷ rest) (ended_is more last.0) ∙ ap (λ q. q.0 ∷ q.1 ∷ []) (same_Some (first, second) p last.1)
 
 -- a text in two parts
 record InTwo (at : ℕ) (text : List ℕ) (p : List ℕ × List ℕ) : Type 0 where
@@ -67,7 +68,7 @@ closed_is : (name : List ℕ) (parts : Option (List ℕ × List ℕ)) (p : List 
 closed_is name None p e = let never : ⊥ = cc in absurd never
 closed_is name (Some parts) p e =
     let last = when_some (is_used_up parts.1) (Some (name, parts.0)) p e in
-    let is = some_is (name, parts.0) p last.1 in
+    let is = same_Some (name, parts.0) p last.1 in
     record { inner = ap (λ behind. Some (parts.0, behind)) (ended_is parts.1 last.0) ∙ ap (λ q. Some (q.1, [])) is; same_name = ap (λ q. q.0) is }
 
 pub record Bracket (word : List ℕ) (p : List ℕ × List ℕ) : Type 0 where

@@ -1,5 +1,6 @@
 -- The lines of a history, but for those of a graph that is shown.
 use Rattle.std.specs.List.{AllByRecursion}
+use Rattle.std.proofs.lemmas.Option.{same_Some}
 use Rattle.std.specs.Prelude.{IfOk, Result, Ok, Err}
 use Rattle.std.proofs.Common.{◌≡◌, ◌<◌, ◌^◌, ℕ, ℤ, true, List, [], ◌∷◌, ◌++◌, Option, Some, None, IfSome, option_map, codes, bytes_eq, decimal, refl, sym, ap, subst, ◌∙◌, arith}
 use Rattle.base.proofs.BytesLaws.{same_bytes}
@@ -24,7 +25,7 @@ use Rattle.report_lines.specs.Parts.{is_used_up, words}
 use Rattle.report_lines.specs.Numbers.{max32, max64, one_in, three_in, two_in}
 use Rattle.report_lines.specs.Readings.{history_verbs, bare_bytes, bare_line, two_numbers_bytes, two_numbers_line, line_by, line_in, line_named, one_number_bytes, one_number_line, system_in, history_verb_bytes, history_verb_named}
 use Rattle.report_lines.specs.ReportLines.{IsLine, IsName, lacks}
-use Rattle.report_lines.proofs.NumberLemmas.{Unspaced, decimal_unspaced, ended_is, mapped, one_is, one_of, some_is, three_are, three_of, two_are, two_numbers_of, when_some}
+use Rattle.report_lines.proofs.NumberLemmas.{Unspaced, decimal_unspaced, ended_is, mapped, one_is, one_of, three_are, three_of, two_are, two_numbers_of, when_some}
 use Rattle.report_lines.proofs.EventLemmas.{AllUnspaced, words_are, words_of}
 use Rattle.report_lines.proofs.BracketLemmas.{PartsLack, split_lack}
 use Rattle.report_lines.proofs.IntegerLemmas.{args_lack}
@@ -114,7 +115,7 @@ says_by verbs.Run rest says lack e =
     }
 says_by (verbs.Bare bare) rest says lack e =
     let alone = when_some (is_used_up rest) (Some (bare_line bare)) says e in
-    let is = some_is (bare_line bare) says alone.1 in
+    let is = same_Some (bare_line bare) says alone.1 in
     record {
       text = ap (λ ws. ended (bare_bytes bare ++ spaced ws)) (ended_is rest alone.0) ∙ bare_alone bare ∙ bare_written bare ∙ ap history_text is;
       has = subst IsLine is (bare_has bare);

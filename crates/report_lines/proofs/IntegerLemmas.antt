@@ -1,5 +1,6 @@
 -- Which words write which integers, and the arguments of a component.
 use Rattle.std.proofs.Common.{◌≡◌, ◌==◌, ◌<◌, not, zero, suc, ℕ, ℤ, pos, negsuc, true, false, List, [], ◌∷◌, ◌++◌, length, drop, map, slice_index, Option, Some, None, option_map, decimal, refl, sym, ap, subst, ◌∙◌, arith, inl, inr}
+use Rattle.std.proofs.lemmas.Option.{same_Some}
 use Rattle.std.specs.Fmt.{signed_decimal}
 use Rattle.std.specs.List.{join_with_byte, slice_split, AllByRecursion}
 use Rattle.std.specs.Char.{digit_value}
@@ -16,7 +17,7 @@ use Rattle.report_lines.specs.Parts.{all_of}
 use Rattle.report_lines.specs.Numbers.{below_zero, plain_integer, plain}
 use Rattle.report_lines.specs.Readings.{arguments_in}
 use Rattle.report_lines.specs.ReportLines.{lacks}
-use Rattle.report_lines.proofs.NumberLemmas.{mapped, plain_is, plain_of, some_is}
+use Rattle.report_lines.proofs.NumberLemmas.{mapped, plain_is, plain_of}
 use Rattle.report_lines.proofs.LastLemmas.{follows}
 use Rattle.report_lines.proofs.BracketLemmas.{digits_lack}
 
@@ -31,7 +32,7 @@ not_zero n = grind (arith, nat_tests)
 is_below : (value : Option ℕ) (z : ℤ) → below_zero value ≡ Some z → IsBelow value z
 is_below None z e = let never : ⊥ = cc in absurd never
 is_below (Some zero) z e = let never : ⊥ = cc in absurd never
-is_below (Some (suc n)) z e = record { before = n; found = refl; gives = some_is (negsuc n) z (sym (cond-false _ _ _ (not_zero n)) ∙ e) }
+is_below (Some (suc n)) z e = record { before = n; found = refl; gives = same_Some (negsuc n) z (sym (cond-false _ _ _ (not_zero n)) ∙ e) }
 
 pub record WritesInteger (word : List ℕ) (z : ℤ) : Type 0 where
   pub text : word ≡ signed_decimal z
@@ -82,7 +83,7 @@ record AreWritten (words : List (List ℕ)) (integers : List ℤ) : Type 0 where
   small : AllByRecursion IsInteger integers
 
 integers_are : (words : List (List ℕ)) (integers : List ℤ) → all_of plain_integer words ≡ Some integers → AreWritten words integers
-integers_are [] integers e = subst (λ zs. AreWritten [] zs) (some_is [] integers e) (record { texts = refl; small = tt })
+integers_are [] integers e = subst (λ zs. AreWritten [] zs) (same_Some [] integers e) (record { texts = refl; small = tt })
 integers_are (word ∷ more) integers e =
     let parts = follows (plain_integer word) (all_of plain_integer more) integers e in
     let first = integer_is word parts.first parts.first_is in
@@ -109,7 +110,7 @@ pub record AreArguments (text : List ℕ) (args : List ℤ) : Type 0 where
   pub small : AllByRecursion IsInteger args
 
 pub arguments_are : (text : List ℕ) (args : List ℤ) → arguments_in text ≡ Some args → AreArguments text args
-arguments_are [] args e = subst (λ zs. AreArguments [] zs) (some_is [] args e) (record { whole = refl; small = tt })
+arguments_are [] args e = subst (λ zs. AreArguments [] zs) (same_Some [] args e) (record { whole = refl; small = tt })
 arguments_are (byte ∷ bytes) args e =
     let text : List ℕ = byte ∷ bytes in
     let all = integers_are (slice_split (λ b. b == 44) text) args e in

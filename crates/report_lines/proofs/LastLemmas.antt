@@ -1,5 +1,6 @@
 -- The lines that end a log.
 use Rattle.std.specs.Prelude.{IfOk, IfSome, Result, Ok, Err}
+use Rattle.std.proofs.lemmas.Option.{same_Some}
 use Rattle.std.proofs.Common.{◌≡◌, ℕ, List, [], ◌∷◌, ◌++◌, map, flat_map, Option, Some, None, option_map, codes, bytes_eq, decimal, refl, sym, ap, subst, ◌∙◌, arith, inl, inr}
 use Rattle.std.proofs.lemmas.Bool.{cond-true, cond-false, cases_Bool}
 use Rattle.base.proofs.BytesLaws.{same_bytes}
@@ -12,7 +13,7 @@ use Rattle.report_lines.specs.Numbers.{max32, max64, one_in, plain}
 use Rattle.report_lines.specs.Readings.{last_in}
 use Rattle.report_lines.specs.ReportLines.{Are64, IsLast}
 use Rattle.report_lines.proofs.TextLaws.{line_is, lacks_at}
-use Rattle.report_lines.proofs.NumberLemmas.{mapped, one_is, one_of, plain_is, plain_of, some_is, when_some, decimal_unspaced}
+use Rattle.report_lines.proofs.NumberLemmas.{mapped, one_is, one_of, plain_is, plain_of, when_some, decimal_unspaced}
 use Rattle.report_lines.proofs.EventLemmas.{AllUnspaced, words_are, words_of}
 
 pub record Follows {A : Type 0} (o : Option A) (p : Option (List A)) (all : List A) : Type 0 where
@@ -25,14 +26,14 @@ pub record Follows {A : Type 0} (o : Option A) (p : Option (List A)) (all : List
 pub follows : {A : Type 0} (o : Option A) (p : Option (List A)) (all : List A) → follow o p ≡ Some all → Follows o p all
 follows None p all e = let never : ⊥ = cc in absurd never
 follows (Some a) None all e = let never : ⊥ = cc in absurd never
-follows (Some a) (Some more) all e = record { first = a; more = more; first_is = refl; more_is = refl; parts = some_is (a ∷ more) all e }
+follows (Some a) (Some more) all e = record { first = a; more = more; first_is = refl; more_is = refl; parts = same_Some (a ∷ more) all e }
 
 record AreNumbers (words : List (List ℕ)) (numbers : List ℕ) : Type 0 where
   texts : words ≡ map decimal numbers
   small : Are64 numbers
 
 numbers_are : (words : List (List ℕ)) (numbers : List ℕ) → all_of (plain max64) words ≡ Some numbers → AreNumbers words numbers
-numbers_are [] numbers e = subst (λ ns. AreNumbers [] ns) (some_is [] numbers e) (record { texts = refl; small = tt })
+numbers_are [] numbers e = subst (λ ns. AreNumbers [] ns) (same_Some [] numbers e) (record { texts = refl; small = tt })
 numbers_are (word ∷ more) numbers e =
     let parts = follows (plain max64 word) (all_of (plain max64) more) numbers e in
     let number = plain_is max64 word parts.first (omega arith) parts.first_is in

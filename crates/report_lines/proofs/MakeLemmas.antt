@@ -1,5 +1,6 @@
 -- The lines that start, change and make.
 use Rattle.std.specs.List.{AllByRecursion}
+use Rattle.std.proofs.lemmas.Option.{same_Some}
 use Rattle.std.proofs.Common.{◌≡◌, ◌==◌, ◌<◌, not, cond, ℕ, ℤ, Bool, true, false, List, [], ◌∷◌, ◌++◌, length, Option, Some, None, IfSome, option_map, codes, bytes_eq, decimal, refl, sym, ap, subst, ◌∙◌, arith}
 use Rattle.std.specs.Option.{option_map_or, option_zip}
 use Rattle.std.proofs.lemmas.Bool.{and_from, and_parts, cond-false}
@@ -23,7 +24,7 @@ use Rattle.report_lines.specs.Parts.{bracketed, is_used_up}
 use Rattle.report_lines.specs.Numbers.{max32, one_in, plain}
 use Rattle.report_lines.specs.Readings.{arg_in, arguments_in, kind_in, kind_of_parts, made_in, make_in, make_line, make_of, source_in, system_in, system_of, typed_in}
 use Rattle.report_lines.specs.ReportLines.{IsName, IsPath, lacks}
-use Rattle.report_lines.proofs.NumberLemmas.{both_are, ended_is, mapped, one_is, one_of, plain_is, plain_of, some_is, when_some}
+use Rattle.report_lines.proofs.NumberLemmas.{both_are, ended_is, mapped, one_is, one_of, plain_is, plain_of, when_some}
 use Rattle.report_lines.proofs.BracketLemmas.{PartsLack, bracket_is, bracket_of, digits_lack}
 use Rattle.report_lines.proofs.IntegerLemmas.{args_lack, arguments_are, arguments_of}
 
@@ -102,7 +103,7 @@ record IsArg (inside : List ℕ) (arg : Option ℕ) : Type 0 where
   small : IfSome arg IsNumber
 
 arg_is : (inside : List ℕ) (arg : Option ℕ) → arg_in inside ≡ Some arg → IsArg inside arg
-arg_is [] arg e = subst (λ a. IsArg [] a) (some_is None arg e) (record { text = refl; small = tt })
+arg_is [] arg e = subst (λ a. IsArg [] a) (same_Some None arg e) (record { text = refl; small = tt })
 arg_is (byte ∷ bytes) arg e =
     let m = mapped Some (plain max32 (byte ∷ bytes)) arg e in
     let number = plain_is max32 (byte ∷ bytes) m.value (omega arith) m.found in
@@ -128,7 +129,7 @@ record AreFrom (words : List (List ℕ)) (from : Option ℕ) : Type 0 where
   small : IfSome from IsNumber
 
 are_from : (words : List (List ℕ)) (from : Option ℕ) → source_in words ≡ Some from → AreFrom words from
-are_from [] from e = subst (λ f. AreFrom [] f) (some_is None from e) (record { texts = refl; small = tt })
+are_from [] from e = subst (λ f. AreFrom [] f) (same_Some None from e) (record { texts = refl; small = tt })
 are_from (word ∷ rest) from e =
     let outer = when_some (bytes_eq word (codes "from")) (option_map Some (one_in max32 rest)) from e in
     let m = mapped Some (one_in max32 rest) from outer.1 in
@@ -195,7 +196,7 @@ says_made word rest (Some n) (Some m) says lack is_slot is_made e =
         path = all.path;
         arg = all.arg;
         from = all.from;
-        gives = some_is (make_line n m.0 m.1 m.2) says e;
+        gives = same_Some (make_line n m.0 m.1 m.2) says e;
       },
     )
 

@@ -1,5 +1,6 @@
 -- Which words write which numbers.
 use Rattle.std.proofs.Common.{◌≡◌, ◌==◌, ◌<◌, ◌≤◌, ◌^◌, ◌&&◌, ◌||◌, not, cond, nat_le, ℕ, zero, suc, Bool, true, false, List, [], ◌∷◌, length, get_or, Option, Some, None, option_map, decimal, refl, sym, ap, ◌∙◌, arith}
+use Rattle.std.proofs.lemmas.Option.{same_Some}
 use Rattle.std.specs.Option.{option_zip}
 use Rattle.std.specs.List.{All, list_all}
 use Rattle.std.specs.Char.{is_ascii_digit, digit_value}
@@ -16,9 +17,6 @@ pub when_some : {A : Type 0} (b : Bool) (o : Option A) (y : A) → cond b o None
 when_some true o y e = (refl, e)
 when_some false o y e = let never : ⊥ = cc in absurd never
 
-pub some_is : {A : Type 0} (x y : A) → Some x ≡ Some y → x ≡ y
-some_is x y e = cc
-
 pub record Mapped {A B : Type 0} (f : A → B) (o : Option A) (y : B) : Type 0 where
   pub value : A
   pub found : o ≡ Some value
@@ -26,7 +24,7 @@ pub record Mapped {A B : Type 0} (f : A → B) (o : Option A) (y : B) : Type 0 w
 
 pub mapped : {A B : Type 0} (f : A → B) (o : Option A) (y : B) → option_map f o ≡ Some y → Mapped f o y
 mapped f None y e = let never : ⊥ = cc in absurd never
-mapped f (Some x) y e = record { value = x; found = refl; gives = some_is (f x) y e }
+mapped f (Some x) y e = record { value = x; found = refl; gives = same_Some (f x) y e }
 
 same_digits : (word : List ℕ) → list_all is_ascii_digit word ≡ all_ascii_digits word
 same_digits [] = refl
@@ -58,7 +56,7 @@ pub plain_is : (most : ℕ) (word : List ℕ) (n : ℕ) → most < 2 ^ 64 → pl
 plain_is most word n small e =
     let outer = when_some (is_plain word) (within most (digits_value 10 word)) n e in
     let inner = when_some (nat_le (digits_value 10 word) most) (Some (digits_value 10 word)) n outer.1 in
-    let value = some_is (digits_value 10 word) n inner.1 in
+    let value = same_Some (digits_value 10 word) n inner.1 in
     let low = low_of (digits_value 10 word) most inner.0 in
     record { text = sym (plain_word word outer.0 (omega arith)) ∙ ap decimal value; low = omega arith }
 
@@ -124,7 +122,7 @@ pub both_are : {A B : Type 0} (o : Option A) (p : Option B) (r : A × B) → opt
 both_are None p r e = let never : ⊥ = cc in absurd never
 both_are (Some a) None r e = let never : ⊥ = cc in absurd never
 both_are (Some a) (Some b) r e =
-    let is : (a, b) ≡ r = some_is (a, b) r e in
+    let is : (a, b) ≡ r = same_Some (a, b) r e in
     record { first = ap (λ q. Some q.0) is; second = ap (λ q. Some q.1) is }
 
 pub record WritesTwo (most : ℕ) (words : List (List ℕ)) (n : ℕ × ℕ) : Type 0 where
@@ -148,7 +146,7 @@ before_are : {A B C : Type 0} (o : Option A) (p : Option (B × C)) (r : A × B �
 before_are None p r e = let never : ⊥ = cc in absurd never
 before_are (Some a) None r e = let never : ⊥ = cc in absurd never
 before_are (Some a) (Some m) r e =
-    let is : (a, m.0, m.1) ≡ r = some_is (a, m.0, m.1) r e in
+    let is : (a, m.0, m.1) ≡ r = same_Some (a, m.0, m.1) r e in
     record { first = ap (λ q. Some q.0) is; more = ap (λ q. Some (q.1, q.2)) is }
 
 pub record WritesThree (words : List (List ℕ)) (n : ℕ × ℕ × ℕ) : Type 0 where

@@ -23,7 +23,7 @@ use Rattle.change_plan.specs.declared.plan_data.Move.{Move}
 use Rattle.change_plan.specs.declared.plan_data.Plan.{Plan}
 use Rattle.change_plan.proofs.SelectsLaws.{Selects-only}
 use Rattle.change_plan_laws.specs.Commit.{commit_events, makes_from, new_links, node_at, reopened_ports, source_of, work}
-use Rattle.result_row_laws.proofs.Standing.{selected_differ}
+use Rattle.change_plan_laws.proofs.RisingLaws.{selects_apart}
 use Rattle.quiesce_core.specs.Doers.{is_make}
 use Rattle.quiesce_core.specs.Live.{IsGraphOf}
 use Rattle.quiesce_core.specs.Rules.{is_kind}
@@ -82,7 +82,7 @@ module _ (es : List Event) (run : IsRun es) (each : Each Well es) (old new : Gra
       let at = stand_of c old is i n.0 n.1 in
       let kind : at.1.made.node.kind ≡ k = same_Some at.1.made.node.kind k (sym (ap (option_map (λ (x : Node). x.kind)) at.1.stands) ∙ here) in
       let last_ = one_each at.0 at.1.made at.1.there at.1.live kind in
-      create_once old new plan c k one (last_made k es) (length c.slots) plan.create (selected_differ (IsGone new old) (length new.nodes) plan.create is_plan.steps.create) gone_there
+      create_once old new plan c k one (last_made k es) (length c.slots) plan.create (selects_apart (IsGone new old) (length new.nodes) plan.create is_plan.steps.create) gone_there
       (λ j there kind'. takes_from c old new sound_old sound_new is moves plan is_plan (nodes_are_named es run) k keep i j at.0 here kind' (gone_there j there) at.1 ∙ sym last_)
 
   one_of : (k : Kind) → ((j : Kind) → is_kind j k ≡ true → j ≡ k) → ((before after : List Event) (n : ℕ) (node : Node) (from : Option ℕ) → es ≡ before ++ event.Make n node from ∷ after → node.kind ≡ k → from ≡ last_made k before) → OneEach k es

@@ -14,7 +14,6 @@ pub mod Resting
 pub mod Rising
 pub mod Staying
 pub mod Course
-pub mod Standing
 pub mod Takings
 pub mod Making
 pub mod Committing

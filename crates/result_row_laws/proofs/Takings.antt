@@ -24,7 +24,7 @@ use Rattle.change_plan.specs.declared.plan_data.Shift.{Shift}
 use Rattle.change_plan.proofs.SelectsLaws.{Contains-places, Selects-has}
 use Rattle.change_plan.proofs.StepLaws.{unlinked}
 use Rattle.change_plan_laws.specs.Commit.{is_at, is_one_of, is_unlinked_by, node_path, ports_where, slot_at, slots_where, source_of, stands_in}
-use Rattle.result_row_laws.proofs.Standing.{found_stands, passes_where_it_stands}
+use Rattle.change_plan_laws.proofs.StandingLaws.{in_if_stands, stands_if_slot}
 use Rattle.quiesce_core.specs.Live.{IsGraphOf, StandsAt}
 use Rattle.quiesce_core.specs.Named.{AreNamed}
 use Rattle.quiesce_core.specs.State.{Configuration, gate, owner}
@@ -49,7 +49,7 @@ module _ (c : Configuration) (old new : Graph) (sound_old : IsSoundGraph old) (s
       nodes_kept i w =
           let listed = Selects-has (IsGone old new) (range_with_len 0 (length old.nodes)) plan.remove is_plan.steps.remove i (Contains-places (length old.nodes) i (slice_get-below old.nodes i w.node w.here)) w in
           let at = stand_of c old is i w.node w.here in
-          let passes = any_listed (λ k. stands_in old k c at.0) plan.remove i listed (passes_where_it_stands c old at.0 i at.1) in
+          let passes = any_listed (λ k. stands_in old k c at.0) plan.remove i listed (in_if_stands c old at.0 i at.1) in
           Contains-nil at.0 (subst (λ xs. Contains xs at.0) no_removes (Contains-filter (is_one_of old plan.remove c) (range_with_len 0 (length c.slots)) at.0
           (Contains-places (length c.slots) at.0 (slice_get-below c.slots at.0 at.1.made at.1.there)) passes))
 
@@ -59,7 +59,7 @@ module _ (c : Configuration) (old new : Graph) (sound_old : IsSoundGraph old) (s
           let linked : IsLinked old l.from l.require l.to l.provide = (linked_if_listed old sound_old.sound.in_order l.from l.require l.to l.provide).1 there in
           let w = (linked_at c old.nodes l.from l.require l.to l.provide).1 ((is.links_are l.from l.require l.to l.provide).0 linked) in
           let passes = any_listed (λ (q : Port). stands_in old q.node c (owner c w.port) && (gate c w.port).require == q.require) plan.unlink (link_port l) listed
-          (and_from (stands_in old l.from c (owner c w.port)) ((gate c w.port).require == l.require) (passes_where_it_stands c old (owner c w.port) l.from w.from_there) (eq-eqb (gate c w.port).require l.require w.requirement)) in
+          (and_from (stands_in old l.from c (owner c w.port)) ((gate c w.port).require == l.require) (in_if_stands c old (owner c w.port) l.from w.from_there) (eq-eqb (gate c w.port).require l.require w.requirement)) in
           Contains-nil w.port (subst (λ xs. Contains xs w.port) no_unlinks (Contains-filter (is_unlinked_by old plan c) (range_with_len 0 (length c.gates)) w.port
           (Contains-places (length c.gates) w.port (linked_made c w.port _ w.leads)) passes))
 
@@ -67,10 +67,10 @@ module _ (c : Configuration) (old new : Graph) (sound_old : IsSoundGraph old) (s
     -- the slot of the live node that stands at a place of the old graph
     slot_is : (i a : ℕ) → StandsAt c old.nodes a i → slot_at c (node_path old i) ≡ Some a
     slot_is i a at =
-        let passes : is_at (node_path old i) at.made ≡ true = sym (ap (λ o. Rattle.std.specs.Option.option_map_or (is_at (node_path old i)) o false) at.there) ∙ passes_where_it_stands c old a i at in
+        let passes : is_at (node_path old i) at.made ≡ true = sym (ap (λ o. Rattle.std.specs.Option.option_map_or (is_at (node_path old i)) o false) at.there) ∙ in_if_stands c old a i at in
         let some_ : is_some (slot_at c (node_path old i)) ≡ true = is_some-position (is_at (node_path old i)) c.slots ∙ any_at (is_at (node_path old i)) c.slots a at.made at.there passes in
         let n = Some-from_is_some (slot_at c (node_path old i)) some_ in
-        let there = found_stands c old is n.0 i at.made.node at.stands n.1 in
+        let there = stands_if_slot c old is.paths_rise is.nodes_are n.0 i at.made.node at.stands n.1 in
         n.1 ∙ ap Some (named.paths n.0 a there.made at.made there.there at.there there.live at.live (ap (λ (x : Node). x.path) (same_Some there.made.node at.made.node (sym there.stands ∙ at.stands))))
 
     pub takes_from : (k : Kind) → KeepsOrMoves k old new moves → (i j a : ℕ) → kind_at old i ≡ Some k → kind_at new j ≡ Some k → IsGone new old j → StandsAt c old.nodes a i → source_of old plan c j ≡ Some a
