@@ -18,4 +18,5 @@ mod StuckLemmas
 mod AloneLemmas
 mod GoneLemmas
 mod MisleadingLemmas
+mod MisleadingReportLemmas
 mod DecidedLemmas

@@ -11,8 +11,11 @@ use Rattle.quiesce_core.specs.State.{State, exchange, gate}
 use Rattle.quiesce_laws.specs.Drained.{is_drained}
 use Rattle.report_types.specs.declared.report.HistoryLine.{HistoryLine}
 use Rattle.report_types.specs.declared.report.HistoryLine.TheVariants as to
+use Rattle.report_types.specs.declared.report.Report.{Report}
+use Rattle.change_law.specs.Lawful.{LawfulOnThreads}
 use Rattle.change_law.specs.Members.{event_of}
-use Rattle.merge_laws.specs.Guarded.{Left, all_left, closes_before, go, is_beyond, is_called_at, is_met, left, log_of, told}
+use Rattle.change_law.specs.Statements.{Statement}
+use Rattle.merge_laws.specs.Guarded.{Left, all_left, closes_before, go, is_beyond, is_called_at, is_met, left, left_of, log_of, told}
 
 -- which guards there are
 pub record Guards : Type 0 where
@@ -88,3 +91,14 @@ pub record Misleads (g : Guards) : Type 0 where
   pub can_stick : can_go_by g (all_left history logs) sticks ≡ true
   pub stuck : (c : ℕ) → may_go_by g (fold go (all_left history logs) sticks) c ≡ false
   pub some_left : 0 < left (fold go (all_left history logs) sticks)
+
+-- a lawful report of a script from which, with these guards, a way goes on no more before its end: so it would be
+-- called unlawful
+pub record MisleadsOnReport (g : Guards) : Type 0 where
+  pub statements : List Statement
+  pub report : Report
+  pub lawful : LawfulOnThreads statements report
+  pub sticks : List ℕ
+  pub can_stick : can_go_by g (left_of report) sticks ≡ true
+  pub stuck : (c : ℕ) → may_go_by g (fold go (left_of report) sticks) c ≡ false
+  pub some_left : 0 < left (fold go (left_of report) sticks)

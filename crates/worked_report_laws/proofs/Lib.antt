@@ -4,8 +4,8 @@ mod AloneLemmas
 mod KeptLemmas
 mod SummedLemmas
 mod FilledLemmas
-mod GivenUpLemmas
-mod WaitedLemmas
+pub mod GivenUpLaws
+pub mod WaitedLaws
 mod SaidLemmas
 mod SkippedLemmas
 mod MovedLemmas
@@ -15,6 +15,7 @@ mod EmptiedLemmas
 mod OpenUnorderedLemmas
 mod EndedEarlyLemmas
 mod SecondLookLemmas
+pub mod CalledLaterLaws
 mod StuckLemmas
 mod RunOutLemmas
 mod GivenUpLaterLemmas

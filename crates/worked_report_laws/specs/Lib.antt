@@ -17,6 +17,7 @@ pub mod Emptied
 pub mod OpenUnordered
 pub mod EndedEarly
 pub mod SecondLook
+pub mod CalledLater
 pub mod Stuck
 pub mod RunOut
 pub mod GivenUpLater

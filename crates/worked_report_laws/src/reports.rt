@@ -6,6 +6,7 @@ ghost use Rattle.change_law.specs.Serial.{Serial};
 ghost use Rattle.worked_report_laws.specs.Alone as alone;
 ghost use Rattle.worked_report_laws.specs.Aside as aside;
 ghost use Rattle.worked_report_laws.specs.Emptied as emptied;
+ghost use Rattle.worked_report_laws.specs.CalledLater as called_later;
 ghost use Rattle.worked_report_laws.specs.EndedEarly as ended_early;
 ghost use Rattle.worked_report_laws.specs.Filled as filled;
 ghost use Rattle.worked_report_laws.specs.FinishedTwice as finished_twice;
@@ -165,4 +166,10 @@ pub fn a_root_may_end_before_it_is_said_to_be_open()
 /// On threads a second look may find a port drained that is lower than one that the first found.
 pub fn a_second_look_may_find_a_lower_port()
     ensures lawful { LawfulOnThreads second_look.script second_look.report }
+{}
+
+/// A port may be seen drained before the call that its node still makes there, in a service that was asked for before
+/// the closes.
+pub fn a_port_may_be_seen_drained_before_it_is_called()
+    ensures lawful { LawfulOnThreads called_later.script called_later.report }
 {}
