@@ -19,10 +19,8 @@ use Rattle.change_parts_laws.specs.Groups.{IsIn}
 use Rattle.change_parts_laws.specs.Stages.{AreLinkedAfter, IsAfter, IsNodeAfter}
 use Rattle.change_parts_laws.specs.Ties.{AreConnected, IsCreated, IsTouchedNode}
 use Rattle.change_parts_laws.proofs.LinkedLaws.{connected_if_same, linked_at, removed_touched, same_if_connected, to_contained, turned}
+use Rattle.change_parts_laws.proofs.MissingLemmas.{not_not}
 use Rattle.change_parts_laws.proofs.StageLaws.{connection_linked, end_of_stage, in_left, link_of_stage, linked_connection, node_of_stage, stays_in_stage}
-
-not_not : (P : Type 0) → ¬ (¬ (P ⊎ (¬ P)))
-not_not P never = never (inr (λ p. never (inl p)))
 
 module _ (old new : Graph) (old_graph : IsGraph old) (new_graph : IsGraph new) (moves : List Move) (done : List (List ℕ)) where
   abbrev In : Node → Type 0

@@ -7,3 +7,7 @@ pub mod OneLemmas
 pub mod CountLemmas
 pub mod MovingLemmas
 pub mod RoomLaws
+pub mod MissingLemmas
+pub mod PlanThereLemmas
+pub mod StageThereLemmas
+pub mod PartsThereLemmas

@@ -44,7 +44,7 @@ any_first P xs k few (j, a, low, is, has) =
     let below : j < k = subst (λ n. j < n) (length-take-le k xs few) low in
     (j, a, below, slice_get-get_or xs j a (omega (arith, below, few)) ∙ ap Some (sym (get_or-take k xs j a below) ∙ is), has)
 
-first_any : {A : Type 0} (P : A → Type 0) (xs : List A) (k : ℕ) → k ≤ length xs → (j : ℕ) (a : A) → j < k → slice_get xs j ≡ Some a → P a → Any P (take k xs)
+pub first_any : {A : Type 0} (P : A → Type 0) (xs : List A) (k : ℕ) → k ≤ length xs → (j : ℕ) (a : A) → j < k → slice_get xs j ≡ Some a → P a → Any P (take k xs)
 first_any P xs k few j a below at has =
     (j, a, subst (λ n. j < n) (sym (length-take-le k xs few)) below, get_or-take k xs j a below ∙ get_or_from_slice_get xs j a a at, has)
 

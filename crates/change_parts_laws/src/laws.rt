@@ -14,6 +14,12 @@ ghost use Rattle.change_parts_laws.specs.Stages.{HasLinksOf};
 ghost use Rattle.change_parts_laws.specs.Ties.{IsCreated, IsRemoved};
 ghost use Rattle.change_parts_laws.specs.declared.part.Part.{Part};
 
+/// A law: there are parts of a change for which there is a plan, and room. That no list is its parts can't be.
+pub fn there_are_parts()
+    ensures { (old new : Graph) (moves : List Move) (made : Made) → IsGraph old → IsGraph new
+        → Sound new → CanPlan old new moves made → ¬ ((ps : List Part) → ¬ AreParts old new moves ps) }
+{}
+
 /// A law: there is one list of parts.
 pub fn there_is_one_list_of_parts()
     ensures { (old new : Graph) (moves : List Move) (ps qs : List Part) → IsGraph old → IsGraph new

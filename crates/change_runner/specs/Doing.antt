@@ -1,17 +1,14 @@
 -- What a step adds to the transcript of an engine.
-use Rattle.std.specs.Prelude.{◌≡◌, ⊤, ℕ, true, false, Bool, List, ◌++◌}
+use Rattle.std.specs.Prelude.{◌≡◌, ⊤, false, Bool, List, ◌++◌}
 use Rattle.std.specs.List.{list_any}
 use Rattle.config_graph.specs.Graph.{Graph}
 use Rattle.config_graph.specs.declared.node.Made.{Made}
-use Rattle.change_plan.specs.declared.plan_data.Plan.{Plan}
 use Rattle.change_plan_laws.specs.Committing.{made_in}
 use Rattle.change_law.specs.Members.{is_pending}
 use Rattle.change_board.specs.declared.board.Board.{Ghosts as BoardWords}
 use Rattle.change_board.specs.Transcripts.{Item, lines}
-use Rattle.change_engine.specs.Calls.{HasAbandoned, HasCommitted, HasLeft, HasPassivated}
 use Rattle.change_engine.specs.Engines.{IsIdle, IsPlanned}
 use Rattle.change_engine.specs.declared.engine.Engine.{Engine}
-use Rattle.change_engine.specs.declared.passivating.LeftRoot.{LeftRoot}
 use Rattle.change_transcript_laws.specs.Hearing.{IsHeard}
 use Rattle.change_transcript_laws.specs.Pieces.{IsDone, config_at}
 use Rattle.change_law.specs.Asked.{graph_behind, made_with_change, statement_of}
@@ -42,10 +39,3 @@ pub record Carried {B : Type 0} (words : BoardWords B) (old new : Engine B) (t :
   pub flag : given_up ≡ is_given_up (t ++ items)
   pub graph : given_up ≡ false → new.graph ≡ graph_behind old.graph step
   pub made : given_up ≡ false → made_in (config_at (t ++ items)) ≡ made_behind (made_in (config_at t)) step
-
--- a prepared change waited for its ports, and was carried out, or given up
-abbrev pub WentThrough : {B : Type 0} → BoardWords B → Engine B → Engine B → Plan → Graph → ℕ → Bool → Type 0
-WentThrough {B} words old new plan next_ within false =
-    (mid : Engine B) × HasPassivated words old mid plan within × HasCommitted words mid new plan next_
-WentThrough {B} words old new plan next_ within true =
-    (mid : Engine B) × (left : List LeftRoot) × HasLeft words old mid plan within left × HasAbandoned words mid new plan

@@ -1,3 +1,4 @@
 pub mod Hearing
+pub mod Replacing
 pub mod Doing
 pub mod Ran

@@ -2,7 +2,9 @@
 #![tactic(auto)]
 
 mod hearing;
+mod replacing;
 mod running;
 
 pub use hearing::{Listener, NoOne};
+pub use replacing::replace;
 pub use running::run_statements;

@@ -2,28 +2,26 @@
 
 ghost use Rattle.std.specs.Prelude.{◌≡◌, true, false, List, [], Some, IfOk, OnOk};
 ghost use Rattle.change_board.specs.Transcripts.{Item};
-ghost use Rattle.change_engine.specs.Calls.{HasCommitted};
-ghost use Rattle.change_engine.specs.Engines.{IsIdle, IsPrepared, IsReadyToCommit};
-ghost use Rattle.change_plan.specs.declared.plan_data.Move.{Move};
+ghost use Rattle.change_engine.specs.Engines.{IsIdle};
 ghost use Rattle.config_graph.specs.Graph.{Graph};
 ghost use Rattle.change_law.specs.Follows.{Follows};
 ghost use Rattle.report_writing.specs.Reports.{LogsAreMade};
 ghost use Rattle.change_law.specs.Asked.{CanDoAll, CanStart, after_start, statements_of};
 ghost use Rattle.change_transcript_laws.specs.Hearing.{AreCommitted};
-ghost use Rattle.change_runner.specs.Doing.{Carried, IsReady, WentThrough, is_given_up};
+ghost use Rattle.change_runner.specs.Doing.{Carried, IsReady, is_given_up};
 ghost use Rattle.change_runner.specs.Hearing.{Hears, committed_by, committed_in};
 ghost use Rattle.change_runner.specs.Ran.{HasCarriedOut};
 ghost use Rattle.change_law.specs.declared.steps.Step.TheVariants as to_do;
 
 use crate::hearing::Listener;
+use crate::replacing::replace;
 use change_board::Board;
-use change_engine::{Engine, PassError};
+use change_engine::Engine;
 use change_law::{Replacement, Start, Step};
-use change_plan::Plan;
 use change_transcript_laws::transcripts_follow_their_scripts;
 use config_graph::{Graph, NoMemory};
 use report_types::Report;
-use std::alloc::{AllocError, Global};
+use std::alloc::Global;
 
 /// Notes a change that isn't tried.
 fn skip_change<B: Board + Drop>(engine: &mut Engine<B>, change: Replacement) -> Result<(), NoMemory>
@@ -35,55 +33,8 @@ fn skip_change<B: Board + Drop>(engine: &mut Engine<B>, change: Replacement) -> 
     Ok(())
 }
 
-/// Carries the prepared plan out, and tells it.
-fn commit<B: Board + Drop, L: Listener>(
-    engine: &mut Engine<B>,
-    listener: &mut L,
-    plan: Plan,
-    graph: Graph,
-) -> Result<(), NoMemory>
-    requires passive { (t : List Item) × (moves : List Move)
-        × IsReadyToCommit B.Board engine.old t moves plan graph }
-    requires heard { (graphs : List Graph) × L.heard listener.old graphs }
-    ensures committed { HasCommitted B.Board engine.old engine.new plan graph }
-    ensures heard { OnOk result (Hears L.heard listener.old listener.new (Some engine.new.graph)) }
-{
-    engine.commit(plan, graph);
-    let stands = engine.graph();
-    listener.committed(stands)
-}
-
-/// Waits for the ports to drain, and carries the prepared plan out or gives it up. Says whether it was given up.
-fn go_through<B: Board + Drop, L: Listener>(
-    engine: &mut Engine<B>,
-    listener: &mut L,
-    plan: Plan,
-    graph: Graph,
-    within: u32,
-) -> Result<bool, NoMemory>
-    requires prepared { (t : List Item) × (moves : List Move)
-        × IsPrepared B.Board engine.old t moves plan graph }
-    requires heard { (graphs : List Graph) × L.heard listener.old graphs }
-    ensures went { IfOk result
-        (λ given_up. WentThrough B.Board engine.old engine.new plan graph within given_up) }
-    ensures heard { IfOk result
-        (λ given_up. Hears L.heard listener.old listener.new (committed_by given_up engine.new.graph)) }
-{
-    match engine.passivate(&plan, within) {
-        Ok(()) => {
-            commit(engine, listener, plan, graph)?;
-            Ok(false)
-        }
-        Err(PassError::Pending { .. }) => {
-            engine.abandon(plan);
-            Ok(true)
-        }
-        Err(PassError::NoMemory) => Err(AllocError),
-    }
-}
-
-/// Prepares a change, and goes through with it. Says whether it was given up.
-fn replace<B: Board + Drop, L: Listener>(
+/// Carries a change out, which is told, or gives it up. Says whether it was given up.
+fn replace_and_tell<B: Board + Drop, L: Listener>(
     engine: &mut Engine<B>,
     listener: &mut L,
     change: Replacement,
@@ -97,16 +48,13 @@ fn replace<B: Board + Drop, L: Listener>(
     ensures heard { IfOk result
         (λ given_up. Hears L.heard listener.old listener.new (committed_by given_up engine.new.graph)) }
 {
-    let Replacement {
-        name,
-        args,
-        graph,
-        plan,
-        within,
-        moves: _,
-    } = change;
-    engine.prepare(name, args.into_vec(), &plan, &graph)?;
-    go_through(engine, listener, plan, graph, within)
+    let left = replace(engine, change)?;
+    if left.is_some() {
+        return Ok(true);
+    }
+    let stands = engine.graph();
+    listener.committed(stands)?;
+    Ok(false)
 }
 
 /// Carries out one step. Says whether a change was given up so far.
@@ -133,7 +81,7 @@ fn carry_out<B: Board + Drop, L: Listener>(
                 skip_change(engine, change)?;
                 return Ok(true);
             }
-            return replace(engine, listener, change);
+            return replace_and_tell(engine, listener, change);
         }
         Step::Finish { n } => {
             engine.finish(n)?;
