@@ -20,3 +20,4 @@ mod GoneLemmas
 mod MisleadingLemmas
 mod MisleadingReportLemmas
 mod DecidedLemmas
+pub mod LeftLaws
