@@ -1,6 +1,6 @@
 -- What nodes have come to in a run in which each has a fold: it agrees with the machine's state, and goes on by each
 -- event with the fold of the node that does it.
-use Rattle.std.proofs.Common.{◌≡◌, ◌∙◌, ◌<◌, ℕ, zero, suc, Bool, true, false, cond, List, [], ◌∷◌, ◌++◌, length, Option, Some, None, refl, sym, ap, subst, arith}
+use Rattle.std.proofs.Common.{◌≡◌, ◌∙◌, ◌<◌, ℕ, zero, suc, Bool, true, false, cond, List, [], ◌∷◌, ◌++◌, append_assoc, length, Option, Some, None, refl, sym, ap, subst, arith}
 use Rattle.std.specs.Prelude.{◌==◌, is_some, option_and_then, option_map, unwrap_or}
 use Rattle.std.specs.Option.{option_map_or}
 use Rattle.std.proofs.lemmas.Bool.{both_ways, eq-eqb, ne_eqb, false_from_ne_true}
@@ -15,6 +15,7 @@ use Rattle.component_trait.specs.Fold.{after_event, fold_next}
 use Rattle.component_trait.specs.States.{Kept, NodeState, at_rest, nothing}
 use Rattle.component_trait.specs.States as node
 use Rattle.component_trait.specs.Tables.{opening}
+use Rattle.component_trait.proofs.FoldLaws.{fold_keeps_argument, fold_keeps_kind}
 use Rattle.quiesce_core.specs.Alters.{Reconfigures, slot_next}
 use Rattle.quiesce_core.specs.Doers.{is_make, is_of_change}
 use Rattle.quiesce_core.specs.Effect.{effect}
@@ -28,8 +29,8 @@ use Rattle.quiesce_core.specs.declared.known.Served.{Served}
 use Rattle.quiesce_core.specs.declared.state.Service.{Service}
 use Rattle.quiesce_core.specs.declared.state.Slot.{Slot}
 use Rattle.quiesce_core.proofs.AlterLaws.{reconfigured}
-use Rattle.quiesce_core.proofs.InductionLaws.{IsNext}
-use Rattle.quiesce_core.proofs.RunLaws.{done_by_more, node_events_keep_the_configuration, nodes_know, runs_are_consistent, runs_are_well_formed, state_more}
+use Rattle.quiesce_core.proofs.InductionLaws.{IsNext, place}
+use Rattle.quiesce_core.proofs.RunLaws.{done_by_more, fronts_are_runs, node_events_keep_the_configuration, nodes_know, runs_are_consistent, runs_are_well_formed, state_more}
 use Rattle.quiesce_core.proofs.SourceLaws.{sources_are_gone}
 use Rattle.quiesce_core.proofs.StateLaws.{busy_made}
 use Rattle.node_turn_laws.specs.Agreement.{ServicesAgree, expects}
@@ -38,7 +39,7 @@ use Rattle.change_round_laws.proofs.FoldLaws.{StatesAreHanded}
 use Rattle.change_law.proofs.LowerLaws.{lower_after}
 use Rattle.result_come_laws.specs.Coming.{HasFolds, come}
 use Rattle.result_come_laws.proofs.AgreeingLaws.{agreed, change_does, doer_lives}
-use Rattle.result_come_laws.proofs.FactLaws.{Facts, FoldsTo}
+use Rattle.result_come_laws.proofs.FactLaws.{Facts, Fits, FoldsTo}
 
 abbrev opening_of : List Event → Slot → Option Kept
 opening_of es m = option_map_or (λ k. option_map (λ (s : NodeState). s.kept) (fold_of_node es k)) m.from (Some (opening m.node.kind (argument_of m)))
@@ -288,6 +289,29 @@ module _ (handed : StatesAreHanded) (es : List Event) (e : Event) (here : IsNext
   old_stays change n m there =
       ap (λ o. unwrap_or o (at_rest Fork 0 nothing))
       (grows n m there ∙ ap (λ b. cond b (fold_next m.first_port (fold_of_node es n) e) (fold_of_node es n)) (change_does (state_after es) e n change))
+
+-- what nodes have come to is of their kinds and arguments
+pub fits_of : StatesAreHanded → (es : List Event) → IsRun es → HasFolds es → Fits (state_after es).config (come es)
+fits_of handed es run folds = record {
+  kinds = λ n m there. let c = came handed es run folds n m there in fold_keeps_kind m.first_port (at_rest m.node.kind (argument_of m) c.kept) (come es n) (done_by n es) c.is;
+  args = λ n m there. let c = came handed es run folds n m there in fold_keeps_argument m.first_port (at_rest m.node.kind (argument_of m) c.kept) (come es n) (done_by n es) c.is;
+}
+
+-- ---- at each place of a run
+
+module _ (handed : StatesAreHanded) where
+  pub fronts_fold : (es more_ : List Event) → IsRun (es ++ more_) → HasFolds (es ++ more_) → HasFolds es
+  fronts_fold es [] run folds = subst HasFolds (append-nil es) folds
+  fronts_fold es (e ∷ more_) run folds =
+      let all = append_assoc es (e ∷ []) more_ in
+      let run'' = subst (λ xs. IsRun xs) (sym all) run in
+      folds_before handed es e (place es more_ e run) (fronts_are_runs (es ++ e ∷ []) more_ run'') (fronts_fold (es ++ e ∷ []) more_ run'' (subst (λ xs. HasFolds xs) (sym all) folds))
+
+module _ (handed : StatesAreHanded) (all : List Event) (run : IsRun all) (folds : HasFolds all) where
+  pub at_place : (before after : List Event) (e : Event) → all ≡ before ++ e ∷ after → IsRun (before ++ e ∷ []) × HasFolds (before ++ e ∷ [])
+  at_place before after e parts =
+      let whole = parts ∙ sym (append_assoc before (e ∷ []) after) in
+      (fronts_are_runs (before ++ e ∷ []) after (subst IsRun whole run), fronts_fold handed (before ++ e ∷ []) after (subst IsRun whole run) (subst HasFolds whole folds))
 
 -- what a node that is made has: its opening, or what the one had from which it was made
 abbrev pub given_to : List Event → Node → Option ℕ → Kept

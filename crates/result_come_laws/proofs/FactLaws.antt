@@ -7,12 +7,13 @@ use Rattle.component_trait.specs.States.{Kept, NodeState}
 use Rattle.component_trait.specs.States as node
 use Rattle.quiesce_word.specs.Phases.{is_idle}
 use Rattle.quiesce_core.specs.Runs.{is_doer}
-use Rattle.quiesce_core.specs.State.{State, exchange, owner, service, slot}
+use Rattle.quiesce_core.specs.State.{Configuration, State, exchange, owner, service, slot}
 use Rattle.quiesce_core.specs.Traffic.{IsConsistent}
 use Rattle.quiesce_core.specs.WellFormed.{IsWellFormed}
 use Rattle.quiesce_core.specs.declared.event.Event.{Event}
 use Rattle.quiesce_core.specs.declared.state.Service.{Service}
 use Rattle.quiesce_core.specs.declared.state.Slot.{Slot}
+use Rattle.change_law.specs.Opening.{argument_of}
 use Rattle.node_turn_laws.specs.Agreement.{expects}
 
 -- ---- what is known of a state and of what nodes have come to
@@ -31,6 +32,11 @@ pub record Facts (s : State) (f : ℕ → NodeState) : Type 0 where
 pub record FoldsTo (s : State) (e : Event) (f g : ℕ → NodeState) : Type 0 where
   pub mine : (n : ℕ) (m : Slot) → slot s.config n ≡ Some m → is_doer s n e ≡ true → after_event m.first_port (f n) e ≡ Some (g n)
   pub others : (n : ℕ) → is_doer s n e ≡ false → g n ≡ f n
+
+-- what nodes have come to is of their kinds and arguments
+pub record Fits (c : Configuration) (f : ℕ → NodeState) : Type 0 where
+  pub kinds : (n : ℕ) (m : Slot) → slot c n ≡ Some m → (f n).kind ≡ m.node.kind
+  pub args : (n : ℕ) (m : Slot) → slot c n ≡ Some m → (f n).arg ≡ argument_of m
 
 -- ---- a node at work
 

@@ -1,9 +1,15 @@
 -- What the statements of a script describe, and a graph that one of them describes where it stands.
-use Rattle.std.specs.Prelude.{◌≡◌, List, Some, Any, IfSome}
+use Rattle.std.specs.Prelude.{◌≡◌, ℕ, List, Option, Some, Any, IfSome, option_map, slice_get}
 use Rattle.config_graph.specs.Graph.{Graph}
+use Rattle.config_graph.specs.declared.kind.Kind.{Kind}
+use Rattle.config_graph.specs.declared.node.Node.{Node}
 use Rattle.quiesce_core.specs.Live.{IsGraphOf}
 use Rattle.change_law.specs.Members.{Member, state_at}
 use Rattle.change_law.specs.Statements.{Statement, graph_of}
+
+-- the kind of node i of a graph
+abbrev pub kind_at : Graph → ℕ → Option Kind
+kind_at g i = option_map (λ (n : Node). n.kind) (slice_get g.nodes i)
 
 -- the graph of a statement, where it has one, is of this shape
 abbrev pub Describes : (Graph → Type 0) → Statement → Type 0

@@ -20,9 +20,8 @@ use Rattle.quiesce_core.specs.declared.state.Slot.{Slot}
 use Rattle.quiesce_core.proofs.InductionLaws.{IsNext, along, none_barred, place, unbarred}
 use Rattle.quiesce_core.proofs.AlterLaws.{reconfigured}
 use Rattle.quiesce_core.proofs.ConfigurationLaws.{owner_kept}
-use Rattle.quiesce_core.proofs.RunLaws.{fronts_are_runs, runs_are_well_formed}
+use Rattle.quiesce_core.proofs.RunLaws.{runs_are_well_formed}
 use Rattle.quiesce_core.specs.Doers.{is_of_change}
-use Rattle.result_row_laws.proofs.Between.{fronts_fold}
 use Rattle.quiesce_core.specs.Alters.{ports_next}
 use Rattle.quiesce_core.specs.Effect.{effect}
 use Rattle.quiesce_core.specs.Legal.{Legal}
@@ -33,11 +32,11 @@ use Rattle.quiesce_laws.proofs.OrderLaws.{begun_count}
 use Rattle.change_round_laws.proofs.FoldLaws.{StatesAreHanded}
 use Rattle.result_row_laws.proofs.AtRest.{nothing_happens}
 use Rattle.result_come_laws.specs.Coming.{HasFolds, come}
-use Rattle.result_come_laws.proofs.ComingLaws.{facts, folds_before, folds_on, stays}
+use Rattle.result_come_laws.proofs.ComingLaws.{at_place, facts, fits_of, folds_before, folds_on, stays}
 use Rattle.result_row_laws.proofs.Course.{Course}
 use Rattle.result_row_laws.proofs.Ends.{touched}
 use Rattle.result_come_laws.proofs.FactLaws.{of_parts}
-use Rattle.result_row_laws.proofs.Resting.{Begun, InRow, fits_of, on_way_port, source_port}
+use Rattle.result_row_laws.proofs.Resting.{Begun, InRow, on_way_port, source_port}
 use Rattle.result_row_laws.proofs.Touching.{IsOnWay}
 
 -- ---- what is counted once stands at one place
@@ -198,23 +197,18 @@ pub record Answered (es before : List Event) (p v : ℕ) (past : List ℕ) (row 
   pub value : v ≡ length past + 1
 
 module _ (handed : StatesAreHanded) (all : List Event) (run : IsRun all) (folds : HasFolds all) where
-  pub at_place : (before after : List Event) (e : Event) → all ≡ before ++ e ∷ after → IsRun (before ++ e ∷ []) × HasFolds (before ++ e ∷ [])
-  at_place before after e parts =
-      let whole = parts ∙ sym (append_assoc before (e ∷ []) after) in
-      (fronts_are_runs (before ++ e ∷ []) after (subst IsRun whole run), fronts_fold handed (before ++ e ∷ []) after (subst IsRun whole run) (subst HasFolds whole folds))
-
   pub answered : (before between after : List Event) (p k v r : ℕ) → all ≡ before ++ Begin p k v ∷ (between ++ End p k r ∷ after) → (past_0 : List ℕ) → Course before past_0 → (past : List ℕ)
       → (w : InRow (before ++ Begin p k v ∷ between) past) → Answered (before ++ Begin p k v ∷ between) before p v past w
   answered before between after p k v r parts past_0 course_0 past w =
       let b = Begin p k v in
       let es = before ++ b ∷ between in
       let e = End p k r in
-      let first = at_place before (between ++ e ∷ after) b parts in
+      let first = at_place handed all run folds before (between ++ e ∷ after) b parts in
       let here_0 = place before (between ++ e ∷ after) b (subst IsRun parts run) in
       let w_0 = in_row_at handed before b here_0 first.0 first.1 refl past_0 course_0 in
       let is_0 = begins_at_source handed before p k v here_0 first.0 first.1 past_0 w_0 in
       let parts' : all ≡ es ++ e ∷ after = parts ∙ sym (append_assoc before (b ∷ between) (e ∷ after)) in
-      let second = at_place es after e parts' in
+      let second = at_place handed all run folds es after e parts' in
       let here = place es after e (subst IsRun parts' run) in
       let folds_0 = folds_before handed before b here_0 first.0 first.1 in
       let at_first : IsSourcePort before p = record {

@@ -18,7 +18,8 @@ use Rattle.quiesce_core.specs.declared.state.Slot.{Slot}
 use Rattle.quiesce_core.proofs.StateLaws.{taken_busy}
 use Rattle.result_come_laws.proofs.FactLaws.{Facts, of_parts}
 use Rattle.result_row_laws.proofs.Passing.{Stop, ToMap, Way}
-use Rattle.result_row_laws.proofs.Onward.{Now, free_map, idle_untaken, unserved}
+use Rattle.result_come_laws.proofs.EventLaws.{Now, idle_untaken}
+use Rattle.result_row_laws.proofs.Onward.{free_map, unserved}
 use Rattle.result_row_laws.proofs.Touching.{IsOnWay}
 
 -- all ports are idle, and those that are open are ports of maps

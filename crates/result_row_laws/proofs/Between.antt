@@ -1,7 +1,7 @@
 -- Between two changes of the configuration a row goes on from where it stands: what gates are closed and opened meanwhile doesn't
 -- matter.
-use Rattle.std.proofs.Common.{◌≡◌, ◌∙◌, ℕ, ◌+◌, ◌%◌, Bool, true, false, not, List, [], ◌∷◌, ◌++◌, append_assoc, length, refl, sym, ap, subst, inl}
-use Rattle.std.specs.Prelude.{◌==◌, ◌||◌, ◌⊎◌, option_and_then}
+use Rattle.std.proofs.Common.{◌≡◌, ◌∙◌, ℕ, ◌+◌, ◌%◌, ◌≤◌, Bool, true, false, List, [], ◌∷◌, ◌++◌, append_assoc, length, refl, sym, ap, subst, inl}
+use Rattle.std.specs.Prelude.{⊤, ◌==◌, ◌||◌, ◌⊎◌, option_and_then}
 use Rattle.std.specs.List.{list_any}
 use Rattle.std.specs.Option.{option_map_or}
 use Rattle.std.proofs.lemmas.Bool.{both_ways, or_parts}
@@ -13,6 +13,7 @@ use Rattle.component_trait.specs.States.{NodeState}
 use Rattle.component_trait.proofs.FoldLaws.{fold_keeps_argument, fold_keeps_kind}
 use Rattle.quiesce_commit_laws.specs.Steps.{is_shaping}
 use Rattle.quiesce_commit_laws.proofs.TurningLaws.{SameLinks}
+use Rattle.quiesce_word.specs.declared.word.TheConstants.{LAST_SERIAL}
 use Rattle.quiesce_word.specs.Phases.{is_idle, is_asked, is_answered}
 use Rattle.quiesce_core.specs.Doers.{is_make, is_of_change}
 use Rattle.quiesce_core.specs.Effect.{effect}
@@ -29,11 +30,11 @@ use Rattle.quiesce_core.proofs.RunLaws.{fronts_are_runs, state_more}
 use Rattle.change_round_laws.proofs.FoldLaws.{StatesAreHanded}
 use Rattle.result_come_laws.proofs.AgreeingLaws.{doer_lives}
 use Rattle.result_come_laws.proofs.FactLaws.{FoldsTo}
-use Rattle.result_row_laws.proofs.Passing.{At, Going, Inside, MapHas, OnlyTo, SinkHas, Stop, ToMap, ToSink, Way, passed}
+use Rattle.result_row_laws.proofs.Passing.{Few, At, Going, Inside, MapHas, OnlyTo, SinkHas, Stop, ToMap, ToSink, Way, passed}
 use Rattle.result_row_laws.proofs.Passing as at
 use Rattle.result_come_laws.specs.Coming.{HasFolds, come}
-use Rattle.result_come_laws.proofs.ComingLaws.{facts, folds_before, folds_on, folds_stay}
-use Rattle.result_row_laws.proofs.Onward.{Now}
+use Rattle.result_come_laws.proofs.ComingLaws.{facts, folds_before, folds_on, folds_stay, fronts_fold}
+use Rattle.result_come_laws.proofs.EventLaws.{Now}
 use Rattle.result_come_laws.proofs.ReopeningLaws.{links_stay}
 use Rattle.result_row_laws.proofs.Rounds.{IsEndOf, IsSource, Stands, goes, resting, under_way}
 
@@ -45,36 +46,50 @@ pub record Alike (s : State) (f : ℕ → NodeState) (s' : State) (g : ℕ → N
   pub folds : (n : ℕ) → g n ≡ f n
 
 module _ (s : State) (f : ℕ → NodeState) (s' : State) (g : ℕ → NodeState) (like : Alike s f s' g) where
-  at_like : (p x : ℕ) (Has Has' : Bool → Type 0) → ((d : Bool) → Has d → Has' d) → (d : Bool) → At s p x Has d → At s' p x Has' d
-  at_like p x Has Has' on d (at.waiting a v u dn) =
-      at.waiting (ap (λ (y : Exchange). is_asked y.phase) (like.exchanges p) ∙ a) (ap (λ (y : Exchange). y.value) (like.exchanges p) ∙ v) (like.takens p ∙ u) dn
-  at_like p x Has Has' on d (at.taken a v u has) =
+  few_like : (k : ℕ) (ms : List Stop) → Few s k ms → Few s' k ms
+  few_like k [] few = tt
+  few_like k (m ∷ ms) few = (subst (λ (y : Exchange). y.serial ≤ k) (sym (like.exchanges m.port)) few.0, few_like k ms few.1)
+
+  at_like : (p x : ℕ) (Before Before' After After' : Type 0) (Has Has' : Bool → Type 0) → (Before → Before') → (After → After') → ((d : Bool) → Has d → Has' d) → (d : Bool) → At s p x Before After Has d
+      → At s' p x Before' After' Has' d
+  at_like p x Before Before' After After' Has Has' before after on d (at.waiting a v u dn b) =
+      at.waiting (ap (λ (y : Exchange). is_asked y.phase) (like.exchanges p) ∙ a) (ap (λ (y : Exchange). y.value) (like.exchanges p) ∙ v) (like.takens p ∙ u) dn (before b)
+  at_like p x Before Before' After After' Has Has' before after on d (at.taken a v u has) =
       at.taken (ap (λ (y : Exchange). is_asked y.phase) (like.exchanges p) ∙ a) (ap (λ (y : Exchange). y.value) (like.exchanges p) ∙ v) (like.takens p ∙ u) (on d has)
-  at_like p x Has Has' on d (at.answered a dv) = at.answered (ap (λ (y : Exchange). is_answered y.phase) (like.exchanges p) ∙ a) (dv ∙ sym (ap (λ (y : Exchange). not (y.value == 0)) (like.exchanges p)))
+  at_like p x Before Before' After After' Has Has' before after on d (at.answered a not_0 sure b) =
+      at.answered (ap (λ (y : Exchange). is_answered y.phase) (like.exchanges p) ∙ a) (ap (λ (y : Exchange). y.value == 0) (like.exchanges p) ∙ not_0) sure (after b)
 
-  inside_like : (q : ℕ) (D D' : Bool → Type 0) → ((d : Bool) → D d → D' d) → (xs : List ℕ) (d : Bool) → Inside s q D xs d → Inside s' q D' xs d
-  inside_like q D D' on _ _ (at.not_yet idle) = at.not_yet (ap (λ (y : Exchange). is_idle y.phase) (like.exchanges q) ∙ idle)
-  inside_like q D D' on _ _ (at.below d deep) = at.below d (on d deep)
-  inside_like q D D' on _ _ (at.back a d idle dv) = at.back a d (ap (λ (y : Exchange). is_idle y.phase) (like.exchanges q) ∙ idle) dv
+  serial_like : (q k : ℕ) → (exchange s q).serial ≤ k → (exchange s' q).serial ≤ k
+  serial_like q k low = subst (λ (y : Exchange). y.serial ≤ k) (sym (like.exchanges q)) low
 
-  going_like : (ms : List Stop) (p x t : ℕ) (d : Bool) → Going s f p x ms t d → Going s' g p x ms t d
-  going_like [] p x t d w = at_like p x (SinkHas (f t) x) (SinkHas (g t) x) (λ d has. record { arg = has.arg; kept = has.kept; is = like.folds t ∙ has.is; given = has.given }) d w
-  going_like (m ∷ ms) p x t d w =
+  inside_like : (q n : ℕ) (Before Before' After After' : Type 0) (D D' : Bool → Type 0) → (Before → Before') → (After → After') → ((d : Bool) → D d → D' d) → (xs : List ℕ) (d : Bool) → Inside s q n Before After D xs d
+      → Inside s' q n Before' After' D' xs d
+  inside_like q n Before Before' After After' D D' before after on _ _ (at.not_yet idle own b) = at.not_yet (ap (λ (y : Exchange). is_idle y.phase) (like.exchanges q) ∙ idle) (serial_like q n own) (before b)
+  inside_like q n Before Before' After After' D D' before after on _ _ (at.below d own deep) = at.below d (serial_like q (n + 1) own) (on d deep)
+  inside_like q n Before Before' After After' D D' before after on _ _ (at.back a d idle not_0 sure own b) =
+      at.back a d (ap (λ (y : Exchange). is_idle y.phase) (like.exchanges q) ∙ idle) not_0 sure (serial_like q (n + 1) own) (after b)
+
+  going_like : (n : ℕ) (ms : List Stop) (p x t : ℕ) (d : Bool) → Going s f n p x ms t d → Going s' g n p x ms t d
+  going_like n [] p x t d w = at_like p x ⊤ ⊤ ⊤ ⊤ (SinkHas (f t) x) (SinkHas (g t) x) (λ b. b) (λ b. b) (λ d has. record { arg = has.arg; kept = has.kept; is = like.folds t ∙ has.is; given = has.given }) d w
+  going_like n (m ∷ ms) p x t d w =
       let y = (x + m.arg) % VALUE_LIMIT in
-      at_like p x (MapHas s (f m.at) m x (Going s f m.port y ms t)) (MapHas s' (g m.at) m x (Going s' g m.port y ms t))
+      at_like p x (Few s n (m ∷ ms)) (Few s' n (m ∷ ms)) (Few s (n + 1) (m ∷ ms)) (Few s' (n + 1) (m ∷ ms))
+      (MapHas s (f m.at) m x n (Few s n ms) (Few s (n + 1) ms) (Going s f n m.port y ms t)) (MapHas s' (g m.at) m x n (Few s' n ms) (Few s' (n + 1) ms) (Going s' g n m.port y ms t)) (few_like n (m ∷ ms)) (few_like (n + 1) (m ∷ ms))
       (λ d has. record {
         kept = has.kept;
         reply = has.reply;
         answers = has.answers;
         is = like.folds m.at ∙ has.is;
-        inside = inside_like m.port (Going s f m.port y ms t) (Going s' g m.port y ms t) (λ d' deep. going_like ms m.port y t d' deep) has.answers d has.inside;
+        inside = inside_like m.port n (Few s n ms) (Few s' n ms) (Few s (n + 1) ms) (Few s' (n + 1) ms) (Going s f n m.port y ms t) (Going s' g n m.port y ms t) (few_like n ms) (few_like (n + 1) ms)
+            (λ d' deep. going_like n ms m.port y t d' deep) has.answers d has.inside;
       }) d w
 
   stands_like : (a p : ℕ) (ms : List Stop) (t : ℕ) (past : List ℕ) → Stands s f a p ms t past → Stands s' g a p ms t past
-  stands_like a p ms t past (resting idle count items) =
+  stands_like a p ms t past (resting idle count items few) =
       resting (ap (λ (y : Exchange). is_idle y.phase) (like.exchanges p) ∙ idle) (ap (λ (n : NodeState). n.kept.count) (like.folds a) ∙ count) (ap (λ (n : NodeState). n.kept.items) (like.folds t) ∙ items)
-  stands_like a p ms t past (under_way d w count items) =
-      under_way d (going_like ms p (length past + 1) t d w) (ap (λ (n : NodeState). n.kept.count) (like.folds a) ∙ count) (ap (λ (n : NodeState). n.kept.items) (like.folds t) ∙ items)
+      (few_like (length past) ms few)
+  stands_like a p ms t past (under_way d room w count items) =
+      under_way d room (going_like (length past) ms p (length past + 1) t d w) (ap (λ (n : NodeState). n.kept.count) (like.folds a) ∙ count) (ap (λ (n : NodeState). n.kept.items) (like.folds t) ∙ items)
 
 -- ---- the way in another configuration with the same links, where nodes are of the same kinds
 
@@ -106,6 +121,7 @@ source_like s s' f g same kinds a p w = record {
   first = w.first;
   owned = same.owners p ∙ w.owned;
   kind = kinds.kinds a ∙ w.kind;
+  small = subst (λ i. i ≤ LAST_SERIAL) (sym (kinds.args a)) w.small;
 }
 
 -- ---- one event, and many
@@ -188,13 +204,6 @@ module _ (handed : StatesAreHanded) where
             grows = inl refl;
           }
 
-  pub fronts_fold : (es more_ : List Event) → IsRun (es ++ more_) → HasFolds (es ++ more_) → HasFolds es
-  fronts_fold es [] run folds = subst HasFolds (append-nil es) folds
-  fronts_fold es (e ∷ more_) run folds =
-      let all = append_assoc es (e ∷ []) more_ in
-      let run'' = subst (λ xs. IsRun xs) (sym all) run in
-      folds_before handed es e (place es more_ e run) (fronts_are_runs (es ++ e ∷ []) more_ run'') (fronts_fold (es ++ e ∷ []) more_ run'' (subst (λ xs. HasFolds xs) (sym all) folds))
-
   -- ---- between two changes of the configuration: the sink has an item for each transaction that was answered, as the source counts
   pub between : (es more_ : List Event) → IsRun (es ++ more_) → HasFolds (es ++ more_) → list_any is_shaping more_ ≡ false → (a p : ℕ) (ms : List Stop) (t : ℕ) (past : List ℕ) → Row es a p ms t past
       → RowThen (es ++ more_) a p ms t
@@ -205,5 +214,5 @@ module _ (handed : StatesAreHanded) where
       let folds'' = subst (λ xs. HasFolds xs) (sym all) folds in
       let parts = or_parts (is_shaping e) (list_any is_shaping more_) calm in
       let run' = fronts_are_runs (es ++ e ∷ []) more_ run'' in
-      let first = one_event es e (place es more_ e run) run' (fronts_fold (es ++ e ∷ []) more_ run'' folds'') parts.0 a p ms t past row in
+      let first = one_event es e (place es more_ e run) run' (fronts_fold handed (es ++ e ∷ []) more_ run'' folds'') parts.0 a p ms t past row in
       subst (λ xs. RowThen xs a p ms t) all (between (es ++ e ∷ []) more_ run'' folds'' parts.1 a p ms t first.next first.row)

@@ -34,7 +34,8 @@ use Rattle.quiesce_core.specs.declared.event.Event.TheVariants as event
 use Rattle.quiesce_core.proofs.RunLaws.{nodes_are_named}
 use Rattle.change_round_laws.specs.SoundStatements.{IsSoundGraph}
 use Rattle.result_row_laws.specs.Keeping.{KeepsEnds, KeepsOrMoves}
-use Rattle.result_row_laws.specs.Rows.{IsRow, kind_at}
+use Rattle.result_come_laws.specs.Describing.{kind_at}
+use Rattle.result_row_laws.specs.Rows.{IsRow}
 use Rattle.result_row_laws.proofs.Ends.{IsMadeWell, OneEach, each_is_last, last_made, same_sink, same_source, touched, touched_more}
 use Rattle.result_row_laws.proofs.Making.{OnceFrom, Well, calm_well, last_calm, makes_well, none_map, one_sink_at, one_source_at, stays_touched}
 use Rattle.result_row_laws.proofs.Rising.{stand_of}

@@ -1,6 +1,6 @@
 -- The course of a run of rows: behind each of its events the row stands with what went through it, or a commit is under way, and
 -- all rests.
-use Rattle.std.proofs.Common.{◌≡◌, ◌∙◌, ℕ, ◌+◌, Bool, true, false, cond, List, [], ◌∷◌, ◌++◌, append_assoc, length, Option, None, refl, sym, ap, subst, inl, inr, ⊎_elim}
+use Rattle.std.proofs.Common.{◌≡◌, ◌∙◌, ℕ, ◌+◌, Bool, true, false, cond, List, [], ◌∷◌, ◌++◌, append_assoc, length, Option, None, refl, sym, ap, subst, arith, inl, inr, ⊎_elim}
 use Rattle.std.specs.Prelude.{◌⊎◌, ◌||◌, ◌==◌}
 use Rattle.std.proofs.lemmas.Bool.{both_ways, cases_Bool, eq-eqb, eqb-true}
 use Rattle.std.proofs.lemmas.List.{append-nil}
@@ -15,7 +15,7 @@ use Rattle.quiesce_word.specs.declared.phase.Phase.TheVariants as phase
 use Rattle.quiesce_core.specs.Alters.{exchange_by, exchange_next}
 use Rattle.quiesce_core.specs.declared.state.Exchange.{Exchange}
 use Rattle.quiesce_core.proofs.AlterLaws.{exchanges_next}
-use Rattle.result_row_laws.proofs.Onward.{Now, idle_passes, starts_at}
+use Rattle.result_come_laws.proofs.EventLaws.{Now, idle_passes, starts_at}
 use Rattle.quiesce_core.specs.Doers.{is_of_change}
 use Rattle.quiesce_core.specs.Legal.{Legal}
 use Rattle.quiesce_core.specs.Live.{IsGraphOf}
@@ -29,9 +29,9 @@ use Rattle.quiesce_core.proofs.RunLaws.{fronts_are_runs}
 use Rattle.change_round_laws.proofs.FoldLaws.{StatesAreHanded}
 use Rattle.result_row_laws.specs.Rows.{IsRow}
 use Rattle.result_row_laws.proofs.AtRest.{nothing_happens}
-use Rattle.result_row_laws.proofs.Between.{calm_makes_none, fronts_fold, one_event}
+use Rattle.result_row_laws.proofs.Between.{calm_makes_none, one_event}
 use Rattle.result_come_laws.specs.Coming.{HasFolds, come}
-use Rattle.result_come_laws.proofs.ComingLaws.{facts, folds_before, folds_on}
+use Rattle.result_come_laws.proofs.ComingLaws.{facts, folds_before, folds_on, fronts_fold}
 use Rattle.result_row_laws.proofs.Ends.{IsMadeWell, MakesWell, OneEach, each_is_last, last_made, last_more, same_sink, same_source, touch_next, touched, touched_more}
 use Rattle.result_row_laws.proofs.Passing.{Stop, passed}
 use Rattle.result_come_laws.proofs.ReopeningLaws.{links_stay}
@@ -75,7 +75,7 @@ touch_calm _ h = refl
 pub start_course : Course [] []
 start_course = record {
   in_row = λ h. absurd (both_ways true h refl);
-  at_rest = λ h. record { still = record { idle = λ q. refl; opened = λ q open_. absurd (both_ways true open_ refl) }; ends = record { count = refl; items = refl } };
+  at_rest = λ h. record { still = record { idle = λ q. refl; opened = λ q open_. absurd (both_ways true open_ refl) }; ends = record { count = refl; items = refl }; few = λ q live kind. omega arith };
 }
 
 -- a port that isn't idle keeps its serial
@@ -123,8 +123,8 @@ starts_alone p (event.Call q k v) h = refl
 starts_alone p _ h = absurd (both_ways false refl h)
 
 pub counted : (s : State) (f : ℕ → NodeState) (a p : ℕ) (ms : List Stop) (t : ℕ) (past : List ℕ) → Stands s f a p ms t past → (f a).kept.count ≡ length past
-counted s f a p ms t past (resting idle count items) = count
-counted s f a p ms t past (under_way d going count items) = count
+counted s f a p ms t past (resting idle count items few) = count
+counted s f a p ms t past (under_way d room going count items) = count
 
 module _ (handed : StatesAreHanded) (es : List Event) (e : Event) (here : IsNext es e) (run' : IsRun (es ++ e ∷ [])) (later : HasFolds (es ++ e ∷ [])) where
   after_is : (p : ℕ) → exchange (state_after (es ++ e ∷ [])) p ≡ exchange_next (state_after es) p e
@@ -144,7 +144,7 @@ module _ (handed : StatesAreHanded) (es : List Event) (e : Event) (here : IsNext
       folds = folds_before handed es e here run' later
 
       start : (z : Event) → e ≡ z → starts_at w.p z ≡ true → SourceDoes w.p (come es w.a).arg (come es w.a).kept (come (es ++ e ∷ []) w.a) z → Begun (es ++ e ∷ []) w.p (length past + 1) w.graph
-      start _ is h (begins q j v at val kept) =
+      start _ is h (begins q j v at val wants kept) =
           let v_is = counted (state_after es) (come es) w.a w.p w.ms w.t past w.row.stands in
           record {
             before = es;

@@ -29,13 +29,15 @@ use Rattle.result_row_laws.specs.Items.{HasItems, IsItem, IsLogOfLive, WasAnswer
 use Rattle.result_row_laws.specs.Keeping.{AreRows}
 use Rattle.result_row_laws.specs.Rows.{through}
 use Rattle.result_come_laws.specs.Coming.{HasFolds, come}
+use Rattle.result_come_laws.proofs.PlacedLaws.{placed}
+use Rattle.result_come_laws.proofs.StoppingLaws.{logs_fold, open_nowhere}
 use Rattle.result_row_laws.proofs.Course.{Course, RowAt}
 use Rattle.result_row_laws.proofs.Ends.{MakesWell, each_is_last, last_made, same_sink, same_source}
-use Rattle.result_row_laws.proofs.Lawfully.{makes, opens, placed, placed_courses}
+use Rattle.result_row_laws.proofs.Lawfully.{makes, opens, placed_courses}
 use Rattle.result_row_laws.proofs.Placing.{ItemAt, PlacedCourse}
 use Rattle.result_row_laws.proofs.Resting.{Ends}
-use Rattle.result_row_laws.proofs.Serving.{served}
-use Rattle.result_row_laws.proofs.Stopping.{ends_there, log_ends, logs_fold, open_nowhere}
+use Rattle.result_row_laws.proofs.Serving.{not_answered_0, served}
+use Rattle.result_row_laws.proofs.Stopping.{ends_there, log_ends}
 
 -- a line's event is one of the change
 line_changes : (l : HistoryLine) (e : Event) → event_of l ≡ Some e → is_of_change e ≡ true
@@ -144,3 +146,10 @@ module _ (handed : StatesAreHanded) (each_may : EachMayCommit) (by_config : Comm
         began = λ j item at. was_answered l.members (j + 1) item (whole.places j item at);
         each = item_of;
       }
+
+  pub not_0 : (before between after : List Member) (port serial value answer : ℕ) → l.members ≡ before ++ by_node (event.Begin port serial value) ∷ (between ++ by_node (event.End port serial answer) ∷ after) → answer ≡ 0 → ⊥
+  not_0 before between after port serial value answer parts is =
+      both_ways (answer == 0)
+      (not_answered_0 handed (events l.members) l.by_them.runs folds open_rows make_well (events before) (events between) (events after) port serial value answer
+      (events_at l.members before between after (event.Begin port serial value) (event.End port serial answer) parts))
+      (eq-eqb answer 0 is)

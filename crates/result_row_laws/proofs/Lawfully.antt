@@ -1,22 +1,19 @@
 -- The course of a lawful report of row systems.
-use Rattle.std.proofs.Common.{◌≡◌, ◌∙◌, ℕ, Bool, true, false, List, [], ◌∷◌, ◌++◌, map, Option, Some, None, refl, sym, ap, subst}
+use Rattle.std.proofs.Common.{◌≡◌, ◌∙◌, ℕ, Bool, true, false, List, [], ◌∷◌, ◌++◌, map, Option, None, refl, sym, ap, subst}
 use Rattle.std.specs.Prelude.{All, filter, fold}
-use Rattle.std.specs.List.{cons_option, list_any}
+use Rattle.std.specs.List.{list_any}
 use Rattle.std.proofs.lemmas.Bool.{both_ways}
 use Rattle.std.proofs.lemmas.List.{append-nil}
-use Rattle.std.proofs.lemmas.List.Elements.{All-head, filter-append}
-use Rattle.std.proofs.lemmas.Option.{same_Some}
+use Rattle.std.proofs.lemmas.List.Elements.{filter-append}
 use Rattle.base.specs.Each.{Each, EachAfter}
 use Rattle.base.proofs.EachLaws.{each_at, each_joined}
-use Rattle.base.proofs.PlaceLaws.{heads_are, tails_are}
 use Rattle.config_graph.specs.Graph.{Graph}
 use Rattle.config_graph.specs.declared.kind.Kind.{Kind}
 use Rattle.config_graph.specs.declared.kind.Kind.TheVariants.{Sink, Source}
 use Rattle.config_graph.specs.declared.node.Made.{Made}
 use Rattle.quiesce_commit_laws.specs.Steps.{live_ports}
 use Rattle.quiesce_core.specs.Doers.{is_make, is_of_change}
-use Rattle.quiesce_core.specs.Live.{IsGraphOf}
-use Rattle.quiesce_core.specs.Runs.{IsRun, state_after}
+use Rattle.quiesce_core.specs.Runs.{IsRun}
 use Rattle.quiesce_core.specs.declared.event.Event.{Event}
 use Rattle.quiesce_core.specs.declared.event.Event.TheVariants as event
 use Rattle.quiesce_core.proofs.RunLaws.{fronts_are_runs}
@@ -25,11 +22,11 @@ use Rattle.report_types.specs.declared.report.HistoryLine.{HistoryLine}
 use Rattle.report_types.specs.declared.report.HistoryLine.TheVariants as to
 use Rattle.report_types.specs.declared.report.Report.{Report}
 use Rattle.change_law.specs.Follows.{Follows, IsRight, Part, lines_of}
-use Rattle.change_law.specs.Lawful.{IsOfItsKind, Merge}
-use Rattle.change_law.specs.Members.{Member, by_node, of_history, event_in, event_of, events, lines_of_events}
+use Rattle.change_law.specs.Lawful.{Merge}
+use Rattle.change_law.specs.Members.{Member, events, lines_of_events}
 use Rattle.change_law.specs.Scene.{config_after, drained_line}
 use Rattle.change_law.specs.Statements.{Statement, start, change, run, finish, show}
-use Rattle.change_law.proofs.MemberLaws.{all_parts, changes_are_lines, events_without_roots}
+use Rattle.change_law.proofs.MemberLaws.{changes_are_lines, events_without_roots}
 use Rattle.change_round_laws.specs.SoundStatements.{AreSound, GoOnSoundly}
 use Rattle.change_round_laws.proofs.AloneLaws.{changes_run}
 use Rattle.change_round_laws.proofs.CommitGraphLaws.{AreRightAfter, CommitsByConfiguration, CommitsLeaveGraphs, EachMayCommit, Fits, begun}
@@ -43,7 +40,7 @@ use Rattle.result_row_laws.proofs.Course.{CourseAt, CourseNext, Course, RowAt, c
 use Rattle.result_row_laws.proofs.Ends.{IsMadeWell, MakesWell, last_next, touch_next}
 use Rattle.result_row_laws.proofs.Histories.{all_well, closes_makeless, described_has, looks_makeless, makeless, start_kept, start_well}
 use Rattle.result_row_laws.proofs.Making.{Well, calm_well}
-use Rattle.result_come_laws.proofs.ReopenedLaws.{reopened_at}
+use Rattle.result_come_laws.proofs.PlacedLaws.{opened_at}
 use Rattle.result_row_laws.proofs.Placing.{PlacedCourse, placed_at}
 use Rattle.result_come_laws.proofs.ReopeningLaws.{front_runs, right_after}
 
@@ -124,49 +121,6 @@ makes_all es each before after n node from parts =
       sink = λ kind. w.sink kind ∙ kept_fold (last_next Sink) (last_nothing Sink) None before;
     }
 
--- where an event stands among the members
-pub record Placed (m : List Member) (before : List Event) (e : Event) : Type 0 where
-  pub front : List Member
-  pub member : Member
-  pub back : List Member
-  pub parts : m ≡ front ++ member ∷ back
-  pub is : event_in member ≡ Some e
-  pub events_are : events front ≡ before
-
-pub placed : (m : List Member) (before after : List Event) (e : Event) → events m ≡ before ++ e ∷ after → Placed m before e
-placed [] [] after e h = absurd (cc h)
-placed [] (b ∷ before) after e h = absurd (cc h)
-placed (x ∷ m) before after e h = by (event_in x) refl (λ bs h'. placed m bs after e h')
-  where
-    none_in : event_in x ≡ None → (xs : List Member) → events (x ∷ xs) ≡ events xs
-    none_in is xs = ap (λ o. cons_option o (events xs)) is
-
-    some_in : (y : Event) → event_in x ≡ Some y → (xs : List Member) → events (x ∷ xs) ≡ y ∷ events xs
-    some_in y is xs = ap (λ o. cons_option o (events xs)) is
-
-    more_ : (y : Event) → event_in x ≡ Some y → (bs : List Event) → y ∷ events m ≡ bs ++ e ∷ after → ((cs : List Event) → events m ≡ cs ++ e ∷ after → Placed m cs e) → Placed (x ∷ m) bs e
-    more_ y is [] h later = record { front = []; member = x; back = m; parts = refl; is = is ∙ ap Some (heads_are y e (events m) after h); events_are = refl }
-    more_ y is (b ∷ bs) h later =
-        let w = later bs (tails_are y b (events m) (bs ++ e ∷ after) h) in
-        record { front = x ∷ w.front; member = w.member; back = w.back; parts = ap (λ xs. x ∷ xs) w.parts; is = w.is; events_are = some_in y is w.front ∙ (λ i. heads_are y b (events m) (bs ++ e ∷ after) h i ∷ w.events_are i) }
-
-    by : (o : Option Event) → event_in x ≡ o → ((cs : List Event) → events m ≡ cs ++ e ∷ after → Placed m cs e) → Placed (x ∷ m) before e
-    by None is later =
-        let w = later before (sym (none_in is m) ∙ h) in
-        record { front = x ∷ w.front; member = w.member; back = w.back; parts = ap (λ xs. x ∷ xs) w.parts; is = w.is; events_are = none_in is w.front ∙ w.events_are }
-    by (Some y) is later = more_ y is before (sym (some_in y is m) ∙ h) later
-
-reopen_line : (l : HistoryLine) (p : ℕ) → event_of l ≡ Some (event.Reopen p) → l ≡ to.Reopen p
-reopen_line (to.Reopen q) p h = ap to.Reopen (port_of (event.Reopen q) (event.Reopen p) (same_Some (event.Reopen q) (event.Reopen p) h))
-  where
-    port_in : Event → ℕ
-    port_in (event.Reopen p) = p
-    port_in _ = 0
-
-    port_of : (a b : Event) → a ≡ b → port_in a ≡ port_in b
-    port_of a b h = ap port_in h
-reopen_line _ p h = absurd (cc h)
-
 module _ (handed : StatesAreHanded) (each_may : EachMayCommit) (by_config : CommitsByConfiguration) (leaves : CommitsLeaveGraphs) (statements : List Statement) (report : Report) (m : List Member) (sound : AreSound statements) (rows : AreRows statements)
     (follows : Follows statements report.history) (merge : Merge m report) (goes : IsRun (events m)) (folds : HasFolds (events m)) where
   pub makes : MakesWell (events m)
@@ -175,19 +129,9 @@ module _ (handed : StatesAreHanded) (each_may : EachMayCommit) (by_config : Comm
       makes_all (events m) (subst (Each Well) (sym changed) (history_well each_may by_config leaves statements report.history sound rows follows (subst IsRun changed (changes_run (events m) goes))))
 
   pub opens : (before after : List Event) (p : ℕ) → events m ≡ before ++ event.Reopen p ∷ after → RowAt before
-  opens before after p parts = by w.member refl w.is
-    where
-      w : Placed m before (event.Reopen p)
-      w = placed m before after (event.Reopen p) parts
-
-      by : (x : Member) → w.member ≡ x → event_in x ≡ Some (event.Reopen p) → RowAt before
-      by (of_history l) is h =
-          let n = reopened_at each_may by_config leaves statements IsRow report m sound rows.rows follows merge goes w.front w.back p (w.parts ∙ ap (λ x. w.front ++ x ∷ w.back) (is ∙ ap of_history (reopen_line l p h))) in
-          record { graph = n.graph; stands = subst (λ es. IsGraphOf (state_after es).config n.graph) w.events_are n.stands; is_row = n.has }
-      by (by_node e) is h =
-          let kinds = all_parts IsOfItsKind w.front (w.member ∷ w.back) (subst (All IsOfItsKind) w.parts merge.by_nodes) in
-          let own : is_of_change e ≡ false = subst IsOfItsKind is (All-head IsOfItsKind w.member w.back kinds.1) in
-          absurd (both_ways true (sym (ap is_of_change (same_Some e (event.Reopen p) h)) ∙ own) refl)
+  opens before after p parts =
+      let n = opened_at each_may by_config leaves statements IsRow report m sound rows.rows follows merge goes before after p parts in
+      record { graph = n.graph; stands = n.stands; is_row = n.has }
 
   -- at each place of a lawful report of row systems
   pub courses : (before after : List Event) → events m ≡ before ++ after → CourseAt before

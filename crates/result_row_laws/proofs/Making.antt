@@ -17,7 +17,8 @@ use Rattle.quiesce_core.specs.Doers.{is_make}
 use Rattle.quiesce_core.specs.Rules.{is_kind}
 use Rattle.quiesce_core.specs.declared.event.Event.{Event}
 use Rattle.quiesce_core.specs.declared.event.Event.TheVariants as event
-use Rattle.result_row_laws.specs.Rows.{IsRow, kind_at}
+use Rattle.result_come_laws.specs.Describing.{kind_at}
+use Rattle.result_row_laws.specs.Rows.{IsRow}
 use Rattle.result_row_laws.proofs.Ends.{IsMadeWell, last_made, last_more, same_sink, same_source, touch_next, touched, touched_more}
 use Rattle.result_row_laws.proofs.Staying.{calm_last, is_reopen}
 

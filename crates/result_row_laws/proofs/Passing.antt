@@ -1,12 +1,12 @@
 -- A value on its way through a row: where it stands, and how each event of a node leads it on.
-use Rattle.std.proofs.Common.{◌≡◌, ◌∙◌, ℕ, ◌+◌, ◌%◌, Bool, true, false, cond, List, [], ◌∷◌, ◌++◌, Option, Some, None, refl, sym, ap, arith}
-use Rattle.std.specs.Prelude.{not, ◌==◌, ◌&&◌, ◌||◌, is_none}
+use Rattle.std.proofs.Common.{◌≡◌, ◌∙◌, ℕ, ◌+◌, ◌%◌, ◌≤◌, Bool, true, false, List, [], ◌∷◌, ◌++◌, Option, Some, None, refl, sym, ap, arith}
+use Rattle.std.specs.Prelude.{⊤, ◌==◌, ◌&&◌, ◌||◌, is_none}
 use Rattle.std.proofs.lemmas.Bool.{and_parts, both_ways, eqb-true}
-use Rattle.std.proofs.lemmas.Option.{none-some, same_Some}
+use Rattle.std.proofs.lemmas.Option.{none-some}
 use Rattle.config_graph.specs.declared.TheConstants.{VALUE_LIMIT}
 use Rattle.config_graph.specs.declared.kind.Kind.{Kind}
 use Rattle.config_graph.specs.declared.kind.Kind.TheVariants.{Map, Sink}
-use Rattle.component_trait.specs.Fold.{after_event, asked_by, may_take, is_request_at}
+use Rattle.component_trait.specs.Fold.{after_event, may_take}
 use Rattle.component_trait.specs.States.{Kept, NodeState}
 use Rattle.component_trait.specs.States as node
 use Rattle.component_trait.specs.Moves as moves
@@ -17,6 +17,7 @@ use Rattle.quiesce_core.specs.State.{Configuration, State, exchange, owner, slot
 use Rattle.quiesce_core.specs.declared.event.Event.{Event}
 use Rattle.quiesce_core.specs.declared.event.Event.TheVariants.{Begin, Call, Take, Give, End, More, Ask, Hear, Miss, Close, Reopen, Make, Link, Unlink, Remove}
 use Rattle.quiesce_core.specs.declared.state.Slot.{Slot}
+use Rattle.result_come_laws.proofs.EventLaws.{is_take, kept_but_by_take}
 use Rattle.result_come_laws.proofs.FactLaws.{at_work, of_parts}
 
 -- ---- the way of a value
@@ -62,18 +63,24 @@ last_port p (m ∷ ms) = last_port m.port ms
 
 -- ---- where a value stands
 
--- in a map: it hasn't called yet, or its call is open, or it has its answer
-pub data Inside (s : State) (q : ℕ) (Deeper : Bool → Type 0) : List ℕ → Bool → Type 0 where
-  not_yet : is_idle (exchange s q).phase ≡ true → Inside s q Deeper [] false
-  below : (d : Bool) → Deeper d → Inside s q Deeper [] d
-  back : (a : ℕ) (d : Bool) → is_idle (exchange s q).phase ≡ true → d ≡ not (a == 0) → Inside s q Deeper (a ∷ []) d
+-- on each port on the way at most so many transactions began
+abbrev pub Few : State → ℕ → List Stop → Type 0
+Few s k [] = ⊤
+Few s k (m ∷ ms) = ((exchange s m.port).serial ≤ k) × Few s k ms
 
-pub record MapHas (s : State) (n : NodeState) (m : Stop) (x : ℕ) (Deeper : Bool → Type 0) (d : Bool) : Type 0 where
+-- In a map, before which n values have gone through the row: it hasn't called yet, or its call is open, or it has its
+-- answer, which isn't 0. One more transaction began at its port and at those behind it where it has called.
+pub data Inside (s : State) (q n : ℕ) (Before After : Type 0) (Deeper : Bool → Type 0) : List ℕ → Bool → Type 0 where
+  not_yet : is_idle (exchange s q).phase ≡ true → (exchange s q).serial ≤ n → Before → Inside s q n Before After Deeper [] false
+  below : (d : Bool) → (exchange s q).serial ≤ n + 1 → Deeper d → Inside s q n Before After Deeper [] d
+  back : (a : ℕ) (d : Bool) → is_idle (exchange s q).phase ≡ true → (a == 0) ≡ false → d ≡ true → (exchange s q).serial ≤ n + 1 → After → Inside s q n Before After Deeper (a ∷ []) d
+
+pub record MapHas (s : State) (k : NodeState) (m : Stop) (x n : ℕ) (Before After : Type 0) (Deeper : Bool → Type 0) (d : Bool) : Type 0 where
   pub kept : Kept
   pub reply : ℕ
   pub answers : List ℕ
-  pub is : n ≡ at_work Map m.arg kept x reply answers
-  pub inside : Inside s m.port Deeper answers d
+  pub is : k ≡ at_work Map m.arg kept x reply answers
+  pub inside : Inside s m.port n Before After Deeper answers d
 
 pub record SinkHas (n : NodeState) (x : ℕ) (d : Bool) : Type 0 where
   pub arg : ℕ
@@ -81,15 +88,17 @@ pub record SinkHas (n : NodeState) (x : ℕ) (d : Bool) : Type 0 where
   pub is : n ≡ at_work Sink arg kept x 1 []
   pub given : d ≡ true
 
--- at a port: it waits, or is taken, or was answered; with whether the sink has got it
-pub data At (s : State) (p x : ℕ) (Has : Bool → Type 0) (d : Bool) : Type 0 where
-  waiting : is_asked (exchange s p).phase ≡ true → (exchange s p).value ≡ x → is_taken s p ≡ false → d ≡ false → At s p x Has d
-  taken : is_asked (exchange s p).phase ≡ true → (exchange s p).value ≡ x → is_taken s p ≡ true → Has d → At s p x Has d
-  answered : is_answered (exchange s p).phase ≡ true → d ≡ not ((exchange s p).value == 0) → At s p x Has d
+-- At a port: it waits, or is taken, or was answered, not by 0; with whether the sink has got it.
+pub data At (s : State) (p x : ℕ) (Before After : Type 0) (Has : Bool → Type 0) (d : Bool) : Type 0 where
+  waiting : is_asked (exchange s p).phase ≡ true → (exchange s p).value ≡ x → is_taken s p ≡ false → d ≡ false → Before → At s p x Before After Has d
+  taken : is_asked (exchange s p).phase ≡ true → (exchange s p).value ≡ x → is_taken s p ≡ true → Has d → At s p x Before After Has d
+  answered : is_answered (exchange s p).phase ≡ true → ((exchange s p).value == 0) ≡ false → d ≡ true → After → At s p x Before After Has d
 
-abbrev pub Going : State → (ℕ → NodeState) → ℕ → ℕ → List Stop → ℕ → Bool → Type 0
-Going s f p x [] t = At s p x (SinkHas (f t) x)
-Going s f p x (m ∷ ms) t = At s p x (MapHas s (f m.at) m x (Going s f m.port ((x + m.arg) % VALUE_LIMIT) ms t))
+abbrev pub Going : State → (ℕ → NodeState) → ℕ → ℕ → ℕ → List Stop → ℕ → Bool → Type 0
+Going s f n p x [] t = At s p x ⊤ ⊤ (SinkHas (f t) x)
+Going s f n p x (m ∷ ms) t =
+    At s p x (Few s n (m ∷ ms)) (Few s (n + 1) (m ∷ ms))
+    (MapHas s (f m.at) m x n (Few s n ms) (Few s (n + 1) ms) (Going s f n m.port ((x + m.arg) % VALUE_LIMIT) ms t))
 
 -- ---- what nodes at work do
 
@@ -187,27 +196,5 @@ sink_takes first n t p j v kind h =
     (record { idle = none_; kept = node.with_items (n.kept.items ++ v ∷ []); is = is }, ap (λ (x : NodeState). x.kept.items) is)
 
 -- an event of a sink that isn't a Take leaves its items
-abbrev pub is_take : Event → Bool
-is_take (Take p j v) = true
-is_take _ = false
-
-sink_at_rest : (first : ℕ) (a : ℕ) (kept : Kept) (o : Option node.Service) (e : Event) (t : NodeState) → is_take e ≡ false
-    → after_event first (record { kind = Sink; arg = a; kept = kept; service = o }) e ≡ Some t → t.kept ≡ kept
-sink_at_rest first a kept o (Begin p j v) t other h = absurd (none-some t h)
-sink_at_rest first a kept o (Call p j v) t other h = sym (ap (λ (n : NodeState). n.kept) (where_so_then _ _ t h).1)
-sink_at_rest first a kept o (Take p j v) t other h = absurd (both_ways true other refl)
-sink_at_rest first a kept o (Give p j v) t other h = sym (ap (λ (n : NodeState). n.kept) (where_so_then _ _ t h).1)
-sink_at_rest first a kept o (More p j v) t other h = sym (ap (λ (n : NodeState). n.kept) (where_so_then _ _ t h).1)
-sink_at_rest first a kept o (Hear p j v) t other h = sym (ap (λ (n : NodeState). n.kept) (where_so_then _ _ t h).1)
-sink_at_rest first a kept o (Ask p j v) t other h = sym (ap (λ (n : NodeState). n.kept) (where_so_then _ _ t h).1)
-sink_at_rest first a kept o (Miss p) t other h = sym (ap (λ (n : NodeState). n.kept) (where_so_then _ _ t h).1)
-sink_at_rest first a kept o (End p j v) t other h = ended (is_request_at first p (asked_by (moves.next (record { kind = Sink; arg = a; kept = kept; service = o })))) h
-  where
-    ended : (b : Bool) → cond b (Some (moves.after_answer (record { kind = Sink; arg = a; kept = kept; service = o }) v)) None ≡ Some t → t.kept ≡ kept
-    ended true is = sym (ap (λ (n : NodeState). n.kept) (same_Some _ t is))
-    ended false is = absurd (none-some t is)
-sink_at_rest first a kept o _ t other h = absurd (none-some t h)
-
 pub sink_keeps : (first : ℕ) (n t : NodeState) (e : Event) → n.kind ≡ Sink → is_take e ≡ false → after_event first n e ≡ Some t → t.kept ≡ n.kept
-sink_keeps first n t e kind other h =
-    sink_at_rest first n.arg n.kept n.service e t other (ap (λ x. after_event first x e) (sym (of_parts n Sink n.service kind refl)) ∙ h)
+sink_keeps first n t e kind other h = kept_but_by_take first n t e (ap (λ (x : NodeState). moves.wants x) (of_parts n Sink n.service kind refl)) other h

@@ -9,33 +9,31 @@ use Rattle.config_graph.specs.Graph.{Graph}
 use Rattle.config_graph.specs.Kinds.{row}
 use Rattle.config_graph.specs.declared.kind.Kind.{Kind}
 use Rattle.config_graph.specs.declared.kind.Kind.TheVariants.{Map, Sink, Source}
-use Rattle.component_trait.specs.States.{NodeState, at_rest}
-use Rattle.component_trait.proofs.FoldLaws.{fold_keeps_argument, fold_keeps_kind}
+use Rattle.component_trait.specs.States.{NodeState}
 use Rattle.quiesce_word.specs.Phases.{is_idle}
 use Rattle.quiesce_core.specs.Live.{IsGraphOf}
 use Rattle.quiesce_core.specs.Reach.{IsPortOf}
 use Rattle.quiesce_core.specs.Rules.{is_settled}
-use Rattle.quiesce_core.specs.Runs.{IsRun, done_by, state_after}
-use Rattle.quiesce_core.specs.State.{Configuration, State, exchange, fresh_gate, gate, is_live, owner, slot}
+use Rattle.quiesce_core.specs.Runs.{IsRun, state_after}
+use Rattle.quiesce_core.specs.State.{Configuration, State, exchange, fresh_exchange, fresh_gate, gate, is_live, owner, slot}
 use Rattle.quiesce_core.specs.declared.event.Event.{Event}
 use Rattle.quiesce_core.specs.declared.event.Event.TheVariants as event
+use Rattle.quiesce_core.specs.declared.state.Exchange.{Exchange}
 use Rattle.quiesce_core.specs.declared.state.Gate.{Gate}
 use Rattle.quiesce_core.specs.declared.state.Slot.{Slot}
 use Rattle.quiesce_core.proofs.RunLaws.{runs_are_consistent, runs_are_well_formed}
 use Rattle.quiesce_core.proofs.SettledLaws.{settled_if}
 use Rattle.quiesce_core.proofs.StabilityLaws.{busy_is_live}
-use Rattle.change_law.specs.Opening.{argument_of}
 use Rattle.change_round_laws.proofs.FoldLaws.{StatesAreHanded}
 use Rattle.result_row_laws.specs.Rows.{IsRow, through}
 use Rattle.result_row_laws.proofs.AtRest.{IsStill, all_idle}
 use Rattle.result_row_laws.proofs.Between.{Row}
 use Rattle.result_come_laws.specs.Coming.{HasFolds, come}
-use Rattle.result_come_laws.proofs.ComingLaws.{came, facts}
+use Rattle.result_come_laws.proofs.ComingLaws.{facts, fits_of}
 use Rattle.result_row_laws.proofs.Ends.{last_made}
 use Rattle.result_row_laws.proofs.Onward.{way_busy}
-use Rattle.result_row_laws.proofs.Passing.{Stop, ToMap, Way, passed}
+use Rattle.result_row_laws.proofs.Passing.{Few, Stop, ToMap, Way, passed}
 use Rattle.result_row_laws.proofs.Rounds.{IsSource, Stands, resting, under_way}
-use Rattle.result_row_laws.proofs.RowWays.{Fits}
 use Rattle.result_row_laws.proofs.Touching.{IsOnWay, quiet_where_settled}
 
 -- what the last source counts and the last sink has
@@ -46,6 +44,8 @@ pub record Ends (es : List Event) (past : List ℕ) : Type 0 where
 pub record Rest (es : List Event) (past : List ℕ) : Type 0 where
   pub still : IsStill (state_after es) (come es)
   pub ends : Ends es past
+  -- at the port of a live map no more transactions began than items came
+  pub few : (q : ℕ) → is_live (state_after es).config (owner (state_after es).config q) ≡ true → (come es (owner (state_after es).config q)).kind ≡ Map → (exchange (state_after es) q).serial ≤ length past
 
 -- where the transaction began that is under way at a port, and the graph that stood there
 pub record Begun (es : List Event) (p v : ℕ) (g : Graph) : Type 0 where
@@ -72,12 +72,6 @@ pub record InRow (es : List Event) (past : List ℕ) : Type 0 where
   pub nodes : (n : ℕ) → is_live (state_after es).config n ≡ true → (n ≡ a) ⊎ IsOnWay ms t n
   pub begun : is_idle (exchange (state_after es) p).phase ≡ false → Begun es p (length past + 1) graph
 
-pub fits_of : StatesAreHanded → (es : List Event) → IsRun es → HasFolds es → Fits (state_after es).config (come es)
-fits_of handed es run folds = record {
-  kinds = λ n m there. let c = came handed es run folds n m there in fold_keeps_kind m.first_port (at_rest m.node.kind (argument_of m) c.kept) (come es n) (done_by n es) c.is;
-  args = λ n m there. let c = came handed es run folds n m there in fold_keeps_argument m.first_port (at_rest m.node.kind (argument_of m) c.kept) (come es n) (done_by n es) c.is;
-}
-
 -- ---- ports of the nodes of a row
 
 end_kind : (c : Configuration) (f : ℕ → NodeState) (ms : List Stop) (p t : ℕ) → Way c f p ms t → (f t).kind ≡ Sink
@@ -101,6 +95,13 @@ sole_port c f m r q to o =
     let first : o.node.first_port ≡ m.port = ap (λ (m : Slot). m.first_port) one ∙ to.first in
     let from = o.from in let below = o.below in omega (arith, from, below, one_, first)
 
+-- how often one on the way began a transaction
+few_on : (s : State) (f : ℕ → NodeState) (k : ℕ) (ms : List Stop) (p t n q : ℕ) → Way s.config f p ms t → Few s k ms → IsOnWay ms t n → IsPortOf s.config n q → (f n).kind ≡ Map → (exchange s q).serial ≤ k
+few_on s f k [] p t n q w few on o kind = absurd (cc (sym kind ∙ ap (λ i. (f i).kind) on ∙ w.kind))
+few_on s f k (m ∷ ms) p t n q w few (inl here) o kind =
+    subst (λ i. (exchange s i).serial ≤ k) (sym (sole_port s.config f m p q w.0 (subst (λ i. IsPortOf s.config i q) here o))) few.0
+few_on s f k (m ∷ ms) p t n q w few (inr later) o kind = few_on s f k ms m.port t n q w.1 few.1 later o kind
+
 module _ (handed : StatesAreHanded) (es : List Event) (run : IsRun es) (folds : HasFolds es) (past : List ℕ) where
   pub source_port : (a p : ℕ) → (src : IsSource (state_after es) (come es) a p) → (q : ℕ) → IsPortOf (state_after es).config a q → q ≡ p
   source_port a p src q o =
@@ -122,17 +123,26 @@ module _ (handed : StatesAreHanded) (es : List Event) (run : IsRun es) (folds : 
   row_ends w idle = ends w.row.stands
     where
       ends : Stands (state_after es) (come es) w.a w.p w.ms w.t past → Ends es past
-      ends (resting idle' count items) = record {
+      ends (resting idle' count items few) = record {
         count = ap (λ o. option_map_or (λ a. (come es a).kept.count) o 0) w.source ∙ count;
         items = ap (λ o. option_map_or (λ t. (come es t).kept.items) o []) w.sink ∙ items;
       }
-      ends (under_way d going count items) = absurd (way_busy (state_after es) (come es) (come es) (facts handed es run folds) w.ms w.p (length past + 1) w.t d going idle)
+      ends (under_way d room going count items) = absurd (way_busy (state_after es) (come es) (come es) (facts handed es run folds) (length past) room w.ms w.p (length past + 1) w.t d going idle)
+
+  -- nor has any of its maps begun more
+  row_few : (w : InRow es past) → is_idle (exchange (state_after es) w.p).phase ≡ true → Few (state_after es) (length past) w.ms
+  row_few w idle = few w.row.stands
+    where
+      few : Stands (state_after es) (come es) w.a w.p w.ms w.t past → Few (state_after es) (length past) w.ms
+      few (resting idle' count items f) = f
+      few (under_way d room going count items) = absurd (way_busy (state_after es) (come es) (come es) (facts handed es run folds) (length past) room w.ms w.p (length past + 1) w.t d going idle)
 
   -- where a node of a row is settled the row rests
   pub rests : (w : InRow es past) → (n : ℕ) → is_settled (state_after es) n ≡ true → Rest es past
   rests w n settled = record {
     still = record { idle = idle; opened = opened };
     ends = row_ends w quiet.1;
+    few = few;
   }
     where
       s : State
@@ -147,6 +157,17 @@ module _ (handed : StatesAreHanded) (es : List Event) (run : IsRun es) (folds : 
 
       at_source : (q : ℕ) → q < length (state_after es).config.gates → owner (state_after es).config q ≡ w.a → q ≡ w.p
       at_source q made owned = source_port w.a w.p w.row.src q (subst (λ k. IsPortOf (state_after es).config k q) owned (port_there q made))
+
+      few : (q : ℕ) → is_live (state_after es).config (owner (state_after es).config q) ≡ true → (come es (owner (state_after es).config q)).kind ≡ Map → (exchange (state_after es) q).serial ≤ length past
+      few q live kind = ⊎_elim
+          (λ (made : q < length (state_after es).config.gates). by made (w.nodes (owner (state_after es).config q) live))
+          (λ (beyond : length (state_after es).config.gates ≤ q).
+          let fresh = ap (λ (x : Exchange). x.serial) (get_or_past (state_after es).traffic.exchanges q fresh_exchange (let n = (runs_are_well_formed es run).exchanges in omega (arith, n, beyond))) in omega (arith, fresh))
+          (cases_lt q (length (state_after es).config.gates))
+        where
+          by : q < length (state_after es).config.gates → (owner (state_after es).config q ≡ w.a) ⊎ IsOnWay w.ms w.t (owner (state_after es).config q) → (exchange (state_after es) q).serial ≤ length past
+          by made (inl here) = absurd (cc (sym kind ∙ ap (λ i. (come es i).kind) here ∙ w.row.src.kind))
+          by made (inr on) = few_on (state_after es) (come es) (length past) w.ms w.p w.t (owner (state_after es).config q) q w.row.way (row_few w quiet.1) on (port_there q made) kind
 
       idle : (q : ℕ) → is_idle (exchange (state_after es) q).phase ≡ true
       idle q = true_from_ne_false (is_idle (exchange (state_after es) q).phase) (λ busy.

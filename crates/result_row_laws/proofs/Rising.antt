@@ -1,9 +1,11 @@
 -- From rest to a row: at a reopen the graph that stands is a row, and its source and sink are the ones made last.
-use Rattle.std.proofs.Common.{◌≡◌, ◌∙◌, ℕ, true, List, [], ◌∷◌, length, Some, refl, sym, ap, subst, arith, inl, inr, ⊎_elim}
-use Rattle.std.specs.Prelude.{◌⊎◌, Contains, option_map, slice_get}
+use Rattle.std.proofs.Common.{◌≡◌, ◌∙◌, ℕ, ◌<◌, ◌≤◌, true, List, [], ◌∷◌, length, Option, Some, None, refl, sym, ap, subst, arith, inl, inr, ⊎_elim}
+use Rattle.std.specs.Prelude.{◌⊎◌, Contains, IfSome, option_map, slice_get}
 use Rattle.std.specs.Option.{option_map_or}
 use Rattle.std.proofs.lemmas.Bool.{both_ways}
 use Rattle.quiesce_word.specs.Phases.{is_idle}
+use Rattle.quiesce_word.specs.declared.word.TheConstants.{LAST_SERIAL}
+use Rattle.config_graph.specs.declared.TheConstants.{VALUE_LIMIT}
 use Rattle.std.proofs.lemmas.Option.{same_Some}
 use Rattle.base.proofs.ContainsLaws.{Contains-at, at_some_place}
 use Rattle.base.proofs.OptionLaws.{map_or_true, option_map_some}
@@ -11,23 +13,25 @@ use Rattle.base.proofs.PlaceLaws.{slice_get-below}
 use Rattle.config_graph.specs.Graph.{Graph}
 use Rattle.config_graph.specs.Kinds.{row}
 use Rattle.config_graph.specs.declared.kind.Kind.{Kind}
-use Rattle.config_graph.specs.declared.kind.Kind.TheVariants.{Sink, Source}
+use Rattle.config_graph.specs.declared.kind.Kind.TheVariants.{Map, Sink, Source}
 use Rattle.config_graph.specs.declared.node.Node.{Node}
 use Rattle.component_trait.specs.States.{NodeState}
 use Rattle.quiesce_core.specs.Live.{IsGraphOf, StandsAt}
 use Rattle.quiesce_core.specs.Runs.{IsRun, state_after}
-use Rattle.quiesce_core.specs.State.{Configuration, exchange, owner, slot}
+use Rattle.quiesce_core.specs.State.{Configuration, State, exchange, is_live, owner, slot}
 use Rattle.quiesce_core.specs.WellFormed.{IsSound}
 use Rattle.quiesce_core.specs.declared.event.Event.{Event}
 use Rattle.quiesce_core.specs.declared.state.Slot.{Slot}
 use Rattle.quiesce_core.proofs.RunLaws.{nodes_are_named, runs_are_consistent, runs_are_well_formed}
 use Rattle.quiesce_core.proofs.SameWiringLaws.{alive_if}
 use Rattle.change_round_laws.proofs.FoldLaws.{StatesAreHanded}
-use Rattle.result_row_laws.specs.Rows.{IsRow, kind_at}
+use Rattle.result_come_laws.specs.Describing.{kind_at}
+use Rattle.result_row_laws.specs.Rows.{IsRow}
 use Rattle.result_come_laws.specs.Coming.{HasFolds, come}
 use Rattle.result_row_laws.proofs.Ends.{OneEach}
-use Rattle.result_row_laws.proofs.Passing.{Stop, Way}
-use Rattle.result_row_laws.proofs.Resting.{InRow, Rest, fits_of}
+use Rattle.result_row_laws.proofs.Passing.{Few, Stop, Way}
+use Rattle.result_come_laws.proofs.ComingLaws.{fits_of}
+use Rattle.result_row_laws.proofs.Resting.{InRow, Rest}
 use Rattle.result_row_laws.proofs.Rounds.{resting}
 use Rattle.result_row_laws.proofs.RowLinks.{on_map, on_source}
 use Rattle.result_row_laws.proofs.RowWays.{one_stand, sink_ends, ways}
@@ -37,6 +41,18 @@ record Ended (c : Configuration) (t : ℕ) : Type 0 where
   there : slot c t ≡ Some made
   live : made.live ≡ true
   kind : made.node.kind ≡ Sink
+
+-- how often each map on a way began a transaction, by what is known of each live map
+few_there : (s : State) (f : ℕ → NodeState) → IsSound s.config → (k : ℕ) (ms : List Stop) (p t : ℕ) → Way s.config f p ms t
+    → ((q : ℕ) → is_live s.config (owner s.config q) ≡ true → (f (owner s.config q)).kind ≡ Map → (exchange s q).serial ≤ k) → Few s k ms
+few_there s f sound k [] p t w each = tt
+few_there s f sound k (m ∷ ms) p t w each =
+    let live = (sound.targets p (record { node = m.at; provide = 0 }) w.0.to.leads).live in
+    (each m.port (ap (is_live s.config) w.0.owned ∙ live) (ap (λ i. (f i).kind) w.0.owned ∙ w.0.kind), few_there s f sound k ms m.port t w.1 each)
+
+argument_small : {n : ℕ} (o : Option ℕ) → n ≡ option_map_or (λ a. a) o 0 → IfSome o (λ a. a < VALUE_LIMIT) → n ≤ LAST_SERIAL
+argument_small None is h = omega (arith, is)
+argument_small (Some a) is h = omega (arith, is, h)
 
 -- the end of a way is a live sink
 way_ends : (c : Configuration) (f : ℕ → NodeState) → IsSound c → (ms : List Stop) (p t : ℕ) → Way c f p ms t → Ended c t
@@ -84,10 +100,11 @@ module _ (handed : StatesAreHanded) (es : List Event) (run : IsRun es) (folds : 
         ms = w.stops;
         t = w.end_;
         row = record {
-          src = record { made = at.made; there = at.there; first = refl; owned = owned; kind = fits.kinds a at.made at.there ∙ kind };
+          src = record { made = at.made; there = at.there; first = refl; owned = owned; kind = fits.kinds a at.made at.there ∙ kind; small = argument_small at.made.node.arg (fits.args a at.made at.there) (named.arguments a at.made at.there).below };
           way = w.way;
           stands = resting (rest.still.idle p) (sym (ap (λ o. option_map_or (λ a. (come es a).kept.count) o 0) last_source) ∙ rest.ends.count)
-              (sym (ap (λ o. option_map_or (λ t. (come es t).kept.items) o []) last_sink) ∙ rest.ends.items);
+              (sym (ap (λ o. option_map_or (λ t. (come es t).kept.items) o []) last_sink) ∙ rest.ends.items)
+              (few_there (state_after es) (come es) sound (length past) w.stops p w.end_ w.way rest.few);
         };
         same = w.same;
         source = last_source;

@@ -17,7 +17,8 @@ use Rattle.config_graph.proofs.GraphByLaws.{linked_if_listed}
 use Rattle.config_graph.proofs.PathLaws.{one_place}
 use Rattle.change_plan.specs.Differences.{IsGone, IsKeptLink, IsTwin}
 use Rattle.change_plan.proofs.StepLaws.{has_node}
-use Rattle.result_row_laws.specs.Rows.{IsRow, LeadsThrough, kind_at}
+use Rattle.result_come_laws.specs.Describing.{kind_at}
+use Rattle.result_row_laws.specs.Rows.{IsRow, LeadsThrough}
 use Rattle.result_row_laws.proofs.RowLinks.{one_end}
 
 module _ (old new : Graph) (sound_old : Sound old) (sound_new : Sound new) (r : IsRow old) (q : IsRow new) (nodes_kept : (i : ℕ) → IsGone old new i → ⊥) (links_kept : (l : Link) → Contains old.links l → ¬ (¬ IsKeptLink old new l)) where

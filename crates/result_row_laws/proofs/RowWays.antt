@@ -23,15 +23,12 @@ use Rattle.quiesce_core.specs.declared.state.Slot.{Slot}
 use Rattle.quiesce_core.proofs.ConfigurationLaws.{linked_made}
 use Rattle.quiesce_core.proofs.LiveLinkLaws.{IsLiveLink, linked_at}
 use Rattle.change_law.specs.Opening.{argument_of}
-use Rattle.result_row_laws.specs.Rows.{IsRow, LeadsThrough, argument_at, kind_at, through}
+use Rattle.result_come_laws.proofs.FactLaws.{Fits}
+use Rattle.result_come_laws.specs.Describing.{kind_at}
+use Rattle.result_row_laws.specs.Rows.{IsRow, LeadsThrough, argument_at, through}
 use Rattle.result_row_laws.proofs.Passing.{Stop, Way, passed}
 use Rattle.result_row_laws.proofs.Touching.{IsOnWay}
 use Rattle.result_row_laws.proofs.RowLinks.{On, first_of, on_map, on_source, one_before}
-
--- what nodes have come to is of their kinds and arguments
-pub record Fits (c : Configuration) (f : ℕ → NodeState) : Type 0 where
-  pub kinds : (n : ℕ) (m : Slot) → slot c n ≡ Some m → (f n).kind ≡ m.node.kind
-  pub args : (n : ℕ) (m : Slot) → slot c n ≡ Some m → (f n).arg ≡ argument_of m
 
 module _ (c : Configuration) (sound : IsSound c) (named : AreNamed c) (owners : (r : ℕ) (t : Target) → target c r ≡ Some t → is_live c (owner c r) ≡ true) (f : ℕ → NodeState) (fits : Fits c f) (g : Graph)
     (is : IsGraphOf c g) (r : IsRow g) where

@@ -10,6 +10,7 @@ use Rattle.config_graph.specs.declared.kind.Kind.TheVariants.{Source}
 use Rattle.component_trait.specs.States.{Kept, NodeState}
 use Rattle.component_trait.specs.States as node
 use Rattle.quiesce_core.specs.Doers.{is_of_change}
+use Rattle.quiesce_core.specs.Legal.{Legal}
 use Rattle.quiesce_core.specs.Live.{IsGraphOf}
 use Rattle.quiesce_core.specs.Runs.{IsRun, is_doer, state_after}
 use Rattle.quiesce_core.specs.State.{owner}
@@ -18,15 +19,15 @@ use Rattle.quiesce_core.specs.declared.event.Event.TheVariants.{Begin, End, Reop
 use Rattle.quiesce_core.proofs.InductionLaws.{IsNext, place}
 use Rattle.change_round_laws.proofs.FoldLaws.{StatesAreHanded}
 use Rattle.result_row_laws.specs.Rows.{IsRow, through}
-use Rattle.result_row_laws.proofs.Answered.{answered, at_place, untouched_at}
+use Rattle.result_row_laws.proofs.Answered.{answered, untouched_at}
 use Rattle.result_come_laws.specs.Coming.{HasFolds, come}
-use Rattle.result_come_laws.proofs.ComingLaws.{facts, folds_before, folds_on}
+use Rattle.result_come_laws.proofs.ComingLaws.{at_place, facts, folds_before, folds_on}
 use Rattle.result_row_laws.proofs.Course.{Course, CourseNext, Grown, RowAt, counted, course_at, course_next}
 use Rattle.result_row_laws.proofs.Ends.{MakesWell, last_made, last_more, last_next, touch_next, touched, touched_more}
-use Rattle.result_row_laws.proofs.Onward.{Now}
+use Rattle.result_come_laws.proofs.EventLaws.{Now}
 use Rattle.result_row_laws.proofs.Passing.{passed}
 use Rattle.result_row_laws.proofs.Resting.{InRow}
-use Rattle.result_row_laws.proofs.Rounds.{SourceDoes, begins, does, ends, other}
+use Rattle.result_row_laws.proofs.Rounds.{SourceDoes, answered_well, begins, does, ends, other}
 
 -- ---- the End of a transaction that is answered adds an item
 
@@ -44,7 +45,7 @@ module _ (handed : StatesAreHanded) (es : List Event) (e : Event) (here : IsNext
       mine = ap (is_doer (state_after es) w.a) is ∙ eq-eqb (owner (state_after es).config w.p) w.a w.row.src.owned
 
       from : (z : Event) → z ≡ End w.p k r → SourceDoes w.p (come es w.a).arg (come es w.a).kept (come (es ++ e ∷ []) w.a) z → (come (es ++ e ∷ []) w.a).kept.count ≡ (come es w.a).kept.count + 1
-      from _ z (begins q j v at val kept) = absurd (cc z)
+      from _ z (begins q j v at val wants kept) = absurd (cc z)
       from _ z (ends q j v at kept) = ap (λ (x : Kept). x.count) kept ∙ ap (λ b. (cond b (come es w.a).kept (node.with_count ((come es w.a).kept.count + 1))).count) (ap (λ i. i == 0) (same z) ∙ not_0)
         where
           same : {q j v : ℕ} → End q j v ≡ End w.p k r → v ≡ r
@@ -133,3 +134,17 @@ module _ (handed : StatesAreHanded) (all : List Event) (run : IsRun all) (folds 
         course = subst (λ xs. Course xs rest.next) (sym whole) rest.course;
         there = rest.keeps (length past) _ (new_there es e past on.next g) ∙ same_item es past u v b.value;
       }
+
+  -- no transaction of a source is answered 0
+  pub not_answered_0 : (before between after : List Event) (p k v r : ℕ) → all ≡ before ++ Begin p k v ∷ (between ++ End p k r ∷ after) → (r == 0) ≡ false
+  not_answered_0 before between after p k v r parts =
+      let es = before ++ Begin p k v ∷ between in
+      let e = End p k r in
+      let parts' : all ≡ es ++ e ∷ after = parts ∙ sym (append_assoc before (Begin p k v ∷ between) (e ∷ after)) in
+      let first = course_at handed all run folds opens makes before (Begin p k v ∷ (between ++ e ∷ after)) parts in
+      let second = course_at handed all run folds opens makes es (e ∷ after) parts' in
+      let at = at_place handed all run folds es after e parts' in
+      let here = place es after e (subst IsRun parts' run) in
+      let w = second.course.in_row (untouched_at handed es e here at.0 at.1 refl second.past second.course) in
+      let a = answered handed all run folds before between after p k v r parts first.past first.course second.past w in
+      answered_well (state_after es) (come es) (facts handed es here.run (folds_before handed es e here at.0 at.1)) w.a w.p w.ms w.t second.past w.row.stands k r (subst (λ q. Legal (state_after es) (End q k r)) a.port here.legal)

@@ -1,30 +1,32 @@
 -- A rest stays by each event of the change but a reopen: all ports stay idle, and a source or a sink that is made has what the last
 -- one had.
 use Rattle.std.proofs.Common.{◌≡◌, ◌∙◌, ℕ, ◌+◌, ◌-◌, ◌<◌, ◌≤◌, Bool, true, false, cond, List, [], ◌∷◌, ◌++◌, length, Option, Some, None, refl, sym, ap, subst, arith, ⊎_elim}
-use Rattle.std.specs.Prelude.{◌==◌, ◌&&◌, nat_lt, nat_le}
+use Rattle.std.specs.Prelude.{◌==◌, ◌&&◌, nat_lt, nat_le, option_map}
 use Rattle.std.specs.Option.{option_map_or}
-use Rattle.std.proofs.lemmas.Bool.{and_parts, both_ways, cases_Bool, cases_lt, eqb-true}
+use Rattle.std.proofs.lemmas.Bool.{and_parts, both_ways, cases_Bool, cases_lt, eqb-true, ne_eqb}
 use Rattle.std.proofs.lemmas.List.{get_or_past}
 use Rattle.std.proofs.lemmas.Option.{none-some, same_Some}
-use Rattle.base.proofs.PlaceLaws.{slice_get-there}
+use Rattle.base.proofs.PlaceLaws.{slice_get-below, slice_get-there}
 use Rattle.config_graph.specs.Kinds.{row}
 use Rattle.config_graph.specs.declared.kind.Kind.{Kind}
-use Rattle.config_graph.specs.declared.kind.Kind.TheVariants.{Sink, Source}
+use Rattle.config_graph.specs.declared.kind.Kind.TheVariants.{Map, Sink, Source}
 use Rattle.config_graph.specs.declared.node.Node.{Node}
 use Rattle.component_trait.specs.States.{Kept, NodeState}
 use Rattle.component_trait.specs.Tables.{opening}
 use Rattle.quiesce_word.specs.Phases.{is_idle}
-use Rattle.quiesce_core.specs.Alters.{exchange_next, gate_next}
+use Rattle.quiesce_core.specs.Alters.{Reconfigures, exchange_next, gate_next, slot_next}
 use Rattle.quiesce_core.specs.Doers.{is_make, is_of_change}
 use Rattle.quiesce_core.specs.Effect.{effect}
 use Rattle.quiesce_core.specs.Legal.{Legal}
 use Rattle.quiesce_core.specs.Rules.{is_kind}
 use Rattle.quiesce_core.specs.Runs.{IsRun, state_after}
-use Rattle.quiesce_core.specs.State.{Configuration, State, exchange, fresh_gate, gate, owner}
+use Rattle.quiesce_core.specs.State.{Configuration, State, exchange, fresh_exchange, fresh_gate, gate, is_live, owner, slot}
 use Rattle.quiesce_core.specs.declared.event.Event.{Event}
 use Rattle.quiesce_core.specs.declared.event.Event.TheVariants as event
 use Rattle.quiesce_core.specs.declared.state.Exchange.{Exchange}
 use Rattle.quiesce_core.specs.declared.state.Gate.{Gate}
+use Rattle.quiesce_core.specs.declared.state.Slot.{Slot}
+use Rattle.quiesce_core.proofs.ConfigurationLaws.{owner_kept}
 use Rattle.quiesce_core.proofs.AlterLaws.{exchanges_next, reconfigured}
 use Rattle.quiesce_core.proofs.InductionLaws.{IsNext, always}
 use Rattle.change_round_laws.proofs.FoldLaws.{StatesAreHanded}
@@ -111,6 +113,20 @@ no_message s (event.Unlink p) h q = refl
 no_message s (event.Remove n) h q = refl
 no_message s _ h q = absurd (both_ways false refl h)
 
+-- a node that is live then was live before, where it was made
+live_before : (c d : Configuration) (e : Event) → Reconfigures c e d → (n : ℕ) → n < length c.slots → is_live d n ≡ true → is_live c n ≡ true
+live_before c d e r n low live = by e (ap (λ o. option_map_or (λ (m : Slot). m.live) o false) (sym (r.slots n)) ∙ live)
+  where
+    removed : (b : Bool) (o : Option Slot) → option_map_or (λ (m : Slot). m.live) (cond b (option_map (λ (k : Slot). record k { live = false }) o) o) false ≡ true → option_map_or (λ (m : Slot). m.live) o false ≡ true
+    removed true None h = absurd (both_ways false refl h)
+    removed true (Some m) h = absurd (both_ways false refl h)
+    removed false o h = h
+
+    by : (z : Event) → option_map_or (λ (m : Slot). m.live) (slot_next c n z) false ≡ true → is_live c n ≡ true
+    by (event.Make k node from) h = rw (ne_eqb n (length c.slots) (λ same. omega (arith, low, same))) at h
+    by (event.Remove k) h = removed (n == k) (slot c n) h
+    by _ h = h
+
 pub calm_last : (k : Kind) (o : Option ℕ) (e : Event) → is_make e ≡ false → last_next k o e ≡ o
 calm_last k o (event.Make n node from) h = absurd (both_ways true h refl)
 calm_last k o _ h = refl
@@ -165,6 +181,36 @@ module _ (handed : StatesAreHanded) (es : List Event) (e : Event) (here : IsNext
           (cases_Bool (is_kind node.kind k))
       by _ is = old_one
 
+  -- no more transactions begin
+  few_on : (past : List ℕ) → Rest es past → (q : ℕ) → is_live (state_after (es ++ e ∷ [])).config (owner (state_after (es ++ e ∷ [])).config q) ≡ true
+      → (come (es ++ e ∷ []) (owner (state_after (es ++ e ∷ [])).config q)).kind ≡ Map → (exchange (state_after (es ++ e ∷ [])) q).serial ≤ length past
+  few_on past rest q live kind = ⊎_elim (λ (made : q < length c.gates). of_old made) (λ (beyond : length c.gates ≤ q). of_new beyond) (cases_lt q (length c.gates))
+    where
+      c : Configuration
+      c = (state_after es).config
+
+      d : Configuration
+      d = (state_after (es ++ e ∷ [])).config
+
+      r : Reconfigures (state_after es).config e (state_after (es ++ e ∷ [])).config
+      r = subst (λ (s : State). Reconfigures (state_after es).config e s.config) (sym here.next) (reconfigured (state_after es) e here.legal)
+
+      same : exchange (state_after (es ++ e ∷ [])) q ≡ exchange (state_after es) q
+      same = ap (λ (s : State). exchange s q) here.next ∙ exchanges_next (state_after es) e here.well here.legal q ∙ no_message (state_after es) e change q
+
+      of_old : q < length (state_after es).config.gates → (exchange (state_after (es ++ e ∷ [])) q).serial ≤ length past
+      of_old made =
+          let owned = owner_kept (state_after es).config (state_after (es ++ e ∷ [])).config e r q made in
+          let o = here.well.sound.ports q made in
+          let low = slice_get-below (state_after es).config.slots (owner (state_after es).config q) o.node o.made in
+          let was = live_before (state_after es).config (state_after (es ++ e ∷ [])).config e r (owner (state_after es).config q) low (ap (is_live (state_after (es ++ e ∷ [])).config) (sym owned) ∙ live) in
+          let kind_was = sym (ap (λ (n : NodeState). n.kind) (old_stays handed es e here run' change (owner (state_after es).config q) o.node o.made)) ∙ ap (λ i. (come (es ++ e ∷ []) i).kind) (sym owned) ∙ kind in
+          subst (λ (x : Exchange). x.serial ≤ length past) (sym same) (rest.few q was kind_was)
+
+      of_new : length (state_after es).config.gates ≤ q → (exchange (state_after (es ++ e ∷ [])) q).serial ≤ length past
+      of_new beyond =
+          let fresh = ap (λ (x : Exchange). x.serial) (same ∙ get_or_past (state_after es).traffic.exchanges q fresh_exchange (let n = here.well.exchanges in omega (arith, n, beyond))) in omega (arith, fresh)
+
   pub rest_stays : is_reopen e ≡ false → ((n : ℕ) (node : Node) (from : Option ℕ) → e ≡ event.Make n node from → IsMadeWell es node from) → (past : List ℕ) → Rest es past → Rest (es ++ e ∷ []) past
   rest_stays calm well past rest = record {
     still = still_on calm rest.still;
@@ -172,4 +218,5 @@ module _ (handed : StatesAreHanded) (es : List Event) (e : Event) (here : IsNext
       count = same_value Source (λ (k : Kept). k.count) 0 same_source (λ x. refl) (λ n node from is kind. (well n node from is).source kind) ∙ rest.ends.count;
       items = same_value Sink (λ (k : Kept). k.items) [] same_sink (λ x. refl) (λ n node from is kind. (well n node from is).sink kind) ∙ rest.ends.items;
     };
+    few = few_on past rest;
   }

@@ -13,7 +13,7 @@ use Rattle.change_plan.specs.Moves.{IsShift, IsShifts, MoveLeads}
 use Rattle.change_plan.specs.declared.plan_data.Move.{Move}
 use Rattle.change_plan.specs.declared.plan_data.Shift.{Shift}
 use Rattle.result_row_laws.specs.Keeping.{IsKeptOrMoved, KeepsOrMoves}
-use Rattle.result_row_laws.specs.Rows.{kind_at}
+use Rattle.result_come_laws.specs.Describing.{kind_at}
 
 abbrev new_of : Shift → ℕ
 new_of s = s.new

@@ -32,7 +32,8 @@ use Rattle.quiesce_core.proofs.ConfigurationLaws.{linked_made}
 use Rattle.quiesce_core.proofs.LiveLinkLaws.{linked_at}
 use Rattle.change_round_laws.specs.SoundStatements.{IsSoundGraph}
 use Rattle.result_row_laws.specs.Keeping.{KeepsOrMoves}
-use Rattle.result_row_laws.specs.Rows.{IsRow, kind_at}
+use Rattle.result_come_laws.specs.Describing.{kind_at}
+use Rattle.result_row_laws.specs.Rows.{IsRow}
 use Rattle.result_row_laws.proofs.Rising.{stand_of}
 use Rattle.result_row_laws.proofs.RowChanges.{nothing_created}
 use Rattle.result_row_laws.proofs.Takeovers.{taken_over}

@@ -14,7 +14,8 @@ use Rattle.report_types.specs.declared.report.Last.TheVariants as last
 use Rattle.change_law.specs.Members.{state_at}
 use Rattle.change_law.specs.Standing.{is_graph_of}
 use Rattle.result_row_laws.specs.Items.{HasItems, WasAnswered}
-use Rattle.result_row_laws.specs.Rows.{IsRow, LeadsThrough, kind_at, through}
+use Rattle.result_come_laws.specs.Describing.{kind_at}
+use Rattle.result_row_laws.specs.Rows.{IsRow, LeadsThrough, through}
 use Rattle.result_row_laws.specs.Worked.{members, row_of_none, row_of_one, row_of_two, sink_log, source_log, under_way, until_begun, with_one_aside}
 
 two_is_row : IsRow row_of_two

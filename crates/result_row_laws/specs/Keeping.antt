@@ -7,8 +7,8 @@ use Rattle.change_plan.specs.Differences.{IsTwin}
 use Rattle.change_plan.specs.Moves.{MoveLeads}
 use Rattle.change_plan.specs.declared.plan_data.Move.{Move}
 use Rattle.change_law.specs.Statements.{Statement, start, change, run, finish, show}
-use Rattle.result_come_laws.specs.Describing.{Describes}
-use Rattle.result_row_laws.specs.Rows.{IsRow, kind_at}
+use Rattle.result_come_laws.specs.Describing.{Describes, kind_at}
+use Rattle.result_row_laws.specs.Rows.{IsRow}
 
 -- a node of the old graph is one of the new graph, or its state goes over to one
 abbrev pub IsKeptOrMoved : Graph → Graph → List Move → ℕ → ℕ → Type 0

@@ -1,11 +1,13 @@
 //! What rows compute in each lawful report.
 
-ghost use Rattle.std.specs.Prelude.{◌≡◌, ℕ, List, [], ◌∷◌};
+ghost use Rattle.std.specs.Prelude.{◌≡◌, ◌≢◌, ℕ, List, [], ◌∷◌, ◌++◌};
 ghost use Rattle.config_graph.specs.declared.kind.Kind.TheVariants.{Source, Sink};
 ghost use Rattle.report_types.specs.declared.report.NodeLog.{NodeLog};
 ghost use Rattle.report_types.specs.declared.report.Report.{Report};
 ghost use Rattle.change_law.specs.Lawful.{Lawful};
+ghost use Rattle.change_law.specs.Members.{Member, by_node};
 ghost use Rattle.change_law.specs.Statements.{Statement};
+ghost use Rattle.quiesce_core.specs.declared.event.Event.TheVariants.{Begin, End};
 ghost use Rattle.change_round_laws.specs.SoundStatements.{AreSound};
 ghost use Rattle.result_row_laws.specs.Items.{HasItems, IsLogOfLive};
 ghost use Rattle.result_row_laws.specs.Keeping.{AreRows};
@@ -26,6 +28,22 @@ pub fn rows_have_their_items()
         → AreRows statements → (l : Lawful statements report) → (source sink : NodeLog)
         → IsLogOfLive l.members report Source source → IsLogOfLive l.members report Sink sink
         → HasItems l.members source sink }
+{
+    each_plan_may_commit();
+    commits_can_not_fail();
+    commits_leave_the_new_graph();
+    nothing_is_open_at_the_end();
+    a_moved_state_is_the_last_one();
+}
+
+/// In a row no transaction of a source is answered 0: its maps are linked while it is under way, and no port is spent,
+/// since fewer transactions began there than the source counts.
+pub fn sources_are_never_answered_0()
+    ensures never { (statements : List Statement) (report : Report) → AreSound statements
+        → AreRows statements → (l : Lawful statements report)
+        → (before between after : List Member) (port serial value answer : ℕ)
+        → l.members ≡ before ++ by_node (Begin port serial value) ∷ (between ++ by_node (End port serial answer) ∷ after)
+        → answer ≢ 0 }
 {
     each_plan_may_commit();
     commits_can_not_fail();

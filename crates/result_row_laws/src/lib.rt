@@ -3,4 +3,4 @@
 
 mod laws;
 
-pub use laws::{rows_are_told_from_others, rows_have_their_items};
+pub use laws::{rows_are_told_from_others, rows_have_their_items, sources_are_never_answered_0};

@@ -1,0 +1,13 @@
+pub mod Adding
+pub mod Offices
+pub mod Moving
+pub mod Balance
+pub mod Serials
+pub mod Leading
+pub mod Ledger
+pub mod Paying
+pub mod Handing
+pub mod Giving
+pub mod Books
+pub mod Reported
+pub mod WorkedBanks
