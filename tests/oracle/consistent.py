@@ -321,16 +321,16 @@ class Search:
                 self.told.setdefault(port, []).append((place, is_open, serial))
 
     def next_told(self, cut, port):
-        """What is told next of a port: whether a root is open there, and the serial."""
-        return next((told[1:] for told in self.told.get(port, ()) if told[0] >= cut[0]), (False, None))
+        """What is told next of a port: at which line, whether a root is open there, and the serial."""
+        return next((told for told in self.told.get(port, ()) if told[0] >= cut[0]), (None, False, None))
 
     def seems_right(self, machine, cut, chain):
-        """Whether the next member of a chain leads no further than what is told of its port. It is a hint which of those to try first
-        that may come, and no more."""
-        event = self.logs[chain - 1].events[cut[chain]] if chain else self.lines[cut[0]].event
+        """Whether the next member of a chain leads no further than what is told next of its port. The search takes it for a hint which of
+        the members that may come to try first, and no more."""
+        event = self.event(cut, chain)
         if event is None or event[0] not in ("close", "begin", "call", "end") or event[1] >= len(machine.ports):
             return True
-        port, (is_open, serial) = machine.ports[event[1]], self.next_told(cut, event[1])
+        port, (_, is_open, serial) = machine.ports[event[1]], self.next_told(cut, event[1])
         is_called = machine.nodes[port.owner].depends(port.name)
         if event[0] == "close":
             return root_is_open(machine, (event[1], serial)) if is_open else is_called or port.serial == serial
@@ -338,45 +338,35 @@ class Search:
             return not (is_open and event[2] == serial)
         return is_called and event[0] == "begin" or serial is None or event[2] <= serial
 
-    def doer(self, machine, event):
-        """The node that does an event, or None."""
-        if event[1] >= len(machine.ports):
-            return None
-        port = machine.ports[event[1]]
-        return port.owner if event[0] in BY_OWNER else port.target and port.target[0]
+    def event(self, cut, chain):
+        """The event that is the next member of a chain, if it is one."""
+        return self.logs[chain - 1].events[cut[chain]] if chain else self.lines[cut[0]].event
 
-    def after_line(self, machine, line):
-        """The state behind a line of the history, or why the line can't stand there."""
+    def why_not(self, machine, cut, chain):
+        """Why the next member of a chain can't come, or None: what isn't so, with a number or two of it."""
+        event = self.event(cut, chain)
+        if chain and (event[1] >= len(machine.ports) or doer(machine.ports[event[1]], event[0]) != chain - 1):
+            return "doer", event[1]
+        rule = machine.denial(event) if event else None
+        if rule is not None:
+            return "rule", rule
+        return None if chain else self.why_not_line(machine, self.lines[cut[0]])
+
+    def why_not_line(self, machine, line):
         words = line.text.split(b" ")
         if words[0] == b"drained":
             port = machine.ports[int(words[1])]
-            if port.is_open or port.serial != int(words[2]) or port.phase != "idle" and port.within is None:
-                return None
-        if line.event:
-            if machine.denial(line.event) is not None:
-                return None
-            machine = copied(machine)
-            machine.apply(line.event)
-        if line.graph is not None and line.graph != graph_at(machine) or not all(root_is_open(machine, root) for root in line.roots):
-            return None
-        return machine
-
-    def after_event(self, machine, slot, event):
-        """The state behind an event of a log, or None where it can't happen."""
-        if self.doer(machine, event) != slot or machine.denial(event) is not None:
-            return None
-        machine = copied(machine)
-        machine.apply(event)
-        return machine
-
-    def after(self, machine, cut, chain):
-        """The state behind the next member of a chain, or None."""
-        if chain == 0:
-            return self.after_line(machine, self.lines[cut[0]])
-        return self.after_event(machine, chain - 1, self.logs[chain - 1].events[cut[chain]])
+            if port.is_open or port.phase != "idle" and port.within is None:
+                return "drained", int(words[1])
+            if port.serial != int(words[2]):
+                return "serial", int(words[1])
+        if line.graph is not None and line.graph != graph_at(machine):
+            return "graph", 0
+        shut = [root for root in line.roots if not root_is_open(machine, root)]
+        return ("root", *shut[0]) if shut else None
 
     def finds(self, most=MOST):
-        """Whether some list has all lines and events. Of the chains at a cut those that seem right come first."""
+        """Whether some list has all lines and events. Of the chains at a cut those that seem right are tried first."""
         first = (0,) * len(self.lengths)
         work, seen = [(first, Machine(EMPTY))], {first}
         while work:
@@ -386,13 +376,39 @@ class Search:
             left = [chain for chain, length in enumerate(self.lengths) if cut[chain] < length]
             for chain in sorted(left, key=lambda chain: self.seems_right(machine, cut, chain)):
                 onward = cut[:chain] + (cut[chain] + 1,) + cut[chain + 1 :]
-                behind = None if onward in seen else self.after(machine, cut, chain)
-                if behind is not None:
-                    seen.add(onward)
-                    work.append((onward, behind))
+                if onward in seen or self.why_not(machine, cut, chain) is not None:
+                    continue
+                seen.add(onward)
+                work.append((onward, after(machine, self.event(cut, chain))))
             if len(seen) > most:
                 raise Undecided()
         return False
+
+    def walked(self):
+        """The machine and the cut behind which no member comes that may come and seems right. It goes one way, and is no search: that it
+        comes to the end exactly where some list does is a law of the crate merge_laws."""
+        machine, cut, is_on = Machine(EMPTY), [0] * len(self.lengths), True
+        while is_on:
+            is_on = False
+            for chain, length in enumerate(self.lengths):
+                while cut[chain] < length and self.seems_right(machine, cut, chain) and self.why_not(machine, cut, chain) is None:
+                    if self.event(cut, chain):
+                        machine.apply(self.event(cut, chain))
+                    cut[chain], is_on = cut[chain] + 1, True
+        return machine, cut
+
+
+def doer(port, name):
+    """The node that does an event of this name at a port, or None."""
+    return port.owner if name in BY_OWNER else port.target and port.target[0]
+
+
+def after(machine, event):
+    """The state behind an event, if there is one."""
+    made = copied(machine) if event else machine
+    if event:
+        made.apply(event)
+    return made
 
 
 def is_consistent(statements, report, most=MOST):
