@@ -28,6 +28,12 @@ def path_of(given):
     return program
 
 
+def has(program, command):
+    """Whether the program's help names a command."""
+    told = subprocess.run([program, "--help"], stdout=subprocess.PIPE).stdout.decode()
+    return any(line.split()[:2] == ["darwin_run", command] for line in told.splitlines())
+
+
 def measured(program, folder, words, files, status):
     """The least processor time in seconds of a few runs, and the peak resident bytes of the last."""
     for name, text in files.items():

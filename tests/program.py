@@ -1,6 +1,7 @@
 """What the scripts of this folder share: which program they try, how they run it, and how they end."""
 import argparse
 import os
+import re
 import subprocess
 import sys
 from typing import NamedTuple, Optional
@@ -106,6 +107,12 @@ def blocks(text):
         elif inside:
             found[-1][1].append(line)
     return found
+
+
+def documented():
+    """The commands that docs/darwin_run.1 names, in order."""
+    with open(os.path.join(TOP, "docs", "darwin_run.1")) as page:
+        return re.findall(r"^\.B darwin_run ([a-z]+)$", page.read(), re.M)
 
 
 def want(program, commands):

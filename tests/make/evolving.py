@@ -22,11 +22,11 @@ ARGUMENTS = [0, 0, 1, 1, 2, 2, 3, 5]
 class Evolving:
     """Graphs, each made of the one before it by a few edits: nodes by name, each its kind and argument, and links."""
 
-    def __init__(self, rng):
+    def __init__(self, rng, most=13):
         self.rng = rng
         self.kinds = rng.sample(list(KINDS), rng.randrange(3, len(KINDS) + 1))
         self.nodes, self.links = {}, {}
-        for _ in range(rng.randrange(1, 14)):
+        for _ in range(rng.randrange(1, most + 1)):
             self.add()
         for port in self.ports():
             self.link(port)
@@ -105,8 +105,9 @@ def declarations():
     return lines
 
 
-def script(rng):
-    system, lines = Evolving(rng), declarations()
+def script(rng, most=13):
+    """A description and a script, whose first system has so many nodes at most."""
+    system, lines = Evolving(rng, most), declarations()
     said = ["use a.dar", "start G0()" if rng.random() < 0.5 else "start G0"]
     lines += system.component("G0")
     for number in range(1, rng.choice([1, 2, 2, 3, 4])):

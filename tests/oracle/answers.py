@@ -4,8 +4,10 @@ Where several faults of a description hold, any of them may be named; all else h
 import functools
 import os
 
+import consistent
 import graphs
 import machine
+import parts
 import plans
 import reports
 import runs
@@ -13,6 +15,7 @@ import scripts
 from language import GREATEST, LEAST, Description
 
 LIMIT = 1 << 20
+CONSISTENT, UNLAWFUL = (0, b"consistent\n"), (10, b"unlawful\n")
 LATER = {"OutOfRange", "ZeroDivisor", "BadIndex", "TwoInstances", "BoundTwice", "BadBinding", "Annotation", "TooDeep", "TooMany"}
 
 
@@ -21,6 +24,14 @@ class Refusal(Exception):
 
     def __init__(self, status, lines, is_open=False):
         self.answers, self.is_open = {(status, line + b"\n") for line in lines}, is_open
+
+
+class Undecided(Refusal):
+    """Either answer of `check` may come: the plain statements would take too long to decide."""
+
+    def __init__(self):
+        super().__init__(10, [])
+        self.answers = {CONSISTENT, UNLAWFUL}
 
 
 @functools.lru_cache(maxsize=4)
@@ -83,15 +94,44 @@ def flat(words, files):
     return graphs.graph_text(graph(text, words[1], top, args))
 
 
+def two_called(words):
+    """Two components, each with its arguments, which `--` parts."""
+    usage(b"--" in words)
+    cut = words.index(b"--")
+    return called(words[:cut]), called(words[cut + 1 :])
+
+
+def change_of(file, files, old, new):
+    """The graphs of two components of a file, and the plan from the one to the other."""
+    text = fetched(files, file, 2, b"description")
+    first = graph(text, file, *old)
+    planned(file, graphs.EMPTY, first, (0, 0))
+    second = graph(text, file, *new)
+    return first, second, planned(file, first, second, graphs.count_made(first))
+
+
 def plan(words, files):
     """`plan FILE NAME INT* -- NAME INT*`"""
-    usage(len(words) >= 5 and words[1] and b"--" in words[2:])
-    cut = words.index(b"--", 2)
-    old, new = called(words[2:cut]), called(words[cut + 1 :])
-    text = fetched(files, words[1], 2, b"description")
-    first = graph(text, words[1], *old)
-    planned(words[1], graphs.EMPTY, first, (0, 0))
-    return planned(words[1], first, graph(text, words[1], *new), graphs.count_made(first)).text()
+    usage(len(words) >= 5 and words[1])
+    return change_of(words[1], files, *two_called(words[2:]))[2].text()
+
+
+def parts_of(words, files):
+    """`parts FILE NAME INT* -- NAME INT*`"""
+    usage(len(words) >= 5 and words[1])
+    first, second, _ = change_of(words[1], files, *two_called(words[2:]))
+    return parts.parts_text(first, second)
+
+
+def roll(words, files):
+    """`roll FILE NUM NUM NAME INT* -- NAME INT*`"""
+    usage(len(words) >= 7 and words[1] and all(scripts.is_number(word) for word in words[2:4]))
+    count, within = (scripts.integer(word) for word in words[2:4])
+    usage(max(count, within) <= scripts.NUMBER_LIMIT)
+    first, second, _ = change_of(words[1], files, *two_called(words[4:]))
+    last, pending = runs.rolled(first, count, within, parts.parts(first, second))
+    end = b"done\n" if pending is None else b"pending %d\n" % pending
+    return 0 if pending is None else 7, parts.parts_text(first, second) + end + graphs.graph_text(last)
 
 
 def replay(words, files):
@@ -151,13 +191,18 @@ def statements_of(said, files):
     return made
 
 
+def script_of(file, files):
+    """The statements of a script's file, with their graphs and plans."""
+    said, fault = scripts.parse_script(fetched(files, file, 3, b"script"))
+    if fault:
+        raise Refusal(3, [b"script " + file + b": " + fault.encode()])
+    return statements_of(said, files)
+
+
 def step(words, files):
     """`step SCRIPT`"""
     usage(len(words) == 2 and words[1])
-    said, fault = scripts.parse_script(fetched(files, words[1], 3, b"script"))
-    if fault:
-        raise Refusal(3, [b"script " + words[1] + b": " + fault.encode()])
-    return runs.report(statements_of(said, files))
+    return runs.report(script_of(words[1], files))
 
 
 LANES = b"""component source(int n) { require out; }
@@ -194,16 +239,32 @@ def big(words, files):
     return status, b"big %d\nnodes %d\ncommits %d\nitems %d\nstatus %d\n" % (lanes, nodes, commits, items, status)
 
 
+def report_of(file, files):
+    """What a report says."""
+    report, fault = reports.parse(fetched(files, file, 3, b"script", reports.LIMIT))
+    if fault:
+        raise Refusal(3, [b"script " + file + b": " + fault.encode()])
+    return report
+
+
 def upgrade(words, files):
     """`upgrade FILE`"""
     usage(len(words) == 2 and words[1])
-    report, fault = reports.parse(fetched(files, words[1], 3, b"script", reports.LIMIT))
-    if fault:
-        raise Refusal(3, [b"script " + words[1] + b": " + fault.encode()])
-    return reports.in_version_2(report)
+    return reports.in_version_2(report_of(words[1], files))
 
 
-COMMANDS = {b"flat": flat, b"plan": plan, b"replay": replay, b"step": step, b"big": big, b"upgrade": upgrade}
+def check(words, files):
+    """`check SCRIPT REPORT`"""
+    usage(len(words) == 3 and words[1] and words[2])
+    said = script_of(words[1], files)
+    try:
+        is_one = consistent.is_consistent(said, report_of(words[2], files))
+    except consistent.Undecided:
+        raise Undecided()
+    return CONSISTENT if is_one else UNLAWFUL
+
+
+COMMANDS = {b"flat": flat, b"plan": plan, b"parts": parts_of, b"roll": roll, b"replay": replay, b"step": step, b"big": big, b"upgrade": upgrade, b"check": check}
 
 
 def is_text(word):
@@ -224,13 +285,18 @@ def may_come(words, files):
         return refusal.answers, refusal.is_open
 
 
-def wrong(words, files, came):
-    """Why this isn't how a run may end, or None."""
+def judged(words, files, came):
+    """Why this isn't how a run may end, or None; and whether that was decided."""
     words = [os.fsencode(word) for word in words]
     if words in ([b"--help"], [b"--version"]):
-        return came.unlike((0, came.text))
+        return came.unlike((0, came.text)), True
     wanted, is_open = may_come(words, files)
     named = came.text.rsplit(b": ", 1)[-1].split()
     if is_open and not came.fault() and came.status == 2 and named and named[0].decode(errors="replace") in LATER:
-        return None
-    return came.unlike(*sorted(wanted))
+        return None, True
+    return came.unlike(*sorted(wanted)), wanted != Undecided().answers
+
+
+def wrong(words, files, came):
+    """Why this isn't how a run may end, or None."""
+    return judged(words, files, came)[0]

@@ -79,6 +79,12 @@ FREEZE = re.compile(
 )
 
 
+# the texts of plans and of graphs, one after the other
+PARTS = rb"(?:part [1-9]\d*\n%s)*" % FREEZE.pattern
+ROLLED = re.compile(rb"%s(done|pending [1-9]\d*)\n((?:(?:node|port) [^\n]*\n)*)" % PARTS)
+PARTS = re.compile(PARTS)
+
+
 class Bad(Exception):
     """A text that hasn't the form of its status."""
 
@@ -93,8 +99,8 @@ def fault_of(status, text):
 
 def fault_names(commands):
     """All faults that the texts of these commands can have."""
-    names = set(DESCRIPTION) if set(commands) - {"big", "upgrade"} else set()
-    names -= set() if {"plan", "replay"} & set(commands) else {b"NodesFull", b"PortsFull"}
+    names = set(DESCRIPTION) if set(commands) - {"big", "upgrade", "check"} else set()
+    names -= set() if {"plan", "parts", "roll", "replay"} & set(commands) else {b"NodesFull", b"PortsFull"}
     names |= set(EVENTS) if "replay" in commands else set()
     names |= set(REPORTS) if "upgrade" in commands else set()
     rules = ["rule %02d" % rule for rule in RULES] if "replay" in commands else []
@@ -155,12 +161,21 @@ def judge(words, files, status, written):
     file = words[1] if len(words) > 1 else b""
     if command == "step" and len(words) == 2:
         want(status in (0, 2, 3, 4, 7, 8), "a status that shouldn't come here")
+    elif command == "check" and len(words) == 3:
+        want(status in (0, 1, 2, 3, 4, 10), "a status that shouldn't come here")
+        want(status not in (0, 10) or written == {0: b"consistent\n", 10: b"unlawful\n"}[status], "no answer of check")
     elif status == 0 and command == "flat":
         graph(written)
     elif status == 0 and command == "big":
         want(SUMMARY.fullmatch(written), "no summary")
     elif status == 0 and command == "plan":
         want(FREEZE.fullmatch(written), "no text of a plan")
+    elif status == 0 and command == "parts":
+        want(PARTS.fullmatch(written), "no text of parts")
+    elif status in (0, 7) and command == "roll":
+        found = ROLLED.fullmatch(written)
+        want(found and (found[1] == b"done") == (status == 0), "no text of a roll, or of another status")
+        graph(found[2])
     elif status == 0 and command == "replay":
         want(REPLAY.fullmatch(written), "no text of a replay")
     elif status == 0 and command == "upgrade":

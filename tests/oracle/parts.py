@@ -48,26 +48,29 @@ def groups(old, new, moves):
     return sorted(classes, key=lambda group: min(path for path, _ in group))
 
 
-def stage(old, new, applied):
-    """The old graph with the nodes that are applied: these stand and are linked as in the new one."""
-    stands = (nodes_of(old) - applied) | (nodes_of(new) & (applied | nodes_of(old)))
-    nodes = dict(sorted(stands))
+def after(graph, old, new, taken):
+    """A graph to which nodes that change together are applied: those of them that are removed go, those that are created come, and all
+    ports of the created and of the kept ones lead where they lead in the new graph."""
+    removed, created = nodes_of(old) - nodes_of(new), nodes_of(new) - nodes_of(old)
+    nodes = dict(sorted((nodes_of(graph) - (removed & taken)) | (created & taken)))
     links = {}
-    for path, node in nodes.items():
-        links.update((port, target) for port, target in (new if (path, node) in applied else old)[1].items() if port[0] == path)
+    for node in nodes.items():
+        leads = (new if node in taken else graph)[1]
+        links.update({port: target for port, target in leads.items() if port[0] == node[0]})
     return nodes, links
 
 
 def parts(old, new, moves=()):
-    """The graph after each part, the moves of it, and its plan."""
-    made, applied, before, taken = [], set(), old, set()
+    """The graph after each part, the moves of it, and its plan: each part takes as few of the groups that are left as it can, in order,
+    without leaving a cycle of dependent services."""
+    made, before, taken = [], old, set()
     for group in groups(old, new, set(moves)):
-        applied, taken = applied | group, taken | group
-        after = stage(old, new, applied)
-        if first_on_cycle(after) is None:
+        taken = taken | group
+        stage = after(before, old, new, taken)
+        if first_on_cycle(stage) is None:
             own = [(source, to) for source, to in moves if (source, old[0][source]) in taken]
-            made.append((after, own, Plan(before, after, own)))
-            before, taken = after, set()
+            made.append((stage, own, Plan(before, stage, own)))
+            before, taken = stage, set()
     return made
 
 

@@ -261,9 +261,22 @@ class System:
         return lines
 
 
-def report(statements):
-    """The report of a script's statements, each with its graph, as (status, text)."""
-    system, graph, is_given_up, is_finished = System(), None, False, False
+def rolled(first, count, within, parts):
+    """Starts a graph, runs so many transactions, and makes the parts of a change one after the other, each within so many rounds. Gives
+    the graph at the end, and the number of the part that was given up, from 1, or None."""
+    system, graph = System(), first
+    system.start(b"", first)
+    system.run(count)
+    for number, (after, _, plan) in enumerate(parts, 1):
+        if not system.change_to(b"", plan, after, within):
+            return graph, number
+        graph = after
+    return graph, None
+
+
+def report(statements, system=None):
+    """The report of a script's statements, each with its graph, as (status, text); of another system where one is given."""
+    system, graph, is_given_up, is_finished = system or System(), None, False, False
     for statement in statements:
         name = statement[0]
         if name == "start":
