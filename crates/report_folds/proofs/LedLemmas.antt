@@ -109,8 +109,8 @@ at_number kind.Account = refl
 at_number kind.Asker = refl
 at_number kind.Adder = refl
 
-pub one_kind : (j k : Kind) → is_kind j k ≡ true → j ≡ k
-one_kind j k h = same_Some j k (sym (at_number j) ∙ ap (slice_get kinds) (eqb-true (row j).number (row k).number h) ∙ at_number k)
+pub kind_by_number : (j k : Kind) → is_kind j k ≡ true → j ≡ k
+kind_by_number j k h = same_Some j k (sym (at_number j) ∙ ap (slice_get kinds) (eqb-true (row j).number (row k).number h) ∙ at_number k)
 
 -- ---- what nodes come to, by the history and the logs
 
@@ -193,7 +193,7 @@ module _ (report : Report) (t : Nodes) (stands : StandsFor report.history t) (or
             record {
               kept = z.kept;
               with_ = ap (λ o. kept_by (fold_told report) o (opening m.node.kind (argument_of m))) from ∙ ap (option_map (λ (y : NodeState). y.kept)) told_;
-              is = sym (same_Some (handed_over z.kind m.node.arg z.kept) s e) ∙ ap (λ k_. at_rest k_ (argument_of m) z.kept) (one_kind z.kind m.node.kind free.kind);
+              is = sym (same_Some (handed_over z.kind m.node.arg z.kept) s e) ∙ ap (λ k_. at_rest k_ (argument_of m) z.kept) (kind_by_number z.kind m.node.kind free.kind);
               source = λ j y from_j told_j. subst (λ v. IsFreeSource v m) (same_Some z y (sym told_ ∙ ap (fold_told report) (same_Some k j (sym from ∙ from_j)) ∙ told_j)) free;
             }
 
@@ -213,7 +213,7 @@ module _ (report : Report) (t : Nodes) (stands : StandsFor report.history t) (or
     may_take_over k kept from (Some z) told_ is free =
         let f = free z told_ in
         ap (λ b. cond b (Some (handed_over z.kind m.node.arg z.kept)) None) (and_from (is_none z.service) (is_kind z.kind m.node.kind) (ap is_none f.rests) f.kind)
-        ∙ (λ n. Some (at_rest (one_kind z.kind m.node.kind f.kind n) (argument_of m) (same_Some z.kept kept is n)))
+        ∙ (λ n. Some (at_rest (kind_by_number z.kind m.node.kind f.kind n) (argument_of m) (same_Some z.kept kept is n)))
 
     may_open : (kept : Kept) (o : Option ℕ) → m.from ≡ o → kept_by (fold_told report) o (opening m.node.kind (argument_of m)) ≡ Some kept
         → ((k : ℕ) (z : NodeState) → m.from ≡ Some k → fold_told report k ≡ Some z → IsFreeSource z m)
