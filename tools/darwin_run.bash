@@ -9,10 +9,10 @@ _darwin_run() {
   local IFS=$'\n'
   case $COMP_CWORD:$command in
     1:*) COMPREPLY=($(compgen -W "$("${COMP_WORDS[0]}" --help 2>/dev/null | awk '$1 == "darwin_run" { print $2 }')" -- "$word")) ;;
-    2:flat | 2:plan | 2:replay) COMPREPLY=($(compgen -f -X '!*.dar' -- "$word") $(compgen -d -S / -- "$word")) ;;
+    2:flat | 2:plan | 2:parts | 2:replay) COMPREPLY=($(compgen -f -X '!*.dar' -- "$word") $(compgen -d -S / -- "$word")) ;;
     3:flat) COMPREPLY=($(compgen -W "$(_darwin_run_components "$file")" -- "$word")) ;;
     *:flat | *:big) COMPREPLY=() ;;
-    *:plan) COMPREPLY=($(compgen -W "$(_darwin_run_components "$file")"$'\n--' -- "$word")) ;;
+    *:plan | *:parts) COMPREPLY=($(compgen -W "$(_darwin_run_components "$file")"$'\n--' -- "$word")) ;;
     *) COMPREPLY=($(compgen -f -- "$word")) ;;
   esac
 }

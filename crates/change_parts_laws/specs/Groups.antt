@@ -1,3 +1,4 @@
+-- To be believed (docs/definitions.md).
 -- The groups of a change: nodes that have to change together. A group is named by the least of its nodes' paths.
 use Rattle.std.specs.Prelude.{◌≡◌, ℕ, List, AllPairs, Contains}
 use Rattle.std.specs.Ordering.{nat_cmp}

@@ -6,11 +6,13 @@ use Rattle.config_graph.specs.GraphText.{graph_text}
 use Rattle.quiesce_core.specs.State.{State}
 use Rattle.change_plan.specs.declared.plan_data.Plan.{Plan}
 use Rattle.change_plan.specs.PlanText.{plan_text}
+use Rattle.change_parts_laws.specs.declared.part.Part.{Part}
 use Rattle.quiesce_replay.specs.ReplayText.{replay_text}
 use Rattle.report_writing.specs.Reports.{report_text}
 use Rattle.report_types.specs.declared.report.Report.{Report}
 use Rattle.command_answers.specs.declared.status.Status.{Status}
 use Rattle.command_answers.specs.declared.status.Status.TheVariants as status
+use Rattle.command_answers.specs.PartTexts.{parts_text}
 use Rattle.command_answers.specs.Summaries.{summary_text}
 use Rattle.command_answers.specs.RefusalLines.{read_fault_line, description_line, script_line, denied_line}
 
@@ -34,6 +36,8 @@ pub data Answer : Type 0 where
   graph : Graph → Answer
   -- the steps from the one graph to the other
   plan : (old new : Graph) → Plan → Answer
+  -- the parts of a change from the graph
+  parts : (old : Graph) → List Part → Answer
   -- the number of an event, from 1, and the first of its rules that fails
   denied : (number rule : ℕ) → Answer
   -- how many events led to the state, and the slots of the nodes that are settled in it
@@ -63,6 +67,7 @@ status_of help = status.Ok
 status_of version = status.Ok
 status_of (graph g) = status.Ok
 status_of (plan old new steps) = status.Ok
+status_of (parts old ps) = status.Ok
 status_of (denied number rule) = status.Denied
 status_of (replay count s settled) = status.Ok
 status_of (report r) = status.Ok
@@ -82,6 +87,7 @@ help_text =
     ++ codes "darwin_run --version                          write the program's name and version\n"
     ++ codes "darwin_run flat FILE NAME INT*                write the graph of a component\n"
     ++ codes "darwin_run plan FILE NAME INT* -- NAME INT*   write the change from the first to the second\n"
+    ++ codes "darwin_run parts FILE NAME INT* -- NAME INT*  write the parts into which that change is cut\n"
     ++ codes "darwin_run replay FILE EVENTS                 apply events to the system that they start\n"
     ++ codes "darwin_run step SCRIPT                        run a script on one thread, write its report\n"
     ++ codes "darwin_run big N                              run and change a system of N lanes (1 to 40)\n"
@@ -117,6 +123,7 @@ text_of help = help_text
 text_of version = version_text
 text_of (graph g) = graph_text g
 text_of (plan old new steps) = plan_text old new steps
+text_of (parts old ps) = parts_text old ps
 text_of (denied number rule) = denied_line number rule
 text_of (replay count s settled) = replay_text count s settled
 text_of (report r) = report_text r

@@ -3,6 +3,7 @@
 
 mod error;
 mod lines;
+mod part_texts;
 mod rendering;
 mod status;
 mod summary;
@@ -12,5 +13,6 @@ pub use lines::{
     denied_line, description_line, description_too_long_line, read_fault_line, report_line,
     script_line, script_too_long_line,
 };
+pub use part_texts::parts_text;
 pub use status::Status;
 pub use summary::summary_text;

@@ -1,4 +1,4 @@
--- What the parts of planning answer, as refusals and as plans.
+-- What the parts of planning answer, as refusals and as changes.
 use Rattle.std.proofs.Common.{◌≡◌, ◌≢◌, false, ◌⊎◌, inl, inr, ℕ, List, [], Result, Ok, Err, IfOk, IfErr, refl, sym, subst}
 use Rattle.config_graph.specs.Graph.{Graph}
 use Rattle.config_graph.specs.declared.node.Made.{Made}
@@ -12,7 +12,7 @@ use Rattle.command_answers.specs.declared.status.Status.{Status}
 use Rattle.command_words.specs.declared.words.TopCall.{TopCall}
 use Rattle.command_law.specs.Descriptions.{HasGraph, IsTextRefusal, by_text}
 use Rattle.command_law.specs.OneFile.{DescriptionAnswers, refused}
-use Rattle.command_law.specs.Plans.{Starts, has_no_graph, HasPlan, HasSteps, RefusesPlan, starts_not, gets_full, made_of_graph}
+use Rattle.command_law.specs.Plans.{Starts, has_no_graph, HasChange, HasSteps, RefusesPlan, starts_not, gets_full, made_of_graph}
 use Rattle.command_law.specs.Queries.{IsRefused}
 use Rattle.command_law.specs.declared.fetched.Fetched.TheVariants.{Held}
 use Rattle.command_law.specs.declared.query.Query.{Query}
@@ -50,10 +50,10 @@ pub plan_refused :
 plan_refused text call target old new words starts has full =
     subst (RefusesPlan text call target) (sym full.named) (gets_full old new full.fault starts has full.refuses)
 
-pub plan_of :
-    (text : List ℕ) (call target : TopCall) (old new : Graph) (written : List ℕ) → Starts text call.top call.args old → HasGraph text target.top target.args new
-    → HasSteps old new written → HasPlan text call target written
-plan_of text call target old new written starts has s = record {
+pub changed_by_steps :
+    (IsText : Graph → Graph → List ℕ → Type 0) (text : List ℕ) (call target : TopCall) (old new : Graph) (written : List ℕ) → Starts text call.top call.args old → HasGraph text target.top target.args new
+    → HasSteps IsText old new written → HasChange IsText text call target written
+changed_by_steps IsText text call target old new written starts has s = record {
   old = old;
   new = new;
   starts = starts;
@@ -70,7 +70,7 @@ refused_through P Q e leads refuses plain = leads (fault_words e) (refuses plain
 pub reading_refused :
     (query : Query) (text : List ℕ) (e : DescriptionFault) → MayRefuse (IsTextRefusal text) e → MayRefuse (IsRefused query text) e
 reading_refused (queries.Graph call) text e refuses plain = by_text (fault_words e) (refuses plain)
-reading_refused (queries.Plan call target) text e refuses plain =
+reading_refused (queries.Change cut call target) text e refuses plain =
     starts_not (fault_words e) (has_no_graph (fault_words e) (by_text (fault_words e) (refuses plain)))
 reading_refused (queries.Replay events) text e refuses plain = has_no_graph (fault_words e) (by_text (fault_words e) (refuses plain))
 

@@ -13,7 +13,7 @@ ghost use Rattle.command_files.specs.Refusals.{IsRefusalFor};
 
 use crate::answer::{Answer, description_too_long, unreadable};
 use crate::description::{checked_of, graph_of_call};
-use crate::plans::plan_between;
+use crate::plans::change_between;
 use crate::replaying::replay_over;
 use command_answers::{DescriptionFault, Status, description_line};
 use command_law::{Fetched, Query};
@@ -82,9 +82,9 @@ fn use_checked(
             status: Status::Ok,
             text: graph_text_of(alloc, checked, call)?,
         }),
-        Query::Plan(call, target) => Ok(Answer {
+        Query::Change(cut, call, target) => Ok(Answer {
             status: Status::Ok,
-            text: plan_between(alloc, checked, call, target)?,
+            text: change_between(alloc, checked, cut, call, target)?,
         }),
         Query::Replay(events) => replay_over(alloc, checked, events),
     }

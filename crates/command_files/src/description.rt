@@ -54,6 +54,7 @@ pub fn graph_of_call(
     checked: &Checked,
     call: &TopCall<'_>,
 ) -> Result<Graph, DescriptionFault>
+    ensures sound { IfOk result (λ graph. Sound graph) }
     ensures graph { (text : List ℕ) → IsChecked text (description checked.now)
         → IfOk result (HasGraph text call.now.top call.now.args) }
     ensures refused { (text : List ℕ) → IsChecked text (description checked.now)

@@ -1,6 +1,6 @@
 -- Courses from what the parts of the program say: of a description that was fetched, of a file of events, of a script, and where
 -- memory ran out.
-use Rattle.std.proofs.Common.{◌≡◌, ℕ, ℤ, List, [], ◌∷◌, ◌++◌, Some, append-nil, codes, refl, sym, ap, subst}
+use Rattle.std.proofs.Common.{◌≡◌, ◌∙◌, ℕ, ℤ, List, [], ◌∷◌, ◌++◌, Some, append-nil, codes, refl, sym, ap, subst}
 use Rattle.config_graph.specs.Graph.{Graph}
 use Rattle.config_graph.specs.declared.node.Made.{Made}
 use Rattle.darwin_parser.specs.Tree.{Tree}
@@ -10,13 +10,14 @@ use Rattle.change_script.specs.ScriptFiles.{IsScript}
 use Rattle.change_law.specs.Statements.{Statement}
 use Rattle.report_types.specs.declared.report.Report.{Report}
 use Rattle.report_types.specs.declared.script.Script.{Script}
-use Rattle.command_answers.specs.Answers.{Answer, ShowsAnswer, description, graph, no_memory, plan, ran, read_fault, refusal, report, script}
+use Rattle.command_answers.specs.Answers.{Answer, ShowsAnswer, description, graph, no_memory, ran, read_fault, refusal, report, script}
 use Rattle.command_answers.specs.RefusalLines.{elaborate_words, plan_words, script_words, report_words}
 use Rattle.command_answers.specs.declared.status.Status.{Status}
 use Rattle.command_words.specs.declared.words.Command.TheVariants as commands
 use Rattle.command_words.specs.declared.words.TopCall.{TopCall}
 use Rattle.command_law.specs.declared.fetched.Fetched.{Fetched}
 use Rattle.command_law.specs.declared.fetched.Fetched.TheVariants.{Held}
+use Rattle.command_law.specs.declared.query.Cut.{Cut}
 use Rattle.command_law.specs.declared.query.Query.{Query}
 use Rattle.command_law.specs.declared.query.Query.TheVariants as queries
 use Rattle.command_law.specs.Commands.{aim_of, calls_of, course_of_query, course_of_script, course_of}
@@ -25,14 +26,14 @@ use Rattle.command_law.specs.Descriptions.{IsChecked, IsGraphOfCall, IsDescripti
 use Rattle.command_law.specs.Descriptions as descriptions
 use Rattle.command_law.specs.Fetches.{Fetch, fetch_of, report_fetch}
 use Rattle.command_law.specs.Leads.{falls_short, LeadBy, ScriptLeads}
-use Rattle.command_law.specs.Lines.{RunLine, calls, does, GraphUse, draws, starts, changes, Progress, begun, with_description, with_called_graph, with_statement, Allows, by_elaboration, by_deed, CallLeads, Aim, drawing, planning, replaying, running, Concludes, behind, FollowsLines, uses}
-use Rattle.command_law.specs.Plans.{Starts, RefusesStart, has_no_graph, is_full, HasPlan, RefusesPlan, starts_not, leads_nowhere, gets_full, made_of_graph}
-use Rattle.command_law.specs.Queries.{IsRefused, AnswersQuery}
+use Rattle.command_law.specs.Lines.{RunLine, calls, does, GraphUse, draws, starts, changes, Progress, begun, with_description, with_called_graph, with_statement, Allows, by_elaboration, by_deed, CallLeads, Aim, drawing, planning, replaying, running, IsChangeOf, Concludes, behind, FollowsLines, uses}
+use Rattle.command_law.specs.Plans.{Starts, RefusesStart, has_no_graph, is_full, HasChange, RefusesPlan, starts_not, leads_nowhere, gets_full, made_of_graph}
+use Rattle.command_law.specs.Queries.{IsRefused, AnswersQuery, IsTextBy}
 use Rattle.command_law.specs.OneFile.{DescriptionAnswers, cannot_read, is_too_long, answered, EventsAnswers, cannot_read_events, events_file_too_long, events_file_at_fault, ScriptAnswers, cannot_read_script, script_file_too_long, script_file_at_fault, ReportAnswers, cannot_read_report, report_too_long, report_at_fault, upgraded}
 use Rattle.command_law.specs.OneFile as files
 use Rattle.command_law.specs.Schedules.{IsReportBy, Schedule}
 use Rattle.command_law.specs.Scripts.{lines_of_script}
-use Rattle.command_law.proofs.Courses.{first_made}
+use Rattle.command_law.proofs.Courses.{answer_with, first_made}
 use Rattle.command_law.proofs.Readings as readings
 
 -- a call that leads on
@@ -90,22 +91,22 @@ module _ (file text : List ℕ) where
       (start.has_room, sym (first_made old))
 
   plan_refused :
-      (call target : TopCall) (words : List (List ℕ)) → RefusesPlan text call target words
-      → course_of_query file (queries.Plan call target) (fetch_of file (Held text) ∷ []) (refusal (description file words))
-  plan_refused call target _ (starts_not words is) = start_refused planning call.top call.args (calls (changes 0 []) target.top target.args ∷ []) words is
-  plan_refused call target _ (leads_nowhere old _ start (by_text words is)) =
+      (cut : Cut) (call target : TopCall) (words : List (List ℕ)) → RefusesPlan text call target words
+      → course_of_query file (queries.Change cut call target) (fetch_of file (Held text) ∷ []) (refusal (description file words))
+  plan_refused cut call target _ (starts_not words is) = start_refused (planning cut) call.top call.args (calls (changes 0 []) target.top target.args ∷ []) words is
+  plan_refused cut call target _ (leads_nowhere old _ start (by_text words is)) =
       absurd (readings.never_both text call.top call.args old words start.has_graph (by_text words is))
-  plan_refused call target _ (leads_nowhere old _ start (descriptions.by_elaboration tree e checked faults)) =
+  plan_refused cut call target _ (leads_nowhere old _ start (descriptions.by_elaboration tree e checked faults)) =
       let words = elaborate_words e in
       let what = refusal (description file words) in
       let p = with_description begun file tree in
-      read (queries.Plan call target) tree what checked
+      read (queries.Change cut call target) tree what checked
       (gives (with_called_graph p starts call.top call.args old (made_of_graph old)) [] what (start_leads tree call.top call.args old start checked) (refused words (by_elaboration tree e refl faults)))
-  plan_refused call target _ (gets_full old new e start has full) =
+  plan_refused cut call target _ (gets_full old new e start has full) =
       let words = plan_words e in
       let what = refusal (description file words) in
       let p = with_description begun file has.tree in
-      read (queries.Plan call target) has.tree what has.checked
+      read (queries.Change cut call target) has.tree what has.checked
       (gives (with_called_graph p starts call.top call.args old (made_of_graph old)) [] what (start_leads has.tree call.top call.args old start has.checked)
       (refused words (by_deed has.tree new words refl has.is (old, [], refl, (e, full, refl)))))
 
@@ -113,24 +114,22 @@ module _ (file text : List ℕ) where
       (query : Query) (words : List (List ℕ)) → IsRefused query text words
       → course_of_query file query (fetch_of file (Held text) ∷ []) (refusal (description file words))
   query_refused (queries.Graph call) words is = call_refused drawing draws call.top call.args [] words is
-  query_refused (queries.Plan call target) words is = plan_refused call target words is
+  query_refused (queries.Change cut call target) words is = plan_refused cut call target words is
   query_refused (queries.Replay events) words is = start_refused (replaying events.events) events.name events.args [] words is
 
   plan_given :
-      (call target : TopCall) (written : List ℕ) (has : HasPlan text call target written)
-      → course_of_query file (queries.Plan call target) (fetch_of file (Held text) ∷ []) (plan has.old has.new has.has_steps.steps)
-  plan_given call target written has =
+      (cut : Cut) (call target : TopCall) (written : List ℕ) (has : HasChange (IsTextBy cut) text call target written) (what : Answer)
+      → IsChangeOf cut has.old has.new what → course_of_query file (queries.Change cut call target) (fetch_of file (Held text) ∷ []) what
+  plan_given cut call target written has what is =
       let tree = has.has_graph.tree in
       let checked = has.has_graph.checked in
-      let steps = has.has_steps.steps in
       let can = has.has_steps.has_room in
-      let what = plan has.old has.new steps in
       let p = with_called_graph (with_description begun file tree) starts call.top call.args has.old (made_of_graph has.old) in
       let made = Rattle.change_law.specs.Scripts.more_made (made_of_graph has.old) can.nodes can.ports in
-      read (queries.Plan call target) tree what checked
+      read (queries.Change cut call target) tree what checked
       (gives p [] what (start_leads tree call.top call.args has.old has.starts checked)
       (gives (with_called_graph p (changes 0 []) target.top target.args has.new made) [] what (leads_to p tree (changes 0 []) target.top target.args has.new made refl has.has_graph.is (has.old, [], refl, (can, refl)))
-      (concluded planning (with_called_graph p (changes 0 []) target.top target.args has.new made) what (has.old, has.new, [], refl, (steps, has.has_steps.is_plan, refl)))))
+      (concluded (planning cut) (with_called_graph p (changes 0 []) target.top target.args has.new made) what (has.old, has.new, [], refl, is))))
 
   pub query_given :
       (query : Query) (own : Status) (written : List ℕ) → AnswersQuery query text own written
@@ -147,12 +146,14 @@ module _ (file text : List ℕ) where
         has_status = is.0;
         has_text = is.1.2;
       }
-  query_given (queries.Plan call target) own written is = record {
-    answer = plan is.1.old is.1.new is.1.has_steps.steps;
-    is = plan_given call target written is.1;
-    has_status = is.0;
-    has_text = is.1.has_steps.is_text;
-  }
+  query_given (queries.Change cut call target) own written is =
+      let shows = answer_with cut is.1.old is.1.new written is.1.has_steps.is_text in
+      record {
+        answer = shows.answer;
+        is = plan_given cut call target written is.1 shows.answer shows.is;
+        has_status = is.0 ∙ shows.has_status;
+        has_text = shows.has_text;
+      }
   query_given (queries.Replay events) own written is =
       let tree = is.starts.has_graph.tree in
       let checked = is.starts.has_graph.checked in

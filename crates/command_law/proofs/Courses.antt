@@ -6,14 +6,15 @@ use Rattle.config_graph.specs.declared.node.Made.{Made}
 use Rattle.darwin_parser.specs.Tree.{Tree}
 use Rattle.elaborator.specs.Faults.{Faults}
 use Rattle.quiesce_core.specs.Start.{started}
-use Rattle.change_plan.specs.Plans.{IsPlanOf}
 use Rattle.change_plan.specs.Refusals.{CanPlan, IsRefusal}
 use Rattle.change_script.specs.declared.event_files.EventFile.{EventFile}
-use Rattle.command_answers.specs.Answers.{Answer, refusal, description, read_fault, no_memory, graph, plan, status_of, text_of}
+use Rattle.command_answers.specs.Answers.{Answer, ShowsAnswer, refusal, description, read_fault, no_memory, graph, parts, plan, status_of, text_of}
 use Rattle.command_words.specs.declared.words.TopCall.{TopCall}
 use Rattle.change_law.specs.Scripts.{more_made}
 use Rattle.command_law.specs.declared.fetched.Fetched.{Fetched}
 use Rattle.command_law.specs.declared.fetched.Fetched.TheVariants.{Held, TooLong, Failed}
+use Rattle.command_law.specs.declared.query.Cut.{Cut}
+use Rattle.command_law.specs.declared.query.Cut.TheVariants as cuts
 use Rattle.command_law.specs.declared.query.Query.{Query}
 use Rattle.command_law.specs.declared.query.Query.TheVariants as queries
 use Rattle.command_law.specs.Commands.{aim_of, calls_of, course_of_query}
@@ -21,9 +22,10 @@ use Rattle.command_law.specs.Courses.{not_fetched, fetched_alone, failed, too_lo
 use Rattle.command_law.specs.Descriptions.{IsChecked, IsGraphOfCall, HasGraph, IsTextRefusal, IsDescriptionRefusal, by_text}
 use Rattle.command_law.specs.Descriptions as descriptions
 use Rattle.command_law.specs.Fetches.{Fetch, fetch_of}
-use Rattle.command_law.specs.Lines.{GraphUse, draws, starts, changes, Progress, begun, with_description, with_called_graph, Forbids, IsCallRefusal, by_elaboration, by_deed, CallLeads, Aim, drawing, planning, replaying, Concludes, behind, FollowsLines}
+use Rattle.command_law.specs.Lines.{GraphUse, draws, starts, changes, Progress, begun, with_description, with_called_graph, Forbids, IsCallRefusal, by_elaboration, by_deed, CallLeads, Aim, drawing, planning, replaying, IsChangeOf, Concludes, behind, FollowsLines}
 use Rattle.command_law.specs.Plans.{Starts, RefusesStart, has_no_graph, is_full, RefusesPlan, starts_not, leads_nowhere, gets_full, nothing_made, made_of_graph}
-use Rattle.command_law.specs.Queries.{IsRefused, AnswersQuery}
+use Rattle.command_answers.specs.declared.status.Status.TheVariants as status
+use Rattle.command_law.specs.Queries.{IsRefused, AnswersQuery, IsTextBy}
 use Rattle.command_law.specs.Replays.{IsReplayed}
 use Rattle.command_law.specs.OneFile.{DescriptionAnswers, cannot_read, is_too_long, answered}
 use Rattle.command_law.specs.OneFile as files
@@ -42,8 +44,18 @@ Ended file query text fetches answer = (fetches ≡ []) × EndsAs file query tex
 -- what refuses a text refuses what is wanted of it
 pub text_refuses : (query : Query) (text : List ℕ) (words : List (List ℕ)) → IsTextRefusal text words → IsRefused query text words
 text_refuses (queries.Graph call) text words is = by_text words is
-text_refuses (queries.Plan call target) text words is = starts_not words (has_no_graph words (by_text words is))
+text_refuses (queries.Change cut call target) text words is = starts_not words (has_no_graph words (by_text words is))
 text_refuses (queries.Replay events) text words is = has_no_graph words (by_text words is)
+
+-- the status and the text of a change
+shown_text : (cut : Cut) (old new : Graph) (answer : Answer) → IsChangeOf cut old new answer → (status_of answer ≡ status.Ok) × IsTextBy cut old new (text_of answer)
+shown_text cuts.Whole old new answer (steps, is, what) = (ap status_of what, (steps, is, ap text_of what))
+shown_text cuts.InParts old new answer (ps, are, what) = (ap status_of what, (ps, are, ap text_of what))
+
+-- the answer that has the text of a change
+pub answer_with : (cut : Cut) (old new : Graph) (written : List ℕ) → IsTextBy cut old new written → ShowsAnswer (IsChangeOf cut old new) status.Ok written
+answer_with cuts.Whole old new written (steps, is, same) = record { answer = plan old new steps; is = (steps, is, refl); has_status = refl; has_text = same }
+answer_with cuts.InParts old new written (ps, are, same) = record { answer = parts old ps; is = (ps, are, refl); has_status = refl; has_text = same }
 
 -- the end of lines: memory ran out, or the answer is to what is wanted
 end_of :
@@ -151,8 +163,8 @@ module _ (file text : List ℕ) (tree : Tree) (checked : IsChecked text tree) wh
             };
           })
 
-  -- the second call of a plan
-  module _ (call target : TopCall) (old : Graph) (made : Made) (start : Starts text call.top call.args old) (made_is : made ≡ made_of_graph old) where
+  -- the second call of a change
+  module _ (cut : Cut) (call target : TopCall) (old : Graph) (made : Made) (start : Starts text call.top call.args old) (made_is : made ≡ made_of_graph old) where
     started_ : Progress
     started_ = with_called_graph used starts call.top call.args old made
 
@@ -169,13 +181,13 @@ module _ (file text : List ℕ) (tree : Tree) (checked : IsChecked text tree) wh
             (subst (λ m. IsRefusal old new [] m e) made_is (subst (λ g. IsRefusal g new [] made e) (sym (head_is old other [] earlier graphs)) full)))
 
     from_change :
-        (fetches : List Fetch) (answer : Answer) → FollowsLines (behind planning) started_ (Rattle.command_law.specs.Lines.calls (changes 0 []) target.top target.args ∷ []) fetches answer
-        → Ended file (queries.Plan call target) text fetches answer
+        (fetches : List Fetch) (answer : Answer) → FollowsLines (behind (planning cut)) started_ (Rattle.command_law.specs.Lines.calls (changes 0 []) target.top target.args ∷ []) fetches answer
+        → Ended file (queries.Change cut call target) text fetches answer
     unfolding used started_
     from_change _ _ not_judged = (refl, short)
     from_change _ _ (refused words why) = (refl, refuses words (change_refused words why))
     from_change _ _ (gives next fetches answer leads then_) =
-        let end = end_of planning (with_called_graph started_ (changes 0 []) target.top target.args leads.graph leads.made) fetches answer (subst (λ n. FollowsLines (behind planning) n [] fetches answer) leads.is_next then_) in
+        let end = end_of (planning cut) (with_called_graph started_ (changes 0 []) target.top target.args leads.graph leads.made) fetches answer (subst (λ n. FollowsLines (behind (planning cut)) n [] fetches answer) leads.is_next then_) in
         (end.0, by end.1)
       where
         new : Graph
@@ -184,41 +196,40 @@ module _ (file text : List ℕ) (tree : Tree) (checked : IsChecked text tree) wh
         can : CanPlan old new [] (made_of_graph old)
         can = subst (λ m. CanPlan old new [] m) made_is (subst (λ g. CanPlan g new [] made) (sym (head_is old leads.allowed.0 [] leads.allowed.1 leads.allowed.2)) leads.allowed.3.0)
 
-        by : (answer ≡ refusal no_memory) ⊎ Concludes planning (with_called_graph started_ (changes 0 []) target.top target.args leads.graph leads.made) answer → EndsAs file (queries.Plan call target) text answer
-        by (inl is) = subst (EndsAs file (queries.Plan call target) text) (sym is) short
-        by (inr (o, n, earlier, graphs, (steps, is_plan, what))) =
+        by : (answer ≡ refusal no_memory) ⊎ Concludes (planning cut) (with_called_graph started_ (changes 0 []) target.top target.args leads.graph leads.made) answer → EndsAs file (queries.Change cut call target) text answer
+        by (inl is) = subst (EndsAs file (queries.Change cut call target) text) (sym is) short
+        by (inr (o, n, earlier, graphs, what)) =
             let new_is = head_is new n (old ∷ []) (o ∷ earlier) graphs in
             let old_is = head_is old o [] earlier (tail_is new n (old ∷ []) (o ∷ earlier) graphs) in
-            let is = subst (λ g. IsPlanOf g new [] steps) (sym old_is) (subst (λ g. IsPlanOf o g [] steps) (sym new_is) is_plan) in
-            let same = what ∙ ap (λ g. plan g n steps) (sym old_is) ∙ ap (λ g. plan old g steps) (sym new_is) in
-            subst (EndsAs file (queries.Plan call target) text) (sym same)
-            (given (plan old new steps) (
-              refl,
+            let is = subst (λ g. IsChangeOf cut g new answer) (sym old_is) (subst (λ g. IsChangeOf cut o g answer) (sym new_is) what) in
+            let shows = shown_text cut old new answer is in
+            given answer (
+              shows.0,
               record {
                 old = old;
                 new = new;
                 starts = start;
                 has_graph = graph_of text started_ tree refl checked (changes 0 []) target.top target.args next leads;
-                has_steps = record { steps = steps; has_room = can; is_plan = is; is_text = refl };
+                has_steps = record { has_room = can; is_text = shows.1 };
               },
-            ))
+            )
 
   from_plan :
-      (call target : TopCall) (fetches : List Fetch) (answer : Answer)
-      → FollowsLines (behind planning) used (calls_of (queries.Plan call target)) fetches answer → Ended file (queries.Plan call target) text fetches answer
+      (cut : Cut) (call target : TopCall) (fetches : List Fetch) (answer : Answer)
+      → FollowsLines (behind (planning cut)) used (calls_of (queries.Change cut call target)) fetches answer → Ended file (queries.Change cut call target) text fetches answer
   unfolding used started_
-  from_plan call target _ _ not_judged = (refl, short)
-  from_plan call target _ _ (refused words why) = (refl, refuses words (starts_not words (start_refused call.top call.args words why)))
-  from_plan call target _ _ (gives next fetches answer leads then_) =
-      from_change call target leads.graph leads.made (start_of call.top call.args next leads) (leads.allowed.1 ∙ first_made leads.graph) fetches answer
-      (subst (λ n. FollowsLines (behind planning) n (Rattle.command_law.specs.Lines.calls (changes 0 []) target.top target.args ∷ []) fetches answer) leads.is_next then_)
+  from_plan cut call target _ _ not_judged = (refl, short)
+  from_plan cut call target _ _ (refused words why) = (refl, refuses words (starts_not words (start_refused call.top call.args words why)))
+  from_plan cut call target _ _ (gives next fetches answer leads then_) =
+      from_change cut call target leads.graph leads.made (start_of call.top call.args next leads) (leads.allowed.1 ∙ first_made leads.graph) fetches answer
+      (subst (λ n. FollowsLines (behind (planning cut)) n (Rattle.command_law.specs.Lines.calls (changes 0 []) target.top target.args ∷ []) fetches answer) leads.is_next then_)
 
   pub from_calls :
       (query : Query) (fetches : List Fetch) (answer : Answer) → FollowsLines (behind (aim_of query)) (with_description begun file tree) (calls_of query) fetches answer
       → Ended file query text fetches answer
   unfolding used
   from_calls (queries.Graph call) fetches answer follows = from_graph call fetches answer follows
-  from_calls (queries.Plan call target) fetches answer follows = from_plan call target fetches answer follows
+  from_calls (queries.Change cut call target) fetches answer follows = from_plan cut call target fetches answer follows
   from_calls (queries.Replay events) fetches answer follows = from_replay events fetches answer follows
 
 -- the course of what is wanted of a description

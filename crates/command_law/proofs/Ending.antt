@@ -16,6 +16,7 @@ use Rattle.command_words.specs.declared.words.Command.TheVariants as commands
 use Rattle.command_law.specs.Known.{AsksOf, HasNoForm}
 use Rattle.command_law.specs.Schedules.{rounds}
 use Rattle.command_law.specs.declared.query.Query.{Query}
+use Rattle.command_law.specs.declared.query.Cut.TheVariants as cuts
 use Rattle.command_law.specs.declared.query.Query.TheVariants as queries
 use Rattle.command_law.specs.declared.fetched.Fetched.{Fetched}
 use Rattle.command_law.specs.declared.fetched.Fetched.TheVariants.{Held}
@@ -103,7 +104,10 @@ failed_file files (commands.Flat file call) fetches own text answer told is =
     let fault = description_fault file (queries.Graph call) answer.given own text answer.answer is in
     (file, refl, ap failed_names answer.is ∙ fault.0, fault.1)
 failed_file files (commands.Plan file call target) fetches own text answer told is =
-    let fault = description_fault file (queries.Plan call target) answer.given own text answer.answer is in
+    let fault = description_fault file (queries.Change cuts.Whole call target) answer.given own text answer.answer is in
+    (file, refl, ap failed_names answer.is ∙ fault.0, fault.1)
+failed_file files (commands.Parts file call target) fetches own text answer told is =
+    let fault = description_fault file (queries.Change cuts.InParts call target) answer.given own text answer.answer is in
     (file, refl, ap failed_names answer.is ∙ fault.0, fault.1)
 failed_file files (commands.Replay file name) fetches own text (inl answer) told is =
     let fault = script_fault name answer.given own text answer.answer is in
@@ -133,7 +137,9 @@ any_failed files commands.Version fetches own text answer told some = absurd (so
 any_failed files (commands.Flat file call) fetches own text answer told some =
     description_failed file (queries.Graph call) answer.given own text answer.answer (λ none. some (ap failed_names answer.is ∙ none))
 any_failed files (commands.Plan file call target) fetches own text answer told some =
-    description_failed file (queries.Plan call target) answer.given own text answer.answer (λ none. some (ap failed_names answer.is ∙ none))
+    description_failed file (queries.Change cuts.Whole call target) answer.given own text answer.answer (λ none. some (ap failed_names answer.is ∙ none))
+any_failed files (commands.Parts file call target) fetches own text answer told some =
+    description_failed file (queries.Change cuts.InParts call target) answer.given own text answer.answer (λ none. some (ap failed_names answer.is ∙ none))
 any_failed files (commands.Replay file name) fetches own text (inl answer) told some =
     events_failed name answer.given own text answer.answer (λ none. some (ap failed_names answer.is ∙ none))
 any_failed files (commands.Replay file name) fetches own text (inr answer) told some =

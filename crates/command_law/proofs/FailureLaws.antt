@@ -8,12 +8,13 @@ use Rattle.change_script.specs.ScriptFiles.{IsScript}
 use Rattle.std.specs.Prelude.{Contains}
 use Rattle.base.proofs.ContainsLaws.{Contains-here}
 use Rattle.command_words.specs.BigFiles.{made_files, script_name}
-use Rattle.command_answers.specs.Answers.{Answer, Refusal, refusal, description, script, read_fault, no_memory, help, version, graph, plan, denied, replay, report, ran, summary, status_of}
+use Rattle.command_answers.specs.Answers.{Answer, Refusal, refusal, description, script, read_fault, no_memory, help, version, graph, plan, parts, denied, replay, report, ran, summary, status_of}
 use Rattle.command_answers.specs.Summaries.{summary_text}
 use Rattle.command_words.specs.declared.words.Command.{Command}
 use Rattle.command_words.specs.declared.words.Command.TheVariants as commands
 use Rattle.command_law.specs.Schedules.{rounds}
 use Rattle.command_law.specs.declared.fetched.Fetched.TheVariants.{Held, TooLong, Failed}
+use Rattle.command_law.specs.declared.query.Cut.TheVariants as cuts
 use Rattle.command_law.specs.declared.query.Query.{Query}
 use Rattle.command_law.specs.declared.query.Query.TheVariants as queries
 use Rattle.command_law.specs.Commands.{RefusesEvents, RefusesReport, RefusesScript, TellsReport, calls_of, course_of_query, in_summary, OfMadeFiles}
@@ -39,7 +40,8 @@ no_refusal_of s events _ why (all_steps t settled leads are) same = cc
 
 concludes_well : (aim : Aim) (p : Progress) (answer : Answer) (why : Refusal) → Concludes aim p answer → answer ≢ refusal why
 concludes_well drawing p answer why (g, earlier, graphs, what) same = cc (what, same)
-concludes_well planning p answer why (old, new, earlier, graphs, (steps, is, what)) same = cc (what, same)
+concludes_well (planning cuts.Whole) p answer why (old, new, earlier, graphs, (steps, is, what)) same = cc (what, same)
+concludes_well (planning cuts.InParts) p answer why (old, new, earlier, graphs, (ps, are, what)) same = cc (what, same)
 concludes_well (replaying events) p answer why (g, earlier, graphs, what) same = no_refusal_of (started g) events answer why what same
 concludes_well (running schedule) p answer why (r, is, what) same = cc (what, same)
 
@@ -134,8 +136,8 @@ module _ (Named : List ℕ → Type 0) where
       alone : (other : List ℕ) → (other ≡ file) ⊎ ⊥ → Named other
       alone other (inl is) = subst Named (sym is) named
       alone other (inr never) = absurd never
-  of_query file (queries.Plan call target) fetches answer named course =
-      of_aim planning begun (uses file ∷ calls_of (queries.Plan call target)) fetches answer (λ other is. alone other is) course
+  of_query file (queries.Change cut call target) fetches answer named course =
+      of_aim (planning cut) begun (uses file ∷ calls_of (queries.Change cut call target)) fetches answer (λ other is. alone other is) course
     where
       alone : (other : List ℕ) → (other ≡ file) ⊎ ⊥ → Named other
       alone other (inl is) = subst Named (sym is) named
@@ -169,6 +171,7 @@ not_unread lanes answer made file is = by made.made (of_refusal lanes made.made 
     of_refusal n version why same = same
     of_refusal n (graph g) why same = same
     of_refusal n (plan old new steps) why same = same
+    of_refusal n (parts old ps) why same = same
     of_refusal n (denied number rule) why same = same
     of_refusal n (replay count s settled) why same = same
     of_refusal n (report r) why same = same
@@ -196,7 +199,9 @@ of_words knows words _ _ (asked commands.Version fetches answer asks course) = o
 of_words knows words _ _ (asked (commands.Flat file call) fetches answer asks course) =
     of_query (NamesFile knows (WasHeld fetches) words) file (queries.Graph call) fetches answer (commands.Flat file call, asks, refl) course
 of_words knows words _ _ (asked (commands.Plan file call target) fetches answer asks course) =
-    of_query (NamesFile knows (WasHeld fetches) words) file (queries.Plan call target) fetches answer (commands.Plan file call target, asks, refl) course
+    of_query (NamesFile knows (WasHeld fetches) words) file (queries.Change cuts.Whole call target) fetches answer (commands.Plan file call target, asks, refl) course
+of_words knows words _ _ (asked (commands.Parts file call target) fetches answer asks course) =
+    of_query (NamesFile knows (WasHeld fetches) words) file (queries.Change cuts.InParts call target) fetches answer (commands.Parts file call target, asks, refl) course
 of_words knows words _ _ (asked (commands.Replay file name) fetches answer asks course) =
     let Named = NamesFile knows (WasHeld fetches) words in
     let refuse = λ (ws : List (List ℕ)). refusal (script name ws) in

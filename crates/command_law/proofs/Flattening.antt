@@ -27,15 +27,17 @@ use Rattle.command_law.specs.Descriptions.{HasGraph}
 use Rattle.command_law.specs.Plans.{Starts}
 use Rattle.command_answers.specs.Answers.{denied}
 use Rattle.command_law.specs.Replays.{one_denied}
+use Rattle.command_law.specs.declared.query.Cut.{Cut}
+use Rattle.command_law.specs.declared.query.Cut.TheVariants as cuts
 use Rattle.command_law.specs.declared.query.Query.{Query}
 use Rattle.command_law.specs.declared.query.Query.TheVariants as queries
-use Rattle.command_law.specs.Queries.{IsRefused, AnswersQuery}
+use Rattle.command_law.specs.Queries.{IsRefused, AnswersQuery, IsTextBy}
 use Rattle.command_law.specs.declared.fetched.Fetched.{Fetched}
 use Rattle.command_law.specs.declared.fetched.Fetched.TheVariants.{Failed}
 use Rattle.command_law.specs.Fetches.{Fetch, failed_names, fetch_of, file_limit, Gave, report_fetch, report_limit}
 use Rattle.command_law.specs.OneFile.{DescriptionAnswers, cannot_read, is_too_long, refused, answered, EventsAnswers, cannot_read_events, events_file_too_long, events_file_at_fault, ReportAnswers, cannot_read_report, report_too_long, report_at_fault, upgraded}
 use Rattle.command_law.specs.Runs.{Written, whole, stopped, Run}
-use Rattle.command_law.specs.Outcomes.{ReadFrom, Ends, Wants, Flattened, Planned, Replayed, DescriptionRefused, too_long, at_fault, EventsRefused, events_too_long, events_at_fault, HoldsFile, MustRefuse, MustRefuseEvents, NothingRefuses, EndsAsGiven, Upgraded, ReportRefused, is_longer, has_fault, RefusesFile, RefusesDescription, MustRefuseReport, NothingRefusesReport}
+use Rattle.command_law.specs.Outcomes.{ReadFrom, Ends, Wants, Flattened, Parted, Planned, WroteChange, Replayed, DescriptionRefused, too_long, at_fault, EventsRefused, events_too_long, events_at_fault, HoldsFile, MustRefuse, MustRefuseEvents, NothingRefuses, EndsAsGiven, Upgraded, ReportRefused, is_longer, has_fault, RefusesFile, RefusesDescription, MustRefuseReport, NothingRefusesReport}
 use Rattle.command_law.proofs.Inverting.{Answer, of_words, AnswersCommand, no_form, answered_to, no_memory, Ran, OfDescription, OfScript, OfReplay, OfReport}
 use Rattle.change_script.proofs.EventFileLaws as scripts
 use Rattle.command_words.specs.BigFiles.{made_files, script_name}
@@ -294,20 +296,33 @@ module _ (knows : Command → Bool) (seen : Run) (run : Ran knows seen) where
         written = w.wrote ∙ ap (with_bytes seen.taken) w.gives.1.2;
       }
 
+  wrote_change :
+      (cut : Cut) (file : List ℕ) (call target : TopCall) → WroteAnswer seen.files file (queries.Change cut call target) status.Ok seen.taken seen.taken'
+      → WroteChange (IsTextBy cut) seen.files file call target seen.taken seen.taken'
+  wrote_change cut file call target w = record {
+    text = w.text;
+    change = w.written;
+    told = w.told;
+    within = w.within;
+    has_change = w.gives.1;
+    written = w.wrote;
+  }
+
   pub plans :
       (file : List ℕ) (call target : TopCall) → AsksOf knows seen.words (commands.Plan file call target) → seen.status ≡ status.Ok
       → Planned seen.files file call target seen.taken seen.taken'
   plans file call target asks is =
       let f = found (commands.Plan file call target) status.Ok well asks is in
-      let w = of_one seen.files seen.taken seen.taken' file (queries.Plan call target) run.fetches run.own run.text status.Ok well f.0.0 f.0.1 run.told f.1 in
-      record {
-        text = w.text;
-        plan = w.written;
-        told = w.told;
-        within = w.within;
-        has_plan = w.gives.1;
-        written = w.wrote;
-      }
+      wrote_change cuts.Whole file call target
+      (of_one seen.files seen.taken seen.taken' file (queries.Change cuts.Whole call target) run.fetches run.own run.text status.Ok well f.0.0 f.0.1 run.told f.1)
+
+  pub cuts_up :
+      (file : List ℕ) (call target : TopCall) → AsksOf knows seen.words (commands.Parts file call target) → seen.status ≡ status.Ok
+      → Parted seen.files file call target seen.taken seen.taken'
+  cuts_up file call target asks is =
+      let f = found (commands.Parts file call target) status.Ok well asks is in
+      wrote_change cuts.InParts file call target
+      (of_one seen.files seen.taken seen.taken' file (queries.Change cuts.InParts call target) run.fetches run.own run.text status.Ok well f.0.0 f.0.1 run.told f.1)
 
   replays_with : (file name : List ℕ) (due : Status) → IsGiven due → AsksOf knows seen.words (commands.Replay file name) → seen.status ≡ due → Replayed seen.files file name due seen.taken seen.taken'
   replays_with file name due plain asks is = by (found (commands.Replay file name) due plain asks is)
@@ -336,7 +351,9 @@ module _ (knows : Command → Bool) (seen : Run) (run : Ran knows seen) where
       of (commands.Flat file call) asks answer is took =
           absurd (ok_denied (sym ((of_one seen.files seen.taken seen.taken' file (queries.Graph call) run.fetches run.own run.text status.Denied with_denial answer is run.told took).gives.0)))
       of (commands.Plan file call target) asks answer is took =
-          absurd (ok_denied (sym ((of_one seen.files seen.taken seen.taken' file (queries.Plan call target) run.fetches run.own run.text status.Denied with_denial answer is run.told took).gives.0)))
+          absurd (ok_denied (sym ((of_one seen.files seen.taken seen.taken' file (queries.Change cuts.Whole call target) run.fetches run.own run.text status.Denied with_denial answer is run.told took).gives.0)))
+      of (commands.Parts file call target) asks answer is took =
+          absurd (ok_denied (sym ((of_one seen.files seen.taken seen.taken' file (queries.Change cuts.InParts call target) run.fetches run.own run.text status.Denied with_denial answer is run.told took).gives.0)))
       of (commands.Replay file name) asks (inl s) is took = absurd (script_not_given seen.files seen.taken seen.taken' name s.given run.own run.text status.Denied with_denial s.answer is)
       of (commands.Replay file name) asks (inr r) is took =
           (file, name, asks, of_replay seen.files seen.taken seen.taken' file name run.fetches run.own run.text status.Denied with_denial r is run.told took)
@@ -373,7 +390,12 @@ module _ (knows : Command → Bool) (seen : Run) (run : Ran knows seen) where
           inl (file, queries.Graph call, asks, of_refusal seen.files seen.taken seen.taken' file (queries.Graph call) answer.given own text answer.answer is each.0 took)
       of (commands.Plan file call target) fetches own text asks answer is told took =
           let each = subst (AllByRecursion (Gave seen.files)) answer.is told in
-          inl (file, queries.Plan call target, asks, of_refusal seen.files seen.taken seen.taken' file (queries.Plan call target) answer.given own text answer.answer is each.0 took)
+          let query = queries.Change cuts.Whole call target in
+          inl (file, query, asks, of_refusal seen.files seen.taken seen.taken' file query answer.given own text answer.answer is each.0 took)
+      of (commands.Parts file call target) fetches own text asks answer is told took =
+          let each = subst (AllByRecursion (Gave seen.files)) answer.is told in
+          let query = queries.Change cuts.InParts call target in
+          inl (file, query, asks, of_refusal seen.files seen.taken seen.taken' file query answer.given own text answer.answer is each.0 took)
       of (commands.Replay file name) fetches own text asks (inl s) is told took = absurd (script_not_description seen.files seen.taken seen.taken' name s.given own text s.answer is)
       of (commands.Replay file name) fetches own text asks (inr r) is told took =
           let each = subst (AllByRecursion (Gave seen.files)) r.is told in
@@ -410,7 +432,9 @@ module _ (knows : Command → Bool) (seen : Run) (run : Ran knows seen) where
       of (commands.Flat file call) fetches own text asks answer is told took =
           absurd (no_script_status seen.files seen.taken seen.taken' file (queries.Graph call) answer.given own text answer.answer is)
       of (commands.Plan file call target) fetches own text asks answer is told took =
-          absurd (no_script_status seen.files seen.taken seen.taken' file (queries.Plan call target) answer.given own text answer.answer is)
+          absurd (no_script_status seen.files seen.taken seen.taken' file (queries.Change cuts.Whole call target) answer.given own text answer.answer is)
+      of (commands.Parts file call target) fetches own text asks answer is told took =
+          absurd (no_script_status seen.files seen.taken seen.taken' file (queries.Change cuts.InParts call target) answer.given own text answer.answer is)
       of (commands.Replay file name) fetches own text asks (inl s) is told took =
           let each = subst (AllByRecursion (Gave seen.files)) s.is told in
           inl (file, name, asks, of_script_refusal seen.files seen.taken seen.taken' name s.given own text s.answer is each.0 took)
@@ -502,9 +526,12 @@ module _ (knows : Command → Bool) (seen : Run) (run : Ran knows seen) where
     wanted_ends file (queries.Graph call) due wants of_answer =
         ends (commands.Flat file call) due wants
         (λ answer. described file (queries.Graph call) (λ s. s ≡ due) of_answer run.fetches run.own run.text answer none_failed told)
-    wanted_ends file (queries.Plan call target) due wants of_answer =
+    wanted_ends file (queries.Change cuts.Whole call target) due wants of_answer =
         ends (commands.Plan file call target) due wants
-        (λ answer. described file (queries.Plan call target) (λ s. s ≡ due) of_answer run.fetches run.own run.text answer none_failed told)
+        (λ answer. described file (queries.Change cuts.Whole call target) (λ s. s ≡ due) of_answer run.fetches run.own run.text answer none_failed told)
+    wanted_ends file (queries.Change cuts.InParts call target) due wants of_answer =
+        ends (commands.Parts file call target) due wants
+        (λ answer. described file (queries.Change cuts.InParts call target) (λ s. s ≡ due) of_answer run.fetches run.own run.text answer none_failed told)
     wanted_ends file (queries.Replay events_file) due wants of_answer =
         ends (commands.Replay file wants.0) due wants.2
         (λ answer. of_events file wants.0 wants.1 events_file (λ s. s ≡ due) wants.3 wants.4 wants.5 of_answer run.fetches run.own run.text answer none_failed told)
@@ -622,9 +649,14 @@ module _ (knows : Command → Bool) (seen : Run) (run : Ran knows seen) where
     completes file (queries.Graph call) wants nothing =
         given_end file (queries.Graph call) (commands.Flat file call) wants
         (λ answer. described file (queries.Graph call) (AsGiven file (queries.Graph call)) (completes_with file (queries.Graph call) nothing) run.fetches run.own run.text answer none_failed told)
-    completes file (queries.Plan call target) wants nothing =
-        given_end file (queries.Plan call target) (commands.Plan file call target) wants
-        (λ answer. described file (queries.Plan call target) (AsGiven file (queries.Plan call target)) (completes_with file (queries.Plan call target) nothing) run.fetches run.own run.text answer none_failed told)
+    completes file (queries.Change cuts.Whole call target) wants nothing =
+        let query = queries.Change cuts.Whole call target in
+        given_end file query (commands.Plan file call target) wants
+        (λ answer. described file query (AsGiven file query) (completes_with file query nothing) run.fetches run.own run.text answer none_failed told)
+    completes file (queries.Change cuts.InParts call target) wants nothing =
+        let query = queries.Change cuts.InParts call target in
+        given_end file query (commands.Parts file call target) wants
+        (λ answer. described file query (AsGiven file query) (completes_with file query nothing) run.fetches run.own run.text answer none_failed told)
     completes file (queries.Replay events_file) wants nothing =
         given_end file (queries.Replay events_file) (commands.Replay file wants.0) wants.2
         (λ answer. of_events file wants.0 wants.1 events_file (AsGiven file (queries.Replay events_file)) wants.3 wants.4 wants.5 (completes_with file (queries.Replay events_file) nothing)

@@ -12,6 +12,7 @@ use Rattle.command_words.specs.declared.words.Command.{Command}
 use Rattle.command_words.specs.declared.words.Command.TheVariants as commands
 use Rattle.command_law.specs.Known.{AsksOf, HasNoForm}
 use Rattle.command_law.specs.declared.query.Query.{Query}
+use Rattle.command_law.specs.declared.query.Cut.TheVariants as cuts
 use Rattle.command_law.specs.declared.query.Query.TheVariants as queries
 use Rattle.command_law.specs.declared.fetched.Fetched.{Fetched}
 use Rattle.command_law.specs.declared.fetched.Fetched.TheVariants.{Held, TooLong, Failed}
@@ -22,7 +23,7 @@ use Rattle.command_words.specs.BigFiles.{made_files, script_name}
 use Rattle.report_writing.specs.Reports.{report_text}
 use Rattle.report_types.specs.declared.report.Report.{Report}
 use Rattle.command_answers.specs.Summaries.{summary_text}
-use Rattle.command_law.specs.Commands.{course_of, course_of_script, in_summary, OfMadeFiles}
+use Rattle.command_law.specs.Commands.{course_of, course_of_query, course_of_script, in_summary, OfMadeFiles}
 use Rattle.command_law.specs.Courses.{FetchCourse, not_fetched, fetched_alone, failed, too_long, leads_on, not_judged}
 use Rattle.command_law.specs.Courses as courses
 use Rattle.command_law.specs.Fetches.{Fetch, fetch_of, failed_names, Gave, report_fetch}
@@ -124,6 +125,7 @@ shown_text show values.help = help_text
 shown_text show values.version = version_text
 shown_text show (values.graph g) = text_of (values.graph g)
 shown_text show (values.plan old new steps) = text_of (values.plan old new steps)
+shown_text show (values.parts old ps) = text_of (values.parts old ps)
 shown_text show (values.denied number rule) = text_of (values.denied number rule)
 shown_text show (values.replay count s settled) = text_of (values.replay count s settled)
 shown_text show (values.report r) = text_of (values.report r)
@@ -152,7 +154,8 @@ abbrev pub Answer : Command → List Fetch → Status → List ℕ → Type 0
 Answer commands.Help fetches own text = (own ≡ status.Ok) × (fetches ≡ []) × (text ≡ help_text)
 Answer commands.Version fetches own text = (own ≡ status.Ok) × (fetches ≡ []) × (text ≡ version_text)
 Answer (commands.Flat file call) fetches own text = OfDescription file (queries.Graph call) fetches own text
-Answer (commands.Plan file call target) fetches own text = OfDescription file (queries.Plan call target) fetches own text
+Answer (commands.Plan file call target) fetches own text = OfDescription file (queries.Change cuts.Whole call target) fetches own text
+Answer (commands.Parts file call target) fetches own text = OfDescription file (queries.Change cuts.InParts call target) fetches own text
 Answer (commands.Replay file name) fetches own text = OfScript name fetches own text ⊎ OfReplay file name fetches own text
 Answer (commands.Upgrade file) fetches own text = OfReport file fetches own text
 Answer (commands.Step name) fetches own text = OfStep rounds report_text name fetches own text
@@ -184,6 +187,7 @@ shown_as_is values.help = refl
 shown_as_is values.version = refl
 shown_as_is (values.graph g) = refl
 shown_as_is (values.plan old new steps) = refl
+shown_as_is (values.parts old ps) = refl
 shown_as_is (values.denied number rule) = refl
 shown_as_is (values.replay count s settled) = refl
 shown_as_is (values.report r) = refl
@@ -198,6 +202,7 @@ summary_shown lanes values.help = (refl, refl)
 summary_shown lanes values.version = (refl, refl)
 summary_shown lanes (values.graph g) = (refl, refl)
 summary_shown lanes (values.plan old new steps) = (refl, refl)
+summary_shown lanes (values.parts old ps) = (refl, refl)
 summary_shown lanes (values.denied number rule) = (refl, refl)
 summary_shown lanes (values.replay count s settled) = (refl, refl)
 summary_shown lanes (values.report r) = (refl, refl)
@@ -228,23 +233,25 @@ from_made lanes fetches answer none of_made = by (from_script rounds (summary_te
     })
     by (inr short) = inr (of_made.is ∙ ap (in_summary lanes) short)
 
+-- what is wanted of a description
+by_query :
+    (file : List ℕ) (query : Query) (fetches : List Fetch) (answer : values.Answer) → course_of_query file query fetches answer
+    → OfDescription file query fetches (status_of answer) (text_of answer) ⊎ (answer ≡ refusal values.no_memory)
+by_query file query fetches answer course = by fetches answer (from_query file query fetches answer course)
+  where
+    by : (fs : List Fetch) (a : values.Answer) → OfQuery file query fs a
+        → OfDescription file query fs (status_of a) (text_of a) ⊎ (a ≡ refusal values.no_memory)
+    by _ _ (out_of_memory fs) = inr refl
+    by _ _ (of_description what a d) = inl (record { given = what; is = refl; answer = d })
+
 pub from_command :
     (command : Command) (fetches : List Fetch) (answer : values.Answer) → course_of command fetches answer
     → Answer command fetches (status_of answer) (text_of answer) ⊎ (answer ≡ refusal values.no_memory)
 from_command commands.Help fetches answer course = inl (ap status_of course.1, course.0, ap text_of course.1)
 from_command commands.Version fetches answer course = inl (ap status_of course.1, course.0, ap text_of course.1)
-from_command (commands.Flat file call) fetches answer course = by fetches answer (from_query file (queries.Graph call) fetches answer course)
-  where
-    by : (fs : List Fetch) (a : values.Answer) → OfQuery file (queries.Graph call) fs a
-        → OfDescription file (queries.Graph call) fs (status_of a) (text_of a) ⊎ (a ≡ refusal values.no_memory)
-    by _ _ (out_of_memory fs) = inr refl
-    by _ _ (of_description what a d) = inl (record { given = what; is = refl; answer = d })
-from_command (commands.Plan file call target) fetches answer course = by fetches answer (from_query file (queries.Plan call target) fetches answer course)
-  where
-    by : (fs : List Fetch) (a : values.Answer) → OfQuery file (queries.Plan call target) fs a
-        → OfDescription file (queries.Plan call target) fs (status_of a) (text_of a) ⊎ (a ≡ refusal values.no_memory)
-    by _ _ (out_of_memory fs) = inr refl
-    by _ _ (of_description what a d) = inl (record { given = what; is = refl; answer = d })
+from_command (commands.Flat file call) fetches answer course = by_query file (queries.Graph call) fetches answer course
+from_command (commands.Plan file call target) fetches answer course = by_query file (queries.Change cuts.Whole call target) fetches answer course
+from_command (commands.Parts file call target) fetches answer course = by_query file (queries.Change cuts.InParts call target) fetches answer course
 from_command (commands.Replay file name) _ _ not_fetched = inr refl
 from_command (commands.Replay file name) _ _ (fetched_alone what) = inr refl
 from_command (commands.Replay file name) _ _ failed = inl (inl (record { given = Failed; is = refl; answer = cannot_read_events }))
@@ -379,7 +386,8 @@ pub command_status : (command : Command) (fetches : List Fetch) (own : Status) (
 command_status commands.Help fetches own text answer = rw answer.0 (plain status.Ok well)
 command_status commands.Version fetches own text answer = rw answer.0 (plain status.Ok well)
 command_status (commands.Flat file call) fetches own text answer = plain own (description_status file (queries.Graph call) answer.given own text answer.answer)
-command_status (commands.Plan file call target) fetches own text answer = plain own (description_status file (queries.Plan call target) answer.given own text answer.answer)
+command_status (commands.Plan file call target) fetches own text answer = plain own (description_status file (queries.Change cuts.Whole call target) answer.given own text answer.answer)
+command_status (commands.Parts file call target) fetches own text answer = plain own (description_status file (queries.Change cuts.InParts call target) answer.given own text answer.answer)
 command_status (commands.Replay file name) fetches own text (inl answer) = plain own (script_status name answer.given own text answer.answer)
 command_status (commands.Replay file name) fetches own text (inr answer) = plain own (description_status file (queries.Replay answer.events_file) answer.given own text answer.answer)
 command_status (commands.Upgrade file) fetches own text answer = plain own (report_status file answer.given own text answer.answer)
@@ -450,7 +458,9 @@ only_scripts commands.Version fetches own text answer is = absurd (not_run own (
 only_scripts (commands.Flat file call) fetches own text answer is =
     absurd (not_run own (description_status file (queries.Graph call) answer.given own text answer.answer) is)
 only_scripts (commands.Plan file call target) fetches own text answer is =
-    absurd (not_run own (description_status file (queries.Plan call target) answer.given own text answer.answer) is)
+    absurd (not_run own (description_status file (queries.Change cuts.Whole call target) answer.given own text answer.answer) is)
+only_scripts (commands.Parts file call target) fetches own text answer is =
+    absurd (not_run own (description_status file (queries.Change cuts.InParts call target) answer.given own text answer.answer) is)
 only_scripts (commands.Replay file name) fetches own text (inl answer) is =
     absurd (not_run own (script_status name answer.given own text answer.answer) is)
 only_scripts (commands.Replay file name) fetches own text (inr answer) is =

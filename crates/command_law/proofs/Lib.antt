@@ -4,6 +4,7 @@ pub mod Ending
 pub mod Existence
 pub mod FailureLaws
 pub mod Flattening
+pub mod GraphLaws
 pub mod Inverting
 pub mod LineEnds
 pub mod OneAnswer

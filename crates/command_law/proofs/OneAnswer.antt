@@ -1,33 +1,33 @@
 -- What bytes give is one: one graph, one plan, one outcome of events, and so one status and one text.
-use Rattle.std.proofs.Common.{◌≡◌, ◌∙◌, ◌<◌, ℕ, List, [], ◌∷◌, refl, sym, ap, subst, arith, map}
+use Rattle.std.proofs.Common.{◌≡◌, ◌∙◌, ◌<◌, ℕ, List, [], sym, ap, subst, arith}
 use Rattle.std.specs.Prelude.{Contains}
 use Rattle.std.specs.List.Sorted.{IsStrictlyIncreasing}
 use Rattle.std.proofs.lemmas.List.Kept.{AllPairs-from_increasing}
-use Rattle.base.proofs.ContainsLaws.{Contains-here, Contains-nil}
 use Rattle.base.proofs.OrderedLaws.{one_order}
-use Rattle.config_graph.specs.Graph.{Graph}
+use Rattle.config_graph.specs.Graph.{Graph, IsGraph}
 use Rattle.config_graph.specs.GraphText.{graph_text}
-use Rattle.config_graph.specs.declared.node.Link.{Link}
-use Rattle.config_graph.specs.declared.node.Port.{Port}
 use Rattle.quiesce_core.specs.Start.{started}
 use Rattle.quiesce_core.specs.State.{State}
 use Rattle.quiesce_core.specs.declared.event.Event.{Event}
-use Rattle.change_plan.specs.Differences.{GoneLinks, GonePorts, IsKeptLink, IsGone, link_port}
-use Rattle.change_plan.specs.Moves.{IsShifts}
+use Rattle.change_plan.proofs.PlanLaws.{one_plan}
 use Rattle.change_plan.specs.PlanText.{plan_text}
-use Rattle.change_plan.specs.Plans.{IsPlanOf}
-use Rattle.change_plan.specs.declared.plan_data.Plan.{Plan}
-use Rattle.change_plan.specs.declared.plan_data.Shift.{Shift}
-use Rattle.change_plan.proofs.SelectsLaws.{Selects-one}
+use Rattle.change_plan.specs.declared.plan_data.Move.{Move}
+use Rattle.change_parts_laws.specs.Parts.{AreParts}
+use Rattle.change_parts_laws.specs.declared.part.Part.{Part}
 use Rattle.quiesce_replay.specs.Replay.{AreSettled}
 use Rattle.quiesce_replay.proofs.DenialLaws as replaying
 use Rattle.command_answers.specs.Answers.{Answer, denied, replay, status_of, text_of}
+use Rattle.command_answers.specs.PartTexts.{parts_text}
 use Rattle.command_answers.specs.declared.status.Status.{Status}
-use Rattle.command_law.specs.Plans.{HasPlan}
-use Rattle.command_law.specs.Queries.{AnswersQuery}
+use Rattle.command_law.specs.Plans.{HasChange}
+use Rattle.command_law.specs.Queries.{AnswersQuery, IsTextBy}
 use Rattle.command_law.specs.Replays.{IsReplayed, one_denied, all_steps}
+use Rattle.command_words.specs.declared.words.TopCall.{TopCall}
+use Rattle.command_law.specs.declared.query.Cut.{Cut}
+use Rattle.command_law.specs.declared.query.Cut.TheVariants as cuts
 use Rattle.command_law.specs.declared.query.Query.{Query}
 use Rattle.command_law.specs.declared.query.Query.TheVariants as queries
+use Rattle.command_law.proofs.GraphLaws.{GraphOrFault, has_bounds}
 use Rattle.command_law.proofs.Planning.{one_graph}
 
 -- numbers that rise are told by which they are
@@ -37,40 +37,31 @@ one_rising :
 one_rising xs ys rise rise' all all' =
     one_order (λ (x y : ℕ). x < y) (λ x y low high. omega (arith, low, high)) xs ys (AllPairs-from_increasing xs rise) (AllPairs-from_increasing ys rise') all all'
 
--- ---- plans without moves
+-- ---- changes
 
-no_shifts : (old new : Graph) (shifts : List Shift) → IsShifts old new [] shifts → shifts ≡ []
-no_shifts old new [] are = refl
-no_shifts old new (s ∷ shifts) are = absurd (Contains-nil (are.sound s (Contains-here s shifts)).move (are.sound s (Contains-here s shifts)).there)
+-- laws of changes in parts and of the elaborator, as they stand there
+abbrev pub OneListOfParts : Type 0
+OneListOfParts =
+    (old new : Graph) (moves : List Move) (ps qs : List Part) → IsGraph old → IsGraph new → AreParts old new moves ps → AreParts old new moves qs → ps ≡ qs
 
-one_links : (g h : Graph) (xs ys : List Link) → GoneLinks g h xs → GoneLinks g h ys → xs ≡ ys
-one_links g h xs ys x y = Selects-one (λ k. ¬ IsKeptLink g h k) g.links xs ys x y
+module _ (lists : OneListOfParts) (graphs : GraphOrFault) where
+  one_change :
+      (cut : Cut) (old new : Graph) (written also : List ℕ) → IsGraph old → IsGraph new → IsTextBy cut old new written → IsTextBy cut old new also
+      → written ≡ also
+  one_change cuts.Whole old new written also old_graph new_graph x y = x.2 ∙ ap (plan_text old new) (one_plan old new [] x.0 y.0 x.1 y.1) ∙ sym y.2
+  one_change cuts.InParts old new written also old_graph new_graph x y =
+      x.2 ∙ ap (parts_text old) (lists old new [] x.0 y.0 old_graph new_graph x.1 y.1) ∙ sym y.2
 
-one_ports : (g h : Graph) (xs ys : List Port) → GonePorts g h xs → GonePorts g h ys → xs ≡ ys
-one_ports g h xs ys x y = x.2 ∙ ap (map link_port) (one_links g h x.0 y.0 x.1 y.1) ∙ sym y.2
-
-pub one_plan : (old new : Graph) (p q : Plan) → IsPlanOf old new [] p → IsPlanOf old new [] q → p ≡ q
-one_plan old new p q x y =
-    let freeze = one_rising p.freeze q.freeze x.freeze_rises y.freeze_rises
-    (λ n held. (y.steps.freeze n).1 ((x.steps.freeze n).0 held)) (λ n held. (x.steps.freeze n).1 ((y.steps.freeze n).0 held)) in
-    let unlink = one_ports old new p.unlink q.unlink x.steps.unlink y.steps.unlink in
-    let remove = Selects-one (IsGone old new) _ p.remove q.remove x.steps.remove y.steps.remove in
-    let create = Selects-one (IsGone new old) _ p.create q.create x.steps.create y.steps.create in
-    let link = one_links new old p.link q.link x.steps.link y.steps.link in
-    let moves = no_shifts old new p.moves x.moves ∙ sym (no_shifts old new q.moves y.moves) in
-    λ i. record { freeze = freeze i; unlink = unlink i; remove = remove i; create = create i; link = link i; moves = moves i }
-
-one_plan_text :
-    (text : List ℕ) (call target : Rattle.command_words.specs.declared.words.TopCall.TopCall) (written also : List ℕ)
-    → HasPlan text call target written → HasPlan text call target also → written ≡ also
-one_plan_text text call target written also x y =
-    let old = one_graph text call.top call.args x.old y.old x.starts.has_graph y.starts.has_graph in
-    let new = one_graph text target.top target.args x.new y.new x.has_graph y.has_graph in
-    let steps = one_plan y.old y.new x.has_steps.steps y.has_steps.steps
-    (subst (λ g. IsPlanOf g y.new [] x.has_steps.steps) old (subst (λ g. IsPlanOf x.old g [] x.has_steps.steps) new x.has_steps.is_plan))
-    y.has_steps.is_plan in
-    x.has_steps.is_text ∙ ap (λ g. plan_text g x.new x.has_steps.steps) old ∙ ap (λ g. plan_text y.old g x.has_steps.steps) new
-    ∙ ap (plan_text y.old y.new) steps ∙ sym y.has_steps.is_text
+  one_text :
+      (cut : Cut) (text : List ℕ) (call target : TopCall) (written also : List ℕ) → HasChange (IsTextBy cut) text call target written
+      → HasChange (IsTextBy cut) text call target also → written ≡ also
+  one_text cut text call target written also x y =
+      let old = one_graph text call.top call.args x.old y.old x.starts.has_graph y.starts.has_graph in
+      let new = one_graph text target.top target.args x.new y.new x.has_graph y.has_graph in
+      let old_graph = has_bounds graphs text call.top call.args y.old y.starts.has_graph in
+      let new_graph = has_bounds graphs text target.top target.args y.new y.has_graph in
+      let is = subst (λ g. IsTextBy cut g y.new written) old (subst (λ g. IsTextBy cut x.old g written) new x.has_steps.is_text) in
+      one_change cut y.old y.new written also old_graph new_graph is y.has_steps.is_text
 
 -- ---- events
 
@@ -91,14 +82,15 @@ one_outcome s events _ _ (all_steps t xs leads are) (all_steps u ys goes also) =
 
 -- ---- one status and one text
 
-pub one_answer :
-    (query : Query) (text : List ℕ) (own other : Status) (written also : List ℕ) → AnswersQuery query text own written → AnswersQuery query text other also
-    → (own ≡ other) × (written ≡ also)
-one_answer (queries.Graph call) text own other written also x y =
-    (x.0 ∙ sym y.0, x.1.2 ∙ ap graph_text (one_graph text call.top call.args x.1.0 y.1.0 x.1.1 y.1.1) ∙ sym y.1.2)
-one_answer (queries.Plan call target) text own other written also x y = (x.0 ∙ sym y.0, one_plan_text text call target written also x.1 y.1)
-one_answer (queries.Replay events_file) text own other written also x y =
-    let graph = one_graph text events_file.name events_file.args x.graph y.graph x.starts.has_graph y.starts.has_graph in
-    let a = subst (λ g. IsReplayed (started g) events_file.events x.replays.answer) graph x.replays.is in
-    let same = one_outcome (started y.graph) events_file.events x.replays.answer y.replays.answer a y.replays.is in
-    (x.replays.has_status ∙ ap status_of same ∙ sym y.replays.has_status, x.replays.has_text ∙ ap text_of same ∙ sym y.replays.has_text)
+module _ (lists : OneListOfParts) (graphs : GraphOrFault) where
+  pub one_answer :
+      (query : Query) (text : List ℕ) (own other : Status) (written also : List ℕ) → AnswersQuery query text own written → AnswersQuery query text other also
+      → (own ≡ other) × (written ≡ also)
+  one_answer (queries.Graph call) text own other written also x y =
+      (x.0 ∙ sym y.0, x.1.2 ∙ ap graph_text (one_graph text call.top call.args x.1.0 y.1.0 x.1.1 y.1.1) ∙ sym y.1.2)
+  one_answer (queries.Change cut call target) text own other written also x y = (x.0 ∙ sym y.0, one_text lists graphs cut text call target written also x.1 y.1)
+  one_answer (queries.Replay events_file) text own other written also x y =
+      let graph = one_graph text events_file.name events_file.args x.graph y.graph x.starts.has_graph y.starts.has_graph in
+      let a = subst (λ g. IsReplayed (started g) events_file.events x.replays.answer) graph x.replays.is in
+      let same = one_outcome (started y.graph) events_file.events x.replays.answer y.replays.answer a y.replays.is in
+      (x.replays.has_status ∙ ap status_of same ∙ sym y.replays.has_status, x.replays.has_text ∙ ap text_of same ∙ sym y.replays.has_text)

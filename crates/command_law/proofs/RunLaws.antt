@@ -9,7 +9,7 @@ use Rattle.command_words.specs.declared.words.Command.TheVariants as commands
 use Rattle.command_words.specs.declared.words.TopCall.{TopCall}
 use Rattle.command_words.specs.BigFiles.{made_files, script_name}
 use Rattle.command_law.specs.Outcomes as outcomes
-use Rattle.command_law.specs.Outcomes.{ReadFrom, Flattened, Planned, Replayed, Upgraded, IsRunStatus, NothingRefuses, EndsAsGiven, NothingRefusesReport, Ends, NothingRefusesLines, EndsAsRun, Wants}
+use Rattle.command_law.specs.Outcomes.{ReadFrom, Flattened, Parted, Planned, Replayed, Upgraded, IsRunStatus, NothingRefuses, EndsAsGiven, NothingRefusesReport, Ends, NothingRefusesLines, EndsAsRun, Wants}
 use Rattle.command_law.specs.Runs.{Run, RunsWith, Runs}
 use Rattle.command_law.specs.declared.query.Query.{Query}
 use Rattle.command_law.proofs.Flattening as flattening
@@ -38,6 +38,11 @@ module _ (knows : Command → Bool) (seen : Run) (run : Runs knows seen) where
       (file : List ℕ) (call target : TopCall) → AsksOf knows seen.words (commands.Plan file call target) → seen.status ≡ status.Ok
       → Planned seen.files file call target seen.taken seen.taken'
   plans = flattening.plans knows seen (ran knows seen run)
+
+  pub cuts_up :
+      (file : List ℕ) (call target : TopCall) → AsksOf knows seen.words (commands.Parts file call target) → seen.status ≡ status.Ok
+      → Parted seen.files file call target seen.taken seen.taken'
+  cuts_up = flattening.cuts_up knows seen (ran knows seen run)
 
   pub replays :
       (file events : List ℕ) → AsksOf knows seen.words (commands.Replay file events) → seen.status ≡ status.Ok

@@ -15,14 +15,14 @@ use Rattle.darwin_lexer.specs.declared.token.Token.{Token}
 use Rattle.darwin_parser.proofs.UnitLaws as parsing
 use Rattle.darwin_parser.specs.Grammar.{IsUnit}
 use Rattle.darwin_parser.specs.Refusals.{IsUnexpected, IsTooNested}
-use Rattle.darwin_parser.specs.Tree.{Name, Tree}
+use Rattle.darwin_parser.specs.Tree.{Tree}
 use Rattle.darwin_types.specs.Faults.{HasFault, NoFault}
 use Rattle.darwin_types.specs.declared.error.TypeError.{TypeError}
 use Rattle.elaborator.specs.Elaboration.{HasNoFault, ElaboratesTo}
 use Rattle.elaborator.specs.Faults.{Faults}
 use Rattle.elaborator.specs.declared.error.ElabError.{ElabError}
 use Rattle.config_graph.specs.Cycles.{IsLinked, graph_wiring}
-use Rattle.config_graph.specs.Graph.{Graph, IsLinkWithin, begins_at, link_at, ports, requires_at, requires_of}
+use Rattle.config_graph.specs.Graph.{Graph, IsGraph, IsLinkWithin, begins_at, link_at, ports, requires_at, requires_of}
 use Rattle.config_graph.specs.GraphText.{graph_text}
 use Rattle.config_graph.proofs.LinkLaws.{begins_there}
 use Rattle.config_graph.specs.Sound.{Sound}
@@ -39,7 +39,10 @@ use Rattle.change_plan.specs.Refusals.{CanPlan, CreatesSoMany, IsRefusal}
 use Rattle.change_plan.specs.Room.{HasRoom, HasRoomFor, LacksRoomFor, RoomFault}
 use Rattle.change_plan.specs.Touched.{Frozen, IsTouched}
 use Rattle.change_plan.specs.declared.error.PlanError.{PlanError}
+use Rattle.change_plan.specs.declared.plan_data.Move.{Move}
 use Rattle.change_plan.specs.declared.plan_data.Plan.{Plan}
+use Rattle.change_parts_laws.specs.Parts.{AreParts}
+use Rattle.change_parts_laws.specs.declared.part.Part.{Part}
 use Rattle.change_plan.proofs.RoomLaws.{room_or_fault}
 use Rattle.quiesce_core.specs.Runs.{Steps}
 use Rattle.quiesce_core.specs.Settled.{Settled}
@@ -50,17 +53,21 @@ use Rattle.quiesce_replay.specs.Replay.{AreSettled, IsDenied}
 use Rattle.quiesce_replay.proofs.DenialLaws as replaying
 use Rattle.change_script.specs.declared.event_files.EventFile.{EventFile}
 use Rattle.command_answers.specs.Answers as answers_
+use Rattle.command_answers.specs.PartTexts.{parts_text}
 use Rattle.command_answers.specs.RefusalLines.{lex_words, expected_words, too_nested_words, check_words, elaborate_words, plan_words}
 use Rattle.command_answers.specs.declared.status.Status.{Status}
 use Rattle.command_answers.specs.declared.status.Status.TheVariants as status
 use Rattle.command_words.specs.declared.words.TopCall.{TopCall}
 use Rattle.command_law.specs.Descriptions.{IsChecked, IsTextRefusal, by_lexer, by_grammar, by_nesting, by_names, HasGraph, IsDescriptionRefusal, by_text, by_elaboration, place_at}
-use Rattle.command_law.specs.Plans.{Starts, RefusesStart, has_no_graph, is_full, HasPlan, RefusesPlan, starts_not, leads_nowhere, gets_full, nothing_made, made_of_graph}
-use Rattle.command_law.specs.Queries.{IsRefused, AnswersQuery}
+use Rattle.command_law.specs.Plans.{Starts, RefusesStart, has_no_graph, is_full, HasChange, RefusesPlan, starts_not, leads_nowhere, gets_full, nothing_made, made_of_graph}
+use Rattle.command_law.specs.Queries.{IsRefused, AnswersQuery, IsTextBy}
 use Rattle.command_law.specs.Replays.{IsReplayed, one_denied, all_steps, HasReplay}
+use Rattle.command_law.specs.declared.query.Cut.{Cut}
+use Rattle.command_law.specs.declared.query.Cut.TheVariants as cuts
 use Rattle.command_law.specs.declared.query.Query.{Query}
 use Rattle.command_law.specs.declared.query.Query.TheVariants as queries
 use Rattle.command_law.proofs.Existence.{selected, Those, those}
+use Rattle.command_law.proofs.GraphLaws.{GraphOrFault, has_bounds, is_sound}
 
 -- ---- room
 
@@ -131,6 +138,21 @@ planned old new sound none =
       },
     )
 
+-- a law of changes in parts, as it stands there
+abbrev pub SomeListOfParts : Type 0
+SomeListOfParts =
+    (old new : Graph) (moves : List Move) (made : Made) → IsGraph old → IsGraph new → Sound new → CanPlan old new moves made
+    → ¬ ((ps : List Part) → ¬ AreParts old new moves ps)
+
+-- the change is made by a plan, or in parts
+some_change :
+    SomeListOfParts → (cut : Cut) (old new : Graph) → IsGraph old → IsGraph new → Sound old → Sound new → CanPlan old new [] (made_of_graph old)
+    → ¬ ¬ ((written : List ℕ) × IsTextBy cut old new written)
+some_change lists cuts.Whole old new old_graph new_graph sound other can none =
+    planned old new sound (λ p. none (plan_text old new p.0, (p.0, p.1, refl)))
+some_change lists cuts.InParts old new old_graph new_graph sound other can none =
+    lists old new [] (made_of_graph old) old_graph new_graph other can (λ ps are. none (parts_text old ps, (ps, are, refl)))
+
 -- how much is to be created
 pub wanted : (old new : Graph) → ¬ ¬ ((nodes : ℕ) × (wanted_ports : ℕ) × CreatesSoMany old new nodes wanted_ports)
 wanted old new none = selected (IsGone new old) (range_with_len 0 (length new.nodes)) (λ created.
@@ -164,7 +186,7 @@ settled_nodes s none = those (Settled s) (length s.config.slots) (λ t.
 -- ---- descriptions
 
 -- Laws of the crates below, as they stand there.
-module _ (names : (t : Tree) → NoFault t ⊎ ((e : TypeError) × HasFault t e)) (graphs : (tree : Tree) (name : Name) (args : List ℤ) → NoFault tree → ((f : ElabError) × Faults tree name args f) ⊎ ((g : Graph) × HasNoFault tree name args × ElaboratesTo tree name args g × Sound g)) where
+module _ (names : (t : Tree) → NoFault t ⊎ ((e : TypeError) × HasFault t e)) (graphs : GraphOrFault) where
   pub text_or_refusal : (text : List ℕ) → ((tree : Tree) × IsChecked text tree) ⊎ ((words : List (List ℕ)) × IsTextRefusal text words)
   text_or_refusal text = by (lexing.always_one text)
     where
@@ -237,15 +259,20 @@ module _ (names : (t : Tree) → NoFault t ⊎ ((e : TypeError) × HasFault t e)
   starts_or_refusals text top args = elim (start_or_refusal text top args) [ inl w ↦ inl (w.0, w.1) | inr w ↦ inr w ]
 
   -- that neither an answer nor a refusal stands can't be
-  plans : (text : List ℕ) (call target : TopCall) → ((words : List (List ℕ)) → ¬ RefusesPlan text call target words) → ((written : List ℕ) → ¬ HasPlan text call target written) → ⊥
-  plans text call target refuses answers = from (start_or_refusal text call.top call.args)
+  refused_or_changed :
+      SomeListOfParts → (cut : Cut) (text : List ℕ) (call target : TopCall) → ((words : List (List ℕ)) → ¬ RefusesPlan text call target words)
+      → ((written : List ℕ) → ¬ HasChange (IsTextBy cut) text call target written) → ⊥
+  refused_or_changed lists cut text call target refuses answers = from (start_or_refusal text call.top call.args)
     where
       stepped :
           (old new : Graph) → Starts text call.top call.args old → Sound old → HasGraph text target.top target.args new
           → CanPlan old new [] (made_of_graph old) ⊎ ((e : PlanError) × IsRefusal old new [] (made_of_graph old) e) → ⊥
       stepped old new starts sound has (inl can) =
-          planned old new sound (λ p. answers (plan_text old new p.0)
-          (record { old = old; new = new; starts = starts; has_graph = has; has_steps = record { steps = p.0; has_room = can; is_plan = p.1; is_text = refl } }))
+          let old_graph = has_bounds graphs text call.top call.args old starts.has_graph in
+          let new_graph = has_bounds graphs text target.top target.args new has in
+          some_change lists cut old new old_graph new_graph sound (is_sound graphs text target.top target.args new has) can (λ w.
+          answers w.0
+          (record { old = old; new = new; starts = starts; has_graph = has; has_steps = record { has_room = can; is_text = w.1 } }))
       stepped old new starts sound has (inr (e, full)) = refuses (plan_words e) (gets_full old new e starts has full)
 
       to :
@@ -283,13 +310,12 @@ module _ (names : (t : Tree) → NoFault t ⊎ ((e : TypeError) × HasFault t e)
       from (inr (words, is)) = refuses words is
 
   pub refused_or_answered :
-      (query : Query) (text : List ℕ)
+      SomeListOfParts → (query : Query) (text : List ℕ)
       → ¬ (((words : List (List ℕ)) → ¬ IsRefused query text words) × ((own : Status) (written : List ℕ) → ¬ AnswersQuery query text own written))
-  refused_or_answered (queries.Graph call) text (refuses, answers) = by (graphs_or_refusals text call.top call.args)
+  refused_or_answered lists (queries.Graph call) text (refuses, answers) = by (graphs_or_refusals text call.top call.args)
     where
       by : ((g : Graph) × HasGraph text call.top call.args g) ⊎ ((words : List (List ℕ)) × IsDescriptionRefusal text call.top call.args words) → ⊥
       by (inl (g, has)) = answers status.Ok (graph_text g) (refl, (g, has, refl))
       by (inr (words, is)) = refuses words is
-  refused_or_answered (queries.Plan call target) text (refuses, answers) =
-      plans text call target refuses (λ written has. answers status.Ok written (refl, has))
-  refused_or_answered (queries.Replay events_file) text (refuses, answers) = replays text events_file refuses answers
+  refused_or_answered lists (queries.Change cut call target) text (refuses, answers) = refused_or_changed lists cut text call target refuses (λ written has. answers status.Ok written (refl, has))
+  refused_or_answered lists (queries.Replay events_file) text (refuses, answers) = replays text events_file refuses answers

@@ -10,7 +10,7 @@ use Rattle.command_answers.specs.declared.status.Status.TheVariants as status
 use Rattle.command_law.specs.Replays.{IsReplayed, one_denied, all_steps, Replays}
 use Rattle.command_law.specs.declared.query.Query.{Query}
 use Rattle.command_law.specs.declared.query.Query.TheVariants as queries
-use Rattle.command_law.specs.Queries.{IsRefused, AnswersQuery}
+use Rattle.command_law.specs.Queries.{IsRefused, AnswersQuery, IsTextBy}
 use Rattle.command_law.proofs.Readings as readings
 use Rattle.command_law.proofs.Planning as planning
 
@@ -24,14 +24,14 @@ replays_status s events own written r = by r.answer r.is r.has_status
 
 pub gives_status : (query : Query) (text : List ℕ) (own : Status) (written : List ℕ) → AnswersQuery query text own written → (own ≡ status.Ok) ⊎ (own ≡ status.Denied)
 gives_status (queries.Graph call) text own written gives = inl gives.0
-gives_status (queries.Plan call target) text own written gives = inl gives.0
+gives_status (queries.Change cut call target) text own written gives = inl gives.0
 gives_status (queries.Replay events_file) text own written gives = replays_status (started gives.graph) events_file.events own written gives.replays
 
 pub never_both :
     (query : Query) (text : List ℕ) (own : Status) (written : List ℕ) (words : List (List ℕ))
     → AnswersQuery query text own written → IsRefused query text words → ⊥
 never_both (queries.Graph call) text own written words gives refuses = readings.never_both text call.top call.args gives.1.0 words gives.1.1 refuses
-never_both (queries.Plan call target) text own written words gives refuses = planning.never_both text call target written words gives.1 refuses
+never_both (queries.Change cut call target) text own written words gives refuses = planning.never_both (IsTextBy cut) text call target written words gives.1 refuses
 never_both (queries.Replay events_file) text own written words gives refuses =
     planning.never_both_start text events_file.name events_file.args gives.graph words gives.starts refuses
 
@@ -50,7 +50,7 @@ pub gives_one :
     (query : Query) (text : List ℕ) (own other : Status) (written also : List ℕ)
     → AnswersQuery query text own written → AnswersQuery query text other also → own ≡ other
 gives_one (queries.Graph call) text own other written also x y = x.0 ∙ sym y.0
-gives_one (queries.Plan call target) text own other written also x y = x.0 ∙ sym y.0
+gives_one (queries.Change cut call target) text own other written also x y = x.0 ∙ sym y.0
 gives_one (queries.Replay events_file) text own other written also x y =
     replays_one (started y.graph) events_file.events own other written also
     (subst (λ g. Replays (started g) events_file.events own written)

@@ -16,6 +16,7 @@ use Rattle.command_answers.specs.Answers.{Answer, refusal, script, help, version
 use Rattle.command_answers.specs.RefusalLines.{report_words, script_words}
 use Rattle.command_words.specs.declared.words.Command.{Command}
 use Rattle.command_words.specs.declared.words.Command.TheVariants as commands
+use Rattle.command_law.specs.declared.query.Cut.TheVariants as cuts
 use Rattle.command_law.specs.declared.query.Query.{Query}
 use Rattle.command_law.specs.declared.query.Query.TheVariants as queries
 use Rattle.command_law.specs.Courses.{FetchCourse, SaysAlone, AfterFetch, After}
@@ -26,14 +27,14 @@ use Rattle.command_law.specs.Scripts.{lines_of_script}
 
 abbrev pub aim_of : Query → Aim
 aim_of (queries.Graph call) = drawing
-aim_of (queries.Plan call target) = planning
+aim_of (queries.Change cut call target) = planning cut
 aim_of (queries.Replay events) = replaying events.events
 
--- Of a graph the component is drawn. For a plan a run starts with the first component and changes to the second,
+-- Of a graph the component is drawn. For a change a run starts with the first component and changes to the second,
 -- without moves and without waiting; and events begin with a start.
 abbrev pub calls_of : Query → List RunLine
 calls_of (queries.Graph call) = calls draws call.top call.args ∷ []
-calls_of (queries.Plan call target) =
+calls_of (queries.Change cut call target) =
     calls starts call.top call.args ∷ calls (changes 0 []) target.top target.args ∷ []
 calls_of (queries.Replay events) = calls starts events.name events.args ∷ []
 
@@ -88,7 +89,8 @@ abbrev pub course_of : Command → FetchCourse
 course_of commands.Help = SaysAlone help
 course_of commands.Version = SaysAlone version
 course_of (commands.Flat file call) = course_of_query file (queries.Graph call)
-course_of (commands.Plan file call target) = course_of_query file (queries.Plan call target)
+course_of (commands.Plan file call target) = course_of_query file (queries.Change cuts.Whole call target)
+course_of (commands.Parts file call target) = course_of_query file (queries.Change cuts.InParts call target)
 course_of (commands.Replay file name) =
     let refuse = λ (words : List (List ℕ)). refusal (script name words) in
     AfterFetch name file_limit refuse

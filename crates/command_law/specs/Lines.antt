@@ -15,16 +15,20 @@ use Rattle.change_plan.specs.Room.{HasRoomFor, LacksRoomFor}
 use Rattle.change_plan.specs.declared.error.PlanError.{PlanError}
 use Rattle.change_plan.specs.declared.plan_data.Move.{Move}
 use Rattle.change_plan.specs.declared.plan_data.Plan.{Plan}
+use Rattle.change_parts_laws.specs.Parts.{AreParts}
+use Rattle.change_parts_laws.specs.declared.part.Part.{Part}
 use Rattle.change_law.specs.Scripts.{more_made}
 use Rattle.change_law.specs.Statements.{Statement, start, change}
 use Rattle.report_types.specs.declared.report.Report.{Report}
-use Rattle.command_answers.specs.Answers.{Answer, refusal, description, graph, plan, ran}
+use Rattle.command_answers.specs.Answers.{Answer, refusal, description, graph, parts, plan, ran}
 use Rattle.command_answers.specs.RefusalLines.{elaborate_words, plan_words}
 use Rattle.command_law.specs.Courses.{FetchCourse, SaysAlone, AfterFetch, After, Unrefused}
 use Rattle.command_law.specs.Descriptions.{IsChecked, IsGraphOfCall, IsTextRefusal}
 use Rattle.command_law.specs.Fetches.{file_limit}
 use Rattle.command_law.specs.Replays.{IsReplayed}
 use Rattle.command_law.specs.Schedules.{Schedule, IsReportBy}
+use Rattle.command_law.specs.declared.query.Cut.{Cut}
+use Rattle.command_law.specs.declared.query.Cut.TheVariants as cuts
 
 -- what is done with the graph of a component
 pub data GraphUse : Type 0 where
@@ -112,19 +116,23 @@ pub data IsCallRefusal (p : Progress) (deed : GraphUse) (name : Name) (args : Li
 pub data Aim : Type 0 where
   -- the text of the last graph
   drawing : Aim
-  -- that of the plan to the last graph, without moves
-  planning : Aim
+  -- that of the change to the last graph, without moves
+  planning : Cut → Aim
   -- that of what events come to from a start with it
   replaying : List Event → Aim
   -- the report of a run of all that is to be done
   running : Schedule → Aim
 
+-- the answer that is the change from one graph to another, in one plan or in parts
+abbrev pub IsChangeOf : Cut → Graph → Graph → Answer → Type 0
+IsChangeOf cuts.Whole old new answer = (steps : Plan) × IsPlanOf old new [] steps × (answer ≡ plan old new steps)
+IsChangeOf cuts.InParts old new answer = (ps : List Part) × AreParts old new [] ps × (answer ≡ parts old ps)
+
 -- the answer to what is wanted, from where the lines lead
 abbrev pub Concludes : Aim → Progress → Answer → Type 0
 Concludes drawing p answer = (g : Graph) × (earlier : List Graph) × (p.graphs ≡ g ∷ earlier) × (answer ≡ graph g)
-Concludes planning p answer =
-    (old new : Graph) × (earlier : List Graph) × (p.graphs ≡ new ∷ old ∷ earlier)
-    × ((steps : Plan) × IsPlanOf old new [] steps × (answer ≡ plan old new steps))
+Concludes (planning cut) p answer =
+    (old new : Graph) × (earlier : List Graph) × (p.graphs ≡ new ∷ old ∷ earlier) × IsChangeOf cut old new answer
 Concludes (replaying events) p answer =
     (g : Graph) × (earlier : List Graph) × (p.graphs ≡ g ∷ earlier) × IsReplayed (started g) events answer
 Concludes (running schedule) p answer = (r : Report) × IsReportBy schedule p.statements r × (answer ≡ ran r)

@@ -26,8 +26,9 @@ use Rattle.report_texts.specs.declared.error.ReportFault.{ReportFault}
 use Rattle.command_answers.specs.RefusalLines.{description_line, report_words, script_line, script_words}
 use Rattle.command_law.specs.Commands.{TellsReport}
 use Rattle.command_law.specs.Descriptions.{HasGraph}
-use Rattle.command_law.specs.Plans.{HasPlan}
+use Rattle.command_law.specs.Plans.{HasChange, IsPartsText, IsPlanText}
 use Rattle.command_law.specs.Replays.{HasReplay}
+use Rattle.command_law.specs.declared.query.Cut.TheVariants as cuts
 use Rattle.command_law.specs.declared.query.Query.{Query}
 use Rattle.command_law.specs.declared.query.Query.TheVariants as queries
 use Rattle.command_law.specs.Queries.{IsRefused, AnswersQuery}
@@ -49,6 +50,7 @@ MentionsFile Holds commands.Help name = ⊥
 MentionsFile Holds commands.Version name = ⊥
 MentionsFile Holds (commands.Flat file call) name = name ≡ file
 MentionsFile Holds (commands.Plan file call target) name = name ≡ file
+MentionsFile Holds (commands.Parts file call target) name = name ≡ file
 MentionsFile Holds (commands.Replay file events) name = (name ≡ file) ⊎ (name ≡ events)
 MentionsFile Holds (commands.Upgrade file) name = name ≡ file
 MentionsFile Holds (commands.Step script) name =
@@ -174,7 +176,8 @@ NothingRefusesLines files file =
 -- The words ask for this of the description in a file, where the shelf tells of events what the file of events holds.
 abbrev pub Wants : (Command → Bool) → Option Files → List (List ℕ) → List ℕ → Query → Type 0
 Wants knows files words file (queries.Graph call) = AsksOf knows words (commands.Flat file call)
-Wants knows files words file (queries.Plan call target) = AsksOf knows words (commands.Plan file call target)
+Wants knows files words file (queries.Change cuts.Whole call target) = AsksOf knows words (commands.Plan file call target)
+Wants knows files words file (queries.Change cuts.InParts call target) = AsksOf knows words (commands.Parts file call target)
 Wants knows files words file (queries.Replay events_file) =
     (name bytes : List ℕ) × AsksOf knows words (commands.Replay file name) × HoldsFile files name bytes
     × (length bytes ≤ file_limit) × IsEventFile bytes events_file
@@ -189,14 +192,23 @@ pub record Flattened (files : Option Files) (file : List ℕ) (call : TopCall) (
   pub has_graph : HasGraph text call.top call.args graph
   pub written : taken' ≡ with_bytes taken (graph_text graph)
 
--- The file holds a description that has a plan from the first component to the second, and its text was written.
-pub record Planned (files : Option Files) (file : List ℕ) (call target : TopCall) (taken taken' : Option (List ℕ)) : Type 0 where
+-- The file holds a description that has a change from the first component to the second, and a text of it was written.
+pub record WroteChange (IsText : Graph → Graph → List ℕ → Type 0) (files : Option Files) (file : List ℕ) (call target : TopCall)
+    (taken taken' : Option (List ℕ)) : Type 0 where
   pub text : List ℕ
-  pub plan : List ℕ
+  pub change : List ℕ
   pub told : HoldsFile files file text
   pub within : length text ≤ file_limit
-  pub has_plan : HasPlan text call target plan
-  pub written : taken' ≡ with_bytes taken plan
+  pub has_change : HasChange IsText text call target change
+  pub written : taken' ≡ with_bytes taken change
+
+-- the text of its plan
+abbrev pub Planned : Option Files → List ℕ → TopCall → TopCall → Option (List ℕ) → Option (List ℕ) → Type 0
+Planned = WroteChange IsPlanText
+
+-- the text of its parts
+abbrev pub Parted : Option Files → List ℕ → TopCall → TopCall → Option (List ℕ) → Option (List ℕ) → Type 0
+Parted = WroteChange IsPartsText
 
 -- The file of events is one, and what its events come to over the description was written, with this status.
 pub record Replayed (files : Option Files) (file events : List ℕ) (own : Status) (taken taken' : Option (List ℕ)) : Type 0 where

@@ -1,6 +1,6 @@
 -- To be believed (docs/definitions.md).
--- Plans between two components of one description. A run that starts with the first has to keep the limits of a run;
--- the plan to the second then follows, with what the start made. No state is moved.
+-- Changes between two components of one description. A run that starts with the first has to keep the limits of a run;
+-- the change to the second then follows, with what the start made. No state is moved.
 use Rattle.std.specs.Prelude.{◌≡◌, ℕ, ℤ, List, [], length}
 use Rattle.config_graph.specs.Graph.{Graph, ports}
 use Rattle.config_graph.specs.declared.node.Made.{Made}
@@ -11,8 +11,11 @@ use Rattle.change_plan.specs.Refusals.{CanPlan, IsRefusal}
 use Rattle.change_plan.specs.Room.{HasRoomFor, LacksRoomFor}
 use Rattle.change_plan.specs.declared.error.PlanError.{PlanError}
 use Rattle.change_plan.specs.declared.plan_data.Plan.{Plan}
+use Rattle.change_parts_laws.specs.Parts.{AreParts}
+use Rattle.change_parts_laws.specs.declared.part.Part.{Part}
 use Rattle.command_words.specs.declared.words.TopCall.{TopCall}
 use Rattle.command_law.specs.Descriptions.{HasGraph, IsDescriptionRefusal}
+use Rattle.command_answers.specs.PartTexts.{parts_text}
 use Rattle.command_answers.specs.RefusalLines.{plan_words}
 
 -- what was made before a start
@@ -35,22 +38,29 @@ pub data RefusesStart (text top : List ℕ) (args : List ℤ) : List (List ℕ) 
       (graph : Graph) (e : PlanError) → HasGraph text top args graph → LacksRoomFor nothing_made graph e
       → RefusesStart text top args (plan_words e)
 
--- the text of the plan from one graph to another, where a run has started with the first
-pub record HasSteps (old new : Graph) (written : List ℕ) : Type 0 where
-  pub steps : Plan
-  pub has_room : CanPlan old new [] (made_of_graph old)
-  pub is_plan : IsPlanOf old new [] steps
-  pub is_text : written ≡ plan_text old new steps
+-- the text of the plan from one graph to another
+abbrev pub IsPlanText : Graph → Graph → List ℕ → Type 0
+IsPlanText old new written = (steps : Plan) × IsPlanOf old new [] steps × (written ≡ plan_text old new steps)
 
--- the text of the plan from the graph of one component to that of another
-pub record HasPlan (text : List ℕ) (call target : TopCall) (written : List ℕ) : Type 0 where
+-- the text of the parts of the same change
+abbrev pub IsPartsText : Graph → Graph → List ℕ → Type 0
+IsPartsText old new written = (ps : List Part) × AreParts old new [] ps × (written ≡ parts_text old ps)
+
+-- such a text, where a run has started with the first
+pub record HasSteps (IsText : Graph → Graph → List ℕ → Type 0) (old new : Graph) (written : List ℕ) : Type 0 where
+  pub has_room : CanPlan old new [] (made_of_graph old)
+  pub is_text : IsText old new written
+
+-- the same from the graph of one component to that of another
+pub record HasChange (IsText : Graph → Graph → List ℕ → Type 0) (text : List ℕ) (call target : TopCall) (written : List ℕ)
+    : Type 0 where
   pub old : Graph
   pub new : Graph
   pub starts : Starts text call.top call.args old
   pub has_graph : HasGraph text target.top target.args new
-  pub has_steps : HasSteps old new written
+  pub has_steps : HasSteps IsText old new written
 
--- the words of why there is none
+-- the words of why there is no plan, and so no parts
 pub data RefusesPlan (text : List ℕ) (call target : TopCall) : List (List ℕ) → Type 0 where
   starts_not : (words : List (List ℕ)) → RefusesStart text call.top call.args words → RefusesPlan text call target words
   leads_nowhere :

@@ -3,23 +3,31 @@
 use Rattle.std.specs.Prelude.{◌≡◌, ℕ, List}
 use Rattle.config_graph.specs.Graph.{Graph}
 use Rattle.config_graph.specs.GraphText.{graph_text}
+use Rattle.command_law.specs.declared.query.Cut.{Cut}
+use Rattle.command_law.specs.declared.query.Cut.TheVariants as cuts
 use Rattle.command_law.specs.declared.query.Query.{Query}
 use Rattle.command_law.specs.declared.query.Query.TheVariants as queries
 use Rattle.command_answers.specs.declared.status.Status.{Status}
 use Rattle.command_answers.specs.declared.status.Status.TheVariants as status
 use Rattle.command_law.specs.Descriptions.{HasGraph, IsDescriptionRefusal}
-use Rattle.command_law.specs.Plans.{HasPlan, RefusesPlan, RefusesStart}
+use Rattle.command_law.specs.Plans.{HasChange, IsPartsText, IsPlanText, RefusesPlan, RefusesStart}
 use Rattle.command_law.specs.Replays.{HasReplay}
+
+-- the text of a change, by how it is cut
+abbrev pub IsTextBy : Cut → Graph → Graph → List ℕ → Type 0
+IsTextBy cuts.Whole = IsPlanText
+IsTextBy cuts.InParts = IsPartsText
 
 -- these words say why the bytes are refused
 abbrev pub IsRefused : Query → List ℕ → List (List ℕ) → Type 0
 IsRefused (queries.Graph call) text words = IsDescriptionRefusal text call.top call.args words
-IsRefused (queries.Plan call target) text words = RefusesPlan text call target words
+IsRefused (queries.Change cut call target) text words = RefusesPlan text call target words
 IsRefused (queries.Replay events_file) text words = RefusesStart text events_file.name events_file.args words
 
 -- the bytes give this status and text
 abbrev pub AnswersQuery : Query → List ℕ → Status → List ℕ → Type 0
 AnswersQuery (queries.Graph call) text own written = (own ≡ status.Ok)
     × ((graph : Graph) × HasGraph text call.top call.args graph × (written ≡ graph_text graph))
-AnswersQuery (queries.Plan call target) text own written = (own ≡ status.Ok) × HasPlan text call target written
+AnswersQuery (queries.Change cut call target) text own written =
+    (own ≡ status.Ok) × HasChange (IsTextBy cut) text call target written
 AnswersQuery (queries.Replay events_file) text own written = HasReplay text events_file own written

@@ -39,7 +39,7 @@ ghost use Rattle.command_law.specs.Leads.{LeadBy, ScriptLeads, falls_short};
 ghost use Rattle.command_law.specs.OneFile.{DescriptionAnswers, EventsAnswers, ReportAnswers, ScriptAnswers};
 ghost use Rattle.command_law.specs.declared.fetched.Fetched.{Fetched};
 ghost use Rattle.command_law.specs.declared.fetched.Fetched.TheVariants.{Held};
-ghost use Rattle.command_law.specs.Outcomes.{HoldsFile, NamesFile, Ends, WroteFront, Flattened, Planned, Replayed, RefusesDescription, RefusesFile, MustRefuse, MustRefuseEvents, EndsAsRun, IsRunStatus, MustRefuseLine, MustRefuseScript, NothingRefuses, NothingRefusesLines, Ran, RanShowing, SummedUp, EndsAsGiven, MustRefuseReport, NothingRefusesReport, ReadFrom, Upgraded, Wants};
+ghost use Rattle.command_law.specs.Outcomes.{HoldsFile, NamesFile, Ends, WroteFront, Flattened, Parted, Planned, Replayed, RefusesDescription, RefusesFile, MustRefuse, MustRefuseEvents, EndsAsRun, IsRunStatus, MustRefuseLine, MustRefuseScript, NothingRefuses, NothingRefusesLines, Ran, RanShowing, SummedUp, EndsAsGiven, MustRefuseReport, NothingRefusesReport, ReadFrom, Upgraded, Wants};
 ghost use Rattle.command_words.specs.BigFiles.{made_files, script};
 ghost use Rattle.command_law.specs.Plans.{RefusesStart, Starts};
 ghost use Rattle.command_law.specs.Queries.{AnswersQuery, IsRefused};
@@ -50,6 +50,7 @@ ghost use Rattle.command_law.specs.Ways.{Elaborates, LeadTo};
 ghost use Rattle.command_law.specs.declared.query.Query.{Query};
 ghost use Rattle.command_law.specs.declared.query.Query.TheVariants as queries;
 
+use change_parts_laws::{there_are_parts, there_is_one_list_of_parts};
 use darwin_types::a_fault_or_none;
 use elaborator::a_graph_or_a_fault;
 use report_texts::{a_text_tells_its_report, one_report_or_one_fault};
@@ -133,8 +134,8 @@ pub fn own_texts_are_written()
         → Ends r.status Status.Ok × (r.status ≡ Status.Ok → r.taken' ≡ with_bytes r.taken version_text) }
 {}
 
-/// A law of runs: Ok comes with the text of the graph, of the plan, of what events leave open and settled, or of the
-/// report.
+/// A law of runs: Ok comes with the text of the graph, of the plan, of its parts, of what events leave open and
+/// settled, or of the report.
 pub fn what_is_asked_for_is_written()
     ensures flattened { (knows : Command → Bool) (r : Run) → Runs knows r
         → (file : List ℕ) (call : TopCall) → AsksOf knows r.words (commands.Flat file call) → r.status ≡ Status.Ok
@@ -142,6 +143,9 @@ pub fn what_is_asked_for_is_written()
     ensures planned { (knows : Command → Bool) (r : Run) → Runs knows r
         → (file : List ℕ) (call target : TopCall) → AsksOf knows r.words (commands.Plan file call target)
         → r.status ≡ Status.Ok → Planned r.files file call target r.taken r.taken' }
+    ensures parted { (knows : Command → Bool) (r : Run) → Runs knows r
+        → (file : List ℕ) (call target : TopCall) → AsksOf knows r.words (commands.Parts file call target)
+        → r.status ≡ Status.Ok → Parted r.files file call target r.taken r.taken' }
     ensures replayed { (knows : Command → Bool) (r : Run) → Runs knows r
         → (file events : List ℕ) → AsksOf knows r.words (commands.Replay file events) → r.status ≡ Status.Ok
         → Replayed r.files file events Status.Ok r.taken r.taken' }
@@ -318,8 +322,10 @@ pub fn what_bytes_give_is_one()
     ensures no_fault_beside { (bytes : List ℕ) (r : Report) (fault : ReportFault) → TellsReport bytes r
         → ¬ IsReportFault bytes fault }
 {
+    a_graph_or_a_fault();
     a_text_tells_its_report();
     one_report_or_one_fault();
+    there_is_one_list_of_parts();
 }
 
 /// A law: nothing hides behind want of memory. Of each text a graph of a component stands or a refusal, and a start
@@ -339,4 +345,5 @@ pub fn what_is_wanted_is_refused_or_answered()
     a_fault_or_none();
     a_graph_or_a_fault();
     one_report_or_one_fault();
+    there_are_parts();
 }

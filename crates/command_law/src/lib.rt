@@ -17,4 +17,4 @@ pub use laws::{
     what_is_not_refused_is_answered, what_is_wanted_is_refused_or_answered,
     write_faults_are_failed_puts,
 };
-pub use query::Query;
+pub use query::{Cut, Query};

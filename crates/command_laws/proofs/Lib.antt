@@ -1,5 +1,4 @@
 pub mod Draining
-pub mod Few
 pub mod Leading
 pub mod OneRun
 pub mod Premises

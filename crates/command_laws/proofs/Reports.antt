@@ -18,7 +18,7 @@ use Rattle.change_round_laws.specs.SoundStatements.{AreSound, IsSoundGraph}
 use Rattle.change_round_laws.proofs.StatementLaws.{sound_list}
 use Rattle.command_law.specs.RunReports.{IsReportOf}
 use Rattle.command_law.specs.Ways.{Elaborates}
-use Rattle.command_laws.proofs.Few.{is_graph}
+use Rattle.command_law.proofs.GraphLaws.{is_graph}
 
 -- Laws of the crates below, as they stand there.
 module _ (graphs : (tree : Tree) (name : Name) (args : List ℤ) → NoFault tree → ((e : ElabError) × Faults tree name args e) ⊎ ((g : Graph) × HasNoFault tree name args × ElaboratesTo tree name args g × Sound g)) (one_graph : (tree : Tree) (name : Name) (args : List ℤ) (g h : Graph) → ElaboratesTo tree name args g → ElaboratesTo tree name args h → g ≡ h) (Holds : List ℕ → List ℕ → Type 0) where

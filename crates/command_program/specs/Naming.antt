@@ -11,6 +11,7 @@ NamesNoFile commands.Help = ⊤
 NamesNoFile commands.Version = ⊤
 NamesNoFile (commands.Flat file call) = ⊥
 NamesNoFile (commands.Plan file call target) = ⊥
+NamesNoFile (commands.Parts file call target) = ⊥
 NamesNoFile (commands.Replay file events) = ⊥
 NamesNoFile (commands.Upgrade file) = ⊥
 NamesNoFile (commands.Step script) = ⊥

@@ -22,7 +22,7 @@ use command_files::{
     Answer, FILE_LIMIT, Prepared, REPORT_LIMIT, Stop, answer_run, answer_summary, describe,
     fetch_file, prepare, read_events, upgrade,
 };
-use command_law::Query;
+use command_law::{Cut, Query};
 use command_words::{Command, MadeFiles, SCRIPT_NAME, read_words};
 use config_graph::NoMemory;
 use node_table::NodeTable;
@@ -72,7 +72,21 @@ fn run_command<H: Shelf, K: Sink>(
         ),
         Command::Plan { file, call, target } => finish(
             out,
-            answer_description(alloc, shelf, file.as_str(), &Query::Plan(call, target)),
+            answer_description(
+                alloc,
+                shelf,
+                file.as_str(),
+                &Query::Change(Cut::Whole, call, target),
+            ),
+        ),
+        Command::Parts { file, call, target } => finish(
+            out,
+            answer_description(
+                alloc,
+                shelf,
+                file.as_str(),
+                &Query::Change(Cut::InParts, call, target),
+            ),
         ),
         Command::Replay { file, events } => finish(
             out,

@@ -8,7 +8,7 @@ ghost use Rattle.command_words.specs.CommandLine.{Asks};
 ghost use Rattle.command_law.specs.Known.{on_one_thread};
 ghost use Rattle.command_words.specs.declared.words.Command.TheVariants as commands;
 ghost use Rattle.command_words.specs.declared.words.TopCall.{TopCall};
-ghost use Rattle.command_law.specs.Outcomes.{Flattened, Planned, Replayed, Upgraded, NothingRefuses, EndsAsGiven, Wants, Ends, EndsAsRun, IsRunStatus, NothingRefusesLines, Ran, SummedUp, NothingRefusesReport};
+ghost use Rattle.command_law.specs.Outcomes.{Flattened, Parted, Planned, Replayed, Upgraded, NothingRefuses, EndsAsGiven, Wants, Ends, EndsAsRun, IsRunStatus, NothingRefusesLines, Ran, SummedUp, NothingRefusesReport};
 ghost use Rattle.command_law.specs.Runs.{Runs, run_of};
 ghost use Rattle.command_law.specs.declared.query.Query.{Query};
 ghost use Rattle.command_program.specs.Naming.{AskForNoFile};
@@ -33,13 +33,16 @@ pub fn still<H: Shelf, K: Sink>(
         shelf.old shelf.new out.old out.new result) }
     // No fetch changes the files.
     ensures kept { H.files shelf.new ≡ H.files shelf.old }
-    // Of `flat` the text of the graph, of `plan` that of the plan, of `replay` that of what is open and settled, and of
-    // `upgrade` that of the report.
+    // Of `flat` the text of the graph, of `plan` that of the plan, of `parts` that of the parts, of `replay` that of
+    // what is open and settled, and of `upgrade` that of the report.
     ensures flattened { (file : List ℕ) (call : TopCall) → Asks (map string_bytes words.now) (commands.Flat file call)
         → result ≡ Status.Ok → Flattened (H.files shelf.old) file call (K.taken out.old) (K.taken out.new) }
     ensures planned { (file : List ℕ) (call target : TopCall)
         → Asks (map string_bytes words.now) (commands.Plan file call target) → result ≡ Status.Ok
         → Planned (H.files shelf.old) file call target (K.taken out.old) (K.taken out.new) }
+    ensures parted { (file : List ℕ) (call target : TopCall)
+        → Asks (map string_bytes words.now) (commands.Parts file call target) → result ≡ Status.Ok
+        → Parted (H.files shelf.old) file call target (K.taken out.old) (K.taken out.new) }
     ensures replayed { (file events : List ℕ) → Asks (map string_bytes words.now) (commands.Replay file events)
         → result ≡ Status.Ok → Replayed (H.files shelf.old) file events Status.Ok (K.taken out.old) (K.taken out.new) }
     ensures upgraded { (file : List ℕ) → Asks (map string_bytes words.now) (commands.Upgrade file) → result ≡ Status.Ok

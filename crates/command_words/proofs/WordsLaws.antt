@@ -1,12 +1,12 @@
 -- Words ask for one command at most. A command is its form and what it carries; the first word tells the form, and the
 -- words behind it what is carried.
-use Rattle.std.proofs.Common.{◌≡◌, ◌∙◌, ℕ, List, [], ◌∷◌, ◌++◌, Option, Some, None, bytes_eq, codes, if◌then◌else◌, refl, sym, ap, subst}
+use Rattle.std.proofs.Common.{◌≡◌, ◌∙◌, ℕ, List, [], ◌∷◌, Option, Some, None, bytes_eq, codes, if◌then◌else◌, refl, sym, ap, subst}
 use Rattle.std.proofs.lemmas.Option.{same_Some}
 use Rattle.std.specs.Str.Parse.{digits_value}
 use Rattle.command_words.specs.declared.words.Command.{Command}
 use Rattle.command_words.specs.declared.words.Command.TheVariants as commands
 use Rattle.command_words.specs.declared.words.TopCall.{TopCall}
-use Rattle.command_words.specs.CommandLine.{keyword, IsBody, Asks}
+use Rattle.command_words.specs.CommandLine.{keyword, IsBody, IsChange, Asks}
 use Rattle.command_words.proofs.Asking.{head_is, tail_is, one_call, call_has_parts, one_parting}
 
 pub data Form : Type 0 where
@@ -14,6 +14,7 @@ pub data Form : Type 0 where
   version : Form
   flat : Form
   plan : Form
+  parts : Form
   replay : Form
   upgrade : Form
   step : Form
@@ -24,6 +25,7 @@ form commands.Help = help
 form commands.Version = version
 form (commands.Flat file call) = flat
 form (commands.Plan file call target) = plan
+form (commands.Parts file call target) = parts
 form (commands.Replay file events) = replay
 form (commands.Upgrade file) = upgrade
 form (commands.Step script) = step
@@ -34,6 +36,7 @@ Carried help = Unit {0}
 Carried version = Unit {0}
 Carried flat = List ℕ × TopCall
 Carried plan = List ℕ × TopCall × TopCall
+Carried parts = List ℕ × TopCall × TopCall
 Carried replay = List ℕ × List ℕ
 Carried upgrade = List ℕ
 Carried step = List ℕ
@@ -44,6 +47,7 @@ command help p = commands.Help
 command version p = commands.Version
 command flat p = commands.Flat p.0 p.1
 command plan p = commands.Plan p.0 p.1 p.2
+command parts p = commands.Parts p.0 p.1 p.2
 command replay p = commands.Replay p.0 p.1
 command upgrade p = commands.Upgrade p
 command step p = commands.Step p
@@ -54,6 +58,7 @@ carried commands.Help = tt
 carried commands.Version = tt
 carried (commands.Flat file call) = (file, call)
 carried (commands.Plan file call target) = (file, call, target)
+carried (commands.Parts file call target) = (file, call, target)
 carried (commands.Replay file events) = (file, events)
 carried (commands.Upgrade file) = file
 carried (commands.Step script) = script
@@ -64,6 +69,7 @@ is_command commands.Help = refl
 is_command commands.Version = refl
 is_command (commands.Flat file call) = refl
 is_command (commands.Plan file call target) = refl
+is_command (commands.Parts file call target) = refl
 is_command (commands.Replay file events) = refl
 is_command (commands.Upgrade file) = refl
 is_command (commands.Step script) = refl
@@ -76,6 +82,7 @@ form_of word =
     if bytes_eq word (codes "--version") then Some version else
     if bytes_eq word (codes "flat") then Some flat else
     if bytes_eq word (codes "plan") then Some plan else
+    if bytes_eq word (codes "parts") then Some parts else
     if bytes_eq word (codes "replay") then Some replay else
     if bytes_eq word (codes "upgrade") then Some upgrade else
     if bytes_eq word (codes "step") then Some step else
@@ -87,6 +94,7 @@ form_is commands.Help = refl
 form_is commands.Version = refl
 form_is (commands.Flat file call) = refl
 form_is (commands.Plan file call target) = refl
+form_is (commands.Parts file call target) = refl
 form_is (commands.Replay file events) = refl
 form_is (commands.Upgrade file) = refl
 form_is (commands.Step script) = refl
@@ -100,12 +108,23 @@ pub plan_word : form_of (codes "plan") ≡ Some plan
 unfolding form_of
 plan_word = refl
 
+pub parts_word : form_of (codes "parts") ≡ Some parts
+unfolding form_of
+parts_word = refl
+
 pub same_form : (c d : Command) → keyword c ≡ keyword d → form c ≡ form d
 same_form c d is = same_Some (form c) (form d) (sym (form_is c) ∙ ap form_of is ∙ form_is d)
 
 -- a command of a form carries something
 pub of_form : (f : Form) (c : Command) → form c ≡ f → (p : Carried f) × (c ≡ command f p)
 of_form f c is = subst (λ g. (p : Carried g) × (c ≡ command g p)) is (carried c, is_command c)
+
+-- the words of a change tell its two calls
+one_change :
+    (xs ys : List (List ℕ)) (t v u w : TopCall) → IsChange xs t v → IsChange ys u w → xs ≡ ys → (t ≡ u) × (v ≡ w)
+one_change xs ys t v u w x y same =
+    let split = one_parting x.0 y.0 x.1 y.1 (call_has_parts x.0 t x.3) (call_has_parts y.0 u y.3) (sym x.2 ∙ same ∙ y.2) in
+    (one_call x.0 y.0 t u x.3 y.3 split.0, one_call x.1 y.1 v w x.4 y.4 split.1)
 
 -- the words behind the first tell it
 one_body : (f : Form) (p q : Carried f) (body : List (List ℕ)) → IsBody (command f p) body → IsBody (command f q) body → command f p ≡ command f q
@@ -118,12 +137,18 @@ one_body flat (f, t) (g, u) body x y =
     same : f ≡ g → t ≡ u → commands.Flat f t ≡ commands.Flat g u
     same file call = rw (file, call) refl
 one_body plan (f, t, v) (g, u, w) body x y =
-    let parted = λ (call target : List (List ℕ)). call ++ codes "--" ∷ target in
-    let is = sym x.2 ∙ y.2 in
-    let parts = one_parting x.0 y.0 x.1 y.1 (call_has_parts x.0 t x.4) (call_has_parts y.0 u y.4) (tail_is f g (parted x.0 x.1) (parted y.0 y.1) is) in
-    same (head_is f g (parted x.0 x.1) (parted y.0 y.1) is) (one_call x.0 y.0 t u x.4 y.4 parts.0) (one_call x.1 y.1 v w x.5 y.5 parts.1)
+    let is = sym x.1 ∙ y.1 in
+    let calls = one_change x.0 y.0 t v u w x.3 y.3 (tail_is f g x.0 y.0 is) in
+    same (head_is f g x.0 y.0 is) calls.0 calls.1
   where
     same : f ≡ g → t ≡ u → v ≡ w → commands.Plan f t v ≡ commands.Plan g u w
+    same file call target = rw (file, call, target) refl
+one_body parts (f, t, v) (g, u, w) body x y =
+    let is = sym x.1 ∙ y.1 in
+    let calls = one_change x.0 y.0 t v u w x.3 y.3 (tail_is f g x.0 y.0 is) in
+    same (head_is f g x.0 y.0 is) calls.0 calls.1
+  where
+    same : f ≡ g → t ≡ u → v ≡ w → commands.Parts f t v ≡ commands.Parts g u w
     same file call target = rw (file, call, target) refl
 one_body replay (f, e) (g, h) body x y =
     let is = sym x.0 ∙ y.0 in

@@ -29,12 +29,18 @@ IsCall words call =
     (integers : List (List ℕ)) × (words ≡ call.top ∷ integers) × IsName call.top × AllByRecursion IsInteger integers
     × (call.args ≡ map integer_of integers)
 
+-- the words of a change: those of two calls, and `--` between them
+abbrev pub IsChange : List (List ℕ) → TopCall → TopCall → Type 0
+IsChange words call target =
+    (first second : List (List ℕ)) × (words ≡ first ++ codes "--" ∷ second) × IsCall first call × IsCall second target
+
 -- the word that names a command
 abbrev pub keyword : Command → List ℕ
 keyword commands.Help = codes "--help"
 keyword commands.Version = codes "--version"
 keyword (commands.Flat file call) = codes "flat"
 keyword (commands.Plan file call target) = codes "plan"
+keyword (commands.Parts file call target) = codes "parts"
 keyword (commands.Replay file events) = codes "replay"
 keyword (commands.Upgrade file) = codes "upgrade"
 keyword (commands.Step script) = codes "step"
@@ -47,8 +53,9 @@ IsBody commands.Version body = body ≡ []
 IsBody (commands.Flat file call) body =
     (parts : List (List ℕ)) × (body ≡ file ∷ parts) × (file ≢ []) × IsCall parts call
 IsBody (commands.Plan file call target) body =
-    (first second : List (List ℕ)) × (body ≡ file ∷ (first ++ codes "--" ∷ second)) × (file ≢ [])
-    × IsCall first call × IsCall second target
+    (parts : List (List ℕ)) × (body ≡ file ∷ parts) × (file ≢ []) × IsChange parts call target
+IsBody (commands.Parts file call target) body =
+    (parts : List (List ℕ)) × (body ≡ file ∷ parts) × (file ≢ []) × IsChange parts call target
 IsBody (commands.Replay file events) body = (body ≡ file ∷ events ∷ []) × (file ≢ []) × (events ≢ [])
 IsBody (commands.Upgrade file) body = (body ≡ file ∷ []) × (file ≢ [])
 IsBody (commands.Step script) body = (body ≡ script ∷ []) × (script ≢ [])

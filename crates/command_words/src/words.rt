@@ -4,7 +4,7 @@ ghost use Rattle.std.specs.Prelude.{◌≡◌, ◌≢◌, ◌∷◌, [], ◌<◌
 ghost use Rattle.std.specs.List.{AllByRecursion, prefix_len};
 ghost use Rattle.std.specs.Option.{SomeIff};
 ghost use Rattle.std.specs.Str.Parse.{digits_value};
-ghost use Rattle.command_words.specs.CommandLine.{IsInteger, IsLaneCount, integer_of, IsCall, Asks, HasNoForm, is_part};
+ghost use Rattle.command_words.specs.CommandLine.{IsInteger, IsLaneCount, integer_of, IsCall, IsChange, Asks, HasNoForm, is_part};
 ghost use Rattle.command_words.specs.declared.words.TopCall.{TopCall};
 
 use crate::MAX_LANES;
@@ -48,6 +48,13 @@ pub struct TopCall<'a> {
     pub args: List<i32>,
 }
 
+/// A component with arguments, and the one to which a change leads.
+#[derive(Debug, Drop)]
+struct Change<'a> {
+    call: TopCall<'a>,
+    target: TopCall<'a>,
+}
+
 /// What words may ask for.
 #[derive(Debug, Drop)]
 pub enum Command<'a> {
@@ -60,6 +67,12 @@ pub enum Command<'a> {
     },
     /// The plan from the first component to the second.
     Plan {
+        file: Word<'a>,
+        call: TopCall<'a>,
+        target: TopCall<'a>,
+    },
+    /// The same change, cut into parts that may be made one after the other.
+    Parts {
         file: Word<'a>,
         call: TopCall<'a>,
         target: TopCall<'a>,
@@ -113,6 +126,7 @@ fn read_command<'a>(
     match first {
         "big" => Ok(read_big(file, &words[1..])),
         "flat" => read_flat(alloc, file, &words[1..]),
+        "parts" => read_parts(alloc, file, &words[1..]),
         "plan" => read_plan(alloc, file, &words[1..]),
         "replay" => Ok(read_replay(file, &words[1..])),
         "step" => Ok(read_step(file, &words[1..])),
@@ -168,6 +182,45 @@ fn read_plan<'a>(
     ensures none { IfOk result (λ found. IfNone found
         (HasNoForm (codes "plan" ∷ file.now ∷ map string_bytes words.now))) }
 {
+    match read_change(alloc, words)? {
+        Some(change) => Ok(Some(Command::Plan {
+            file: Word::of(file),
+            call: change.call,
+            target: change.target,
+        })),
+        None => Ok(None),
+    }
+}
+
+/// What the word `parts` asks for with a file and these words behind it.
+fn read_parts<'a>(
+    alloc: Global,
+    file: &'a str,
+    words: &'a [String],
+) -> Result<Option<Command<'a>>, NoMemory>
+    requires { file.now ≢ [] }
+    ensures found { IfOk result (λ found. IfSome found
+        (λ command. Asks (codes "parts" ∷ file.now ∷ map string_bytes words.now) command)) }
+    ensures none { IfOk result (λ found. IfNone found
+        (HasNoForm (codes "parts" ∷ file.now ∷ map string_bytes words.now))) }
+{
+    match read_change(alloc, words)? {
+        Some(change) => Ok(Some(Command::Parts {
+            file: Word::of(file),
+            call: change.call,
+            target: change.target,
+        })),
+        None => Ok(None),
+    }
+}
+
+/// The two calls that these words are, with `--` between them.
+fn read_change(alloc: Global, words: &[String]) -> Result<Option<Change<'_>>, NoMemory>
+    ensures found { IfOk result (λ found. IfSome found
+        (λ change. IsChange (map string_bytes words.now) change.call change.target)) }
+    ensures none { IfOk result (λ found. IfNone found ((call target : TopCall)
+        → IsChange (map string_bytes words.now) call target → ⊥)) }
+{
     let at = parting(words);
     if at >= words.len() {
         return Ok(None);
@@ -178,11 +231,7 @@ fn read_plan<'a>(
     let Some(target) = read_call(alloc, &words[at + 1..])? else {
         return Ok(None);
     };
-    Ok(Some(Command::Plan {
-        file: Word::of(file),
-        call,
-        target,
-    }))
+    Ok(Some(Change { call, target }))
 }
 
 /// What the word `replay` asks for with a file and these words behind it.

@@ -10,6 +10,25 @@ component Line(int n, int k) {
 }
 ";
 
+/// Two lines side by side, each with a map of its own argument.
+pub const TWO_LINES: &str = "component source(int n) { require out; }
+component map(int k) { provide in; require next; }
+component sink { provide in; }
+component Pair(int k, int j) {
+  inst a:source(2); b:map(k); c:sink; d:source(2); e:map(j); f:sink;
+  bind a.out -- b.in; b.next -- c.in; d.out -- e.in; e.next -- f.in;
+}
+";
+
+/// Two maps, of which the one leads to the other, or the other to the one.
+pub const TURN: &str = "component map(int k) { provide in; require next; }
+component Turn(int w) {
+  inst a:map(1); b:map(1);
+  when w == 0 bind b.next -- a.in;
+  when w == 1 bind a.next -- b.in;
+}
+";
+
 /// A map that isn't linked on, behind another.
 pub const CHAIN: &str = "component source(int n) { require out; }
 component map(int k) { provide in; require next; }

@@ -16,6 +16,8 @@ mod guide_rows;
 #[cfg(test)]
 mod limit_rows;
 #[cfg(test)]
+mod part_rows;
+#[cfg(test)]
 mod plan_rows;
 #[cfg(test)]
 mod replay_rows;

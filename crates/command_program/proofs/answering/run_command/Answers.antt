@@ -31,6 +31,12 @@ returns-in-Plan-clause-runs g c words asks =
     runs_by on_one_thread seen (commands.Plan c.in-Plan.file c.in-Plan.call c.in-Plan.target) c.answer_description-in-Plan.result (refl, rw c.in-Plan.is at asks)
     (rw c.as_str-in-Plan.ensures at c.answer_description-in-Plan.ensures.answers) (c.finish-in-Plan.ensures seen)
 
+pub returns-in-Parts-clause-runs : goal.returns-in-Parts-clause-runs
+returns-in-Parts-clause-runs g c words asks =
+    let seen = run_of g.H.Shelf g.K.Sink words c.args.shelf.now c.answer_description-in-Parts.new.shelf c.args.out.now c.finish-in-Parts.new.out c.finish-in-Parts.result in
+    runs_by on_one_thread seen (commands.Parts c.in-Parts.file c.in-Parts.call c.in-Parts.target) c.answer_description-in-Parts.result (refl, rw c.in-Parts.is at asks)
+    (rw c.as_str-in-Parts.ensures at c.answer_description-in-Parts.ensures.answers) (c.finish-in-Parts.ensures seen)
+
 pub returns-in-Replay-clause-runs : goal.returns-in-Replay-clause-runs
 returns-in-Replay-clause-runs g c words asks =
     let seen = run_of g.H.Shelf g.K.Sink words c.args.shelf.now c.answer_replay.new.shelf c.args.out.now c.finish-in-Replay.new.out c.finish-in-Replay.result in

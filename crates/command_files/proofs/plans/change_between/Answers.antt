@@ -1,20 +1,22 @@
--- A plan is refused with the start, with the second component, or for want of room.
+-- A change is refused with the start, with the second component, or for want of room.
 use Rattle.std.proofs.lemmas.Result.{err_from_is_err_and}
 use Rattle.command_law.specs.Descriptions.{IsDescriptionRefusal}
-use Rattle.command_law.specs.Plans.{RefusesStart, HasPlan, HasSteps, RefusesPlan, starts_not, leads_nowhere, made_of_graph}
+use Rattle.command_law.specs.Queries.{IsTextBy}
+use Rattle.command_law.specs.Plans.{RefusesStart, HasChange, HasSteps, RefusesPlan, starts_not, leads_nowhere, made_of_graph}
 use Rattle.command_files.specs.Planning.{IsFull}
 use Rattle.command_answers.specs.DescriptionFaults.{MayRefuse}
-use Rattle.command_files.proofs.Planning.{refused_through, plan_refused, plan_of, if_ok, if_err}
-use Rattle.command_files.proofs.plans.plan_between.Goals as goal
+use Rattle.command_files.proofs.Planning.{refused_through, plan_refused, changed_by_steps, if_ok, if_err}
+use Rattle.command_files.proofs.plans.change_between.Goals as goal
 
-pub returns-clause-plan : goal.returns-clause-plan
-returns-clause-plan c text checked =
+pub returns-clause-change : goal.returns-clause-change
+returns-clause-change c text checked =
     let call = c.args.call.now in
     let target = c.args.target.now in
     let old = c.in_ok-old.old in
     let new = c.in_ok-new.new in
-    if_ok c.steps_between.result (λ written. HasSteps old new written.items) (λ written. HasPlan text call target written.items)
-    (λ written steps. plan_of text call target old new written.items (c.in_ok-old.ensures.starts text checked) (c.in_ok-new.ensures.graph text checked) steps)
+    let IsText = IsTextBy c.args.cut.now in
+    if_ok c.steps_between.result (λ written. HasSteps IsText old new written.items) (λ written. HasChange IsText text call target written.items)
+    (λ written steps. changed_by_steps IsText text call target old new written.items (c.in_ok-old.ensures.starts text checked) (c.in_ok-new.ensures.graph text checked) steps)
     c.steps_between.ensures.steps
 
 pub returns-clause-refused : goal.returns-clause-refused

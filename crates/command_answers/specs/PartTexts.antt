@@ -1,0 +1,20 @@
+-- To be believed (docs/definitions.md).
+-- The text of a change in parts: of each part its number, and the text of its plan from the graph before it.
+use Rattle.std.specs.Prelude.{ℕ, List, [], ◌∷◌, ◌++◌, codes, decimal, suc}
+use Rattle.config_graph.specs.Graph.{Graph}
+use Rattle.change_plan.specs.PlanText.{plan_text}
+use Rattle.change_parts_laws.specs.declared.part.Part.{Part}
+
+-- `part I`
+abbrev pub part_line : ℕ → List ℕ
+part_line number = codes "part " ++ decimal number ++ codes "\n"
+
+-- these parts, of which the first has this number and begins with this graph
+abbrev pub parts_text_from : ℕ → Graph → List Part → List ℕ
+parts_text_from number before [] = []
+parts_text_from number before (p ∷ ps) =
+    part_line number ++ plan_text before p.next p.plan ++ parts_text_from (suc number) p.next ps
+
+-- all parts, numbered from 1
+abbrev pub parts_text : Graph → List Part → List ℕ
+parts_text old ps = parts_text_from 1 old ps
