@@ -1,3 +1,4 @@
+-- To be believed (docs/definitions.md).
 -- Banks: tellers, branches and accounts alone; a teller leads to a branch or nowhere, a branch from an account and to an
 -- account.
 use Rattle.std.specs.Prelude.{◌≡◌, ◌⊎◌, ℕ, ◌<◌, List, Some, length, All}

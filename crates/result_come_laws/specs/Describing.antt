@@ -1,3 +1,4 @@
+-- To be believed (docs/definitions.md).
 -- What the statements of a script describe, and a graph that one of them describes where it stands.
 use Rattle.std.specs.Prelude.{◌≡◌, ℕ, List, Option, Some, Any, IfSome, option_map, slice_get}
 use Rattle.config_graph.specs.Graph.{Graph}
