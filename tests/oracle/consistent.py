@@ -17,8 +17,8 @@ from machine import Machine
 from runs import System
 from tables import KINDS
 
-# how many cuts a search may come to
-MOST = 100000
+# how many cuts a search may come to, each of which it may hold with a state of the machine
+MOST = 20000
 OF_NODES = ("begin", "call", "miss", "take", "more", "ask", "hear", "give", "end")
 OF_CHANGES = ("link", "unlink", "remove", "close", "reopen")
 BY_OWNER = ("begin", "call", "miss", "ask", "end")
