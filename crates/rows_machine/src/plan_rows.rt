@@ -45,7 +45,7 @@ const ACCOUNT_MOVED: &str =
     "freeze a\nfreeze r\nfreeze w\nunlink r.from\nremove a\ncreate a account(7)\nlink r.from a.post\nmove 0 0\n";
 
 /// Two systems, moves between them by paths, the nodes and ports that were made, and what comes of it.
-type Planned = (
+pub type Planned = (
     &'static [&'static str],
     &'static [&'static str],
     &'static [(&'static str, &'static str)],
@@ -130,7 +130,7 @@ fn move_of(alloc: Global, from: &str, to: &str) -> Result<Move, NoMemory> {
     Ok(Move { from, to })
 }
 
-fn push_moves(
+pub fn push_moves(
     alloc: Global,
     moves: &mut Vec<Move>,
     pairs: &[(&str, &str)],
@@ -146,7 +146,7 @@ fn shown(text: &Text) -> &str {
 }
 
 /// A refusal's name and what it carries.
-fn refusal(alloc: Global, error: &PlanError) -> Result<String, NoMemory> {
+pub fn refusal(alloc: Global, error: &PlanError) -> Result<String, NoMemory> {
     match error {
         PlanError::NotRemoved(path) => format!(in alloc; "NotRemoved {}", shown(path)),
         PlanError::NotCreated(path) => format!(in alloc; "NotCreated {}", shown(path)),
@@ -169,7 +169,7 @@ fn push_shifts(alloc: Global, out: &mut String, shifts: &[Shift]) -> Result<(), 
 }
 
 /// The text of a plan with a line for each of its moves.
-fn planned(alloc: Global, old: &Graph, new: &Graph, plan: &Plan) -> Result<String, NoMemory>
+pub fn planned(alloc: Global, old: &Graph, new: &Graph, plan: &Plan) -> Result<String, NoMemory>
     requires { IsPlanWithin old.now new.now plan.now }
 {
     let text = plan_text(alloc, old, new, plan)?;

@@ -1,5 +1,8 @@
 //! The systems of the rows, as events in the words of event files.
 
+ghost use Rattle.std.specs.Prelude.{IfOk};
+ghost use Rattle.config_graph.specs.Sound.{Sound};
+
 use change_script::{EventFile, ScriptError, parse_events};
 use config_graph::Graph;
 use darwin_lexer::MAX_TEXT;
@@ -86,7 +89,9 @@ pub fn core_after(rt: &impl Abort, alloc: Global, pieces: &[&str]) -> Result<Cor
 }
 
 /// The graph of what these events make and link.
-pub fn graph_after(rt: &impl Abort, alloc: Global, pieces: &[&str]) -> Result<Graph, Fail> {
+pub fn graph_after(rt: &impl Abort, alloc: Global, pieces: &[&str]) -> Result<Graph, Fail>
+    ensures { IfOk result Sound }
+{
     let core = core_after(rt, alloc, pieces)?;
     Ok(core.graph()?)
 }
