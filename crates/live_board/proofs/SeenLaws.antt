@@ -3,9 +3,10 @@ use Rattle.std.proofs.Common.{◌≡◌, ◌∙◌, ℕ, zero, suc, ◌+◌, ◌
 use Rattle.std.specs.Prelude.{option_and_then, option_map}
 use Rattle.std.specs.Option.{option_map_or}
 use Rattle.std.specs.List.{list_any}
-use Rattle.std.proofs.lemmas.Bool.{and_parts, both_ways, cases_lt}
+use Rattle.std.proofs.lemmas.Bool.{and_parts, both_ways, cases_Bool, cases_lt}
 use Rattle.std.proofs.lemmas.List.{append-nil, map-append}
-use Rattle.change_board.specs.Sights.{fold_seen, fold_seen_within, is_seen_done, seen_in, sight_entry}
+use Rattle.atomic_table.specs.Seated.{TableId}
+use Rattle.change_board.specs.Sights.{Sight, fold_seen, fold_seen_within, is_seen_done, seen_in, sight_entry}
 use Rattle.change_law.specs.Opening.{argument_of, fold_at}
 use Rattle.component_trait.specs.Moves as moves
 use Rattle.component_trait.specs.States.{Kept, NodeState}
@@ -18,6 +19,8 @@ use Rattle.txn_records.specs.declared.entry.Entry.{Entry}
 use Rattle.live_laws.specs.Lines.{IsMadeLine, LineSight, is_in_slot}
 use Rattle.live_board.specs.Lengths.{AreLengths}
 use Rattle.live_board.specs.Seeing.{IsOfLine, SawNodes, SeesNode}
+use Rattle.live_board.specs.Turning.{LookedAt, SawEach, absent, no_node, none_yet, sighted, undone, unmet, was_there}
+use Rattle.state_handover.specs.declared.any_node.AnyNode.{AnyNode}
 use Rattle.live_board.proofs.LengthLaws.{seen_first, seen_next}
 
 none_is_some : {A B : Type 0} (x : A) → None ≡ Some x → B
@@ -81,21 +84,40 @@ abbrev pub LinesAreApart : Configuration → Type 0
 LinesAreApart c = (k j : Kind) (past other : List LineSight) (last final : LineSight) (n : ℕ) → IsMadeLine c k None (past ++ last ∷ []) → IsMadeLine c j None (other ++ final ∷ [])
     → is_live c last.slot ≡ true → is_live c final.slot ≡ true → list_any (is_in_slot n) (past ++ last ∷ []) ≡ true → list_any (is_in_slot n) (other ++ final ∷ []) ≡ true → last.slot ≡ final.slot
 
-module _ (c : Configuration) (r r1 r2 : List Entry) (lengths lengths' : List (Option ℕ)) (n : ℕ) (so_far : Bool) (h : SawNodes c r r1 lengths n so_far) where
-  -- a slot without a live node, or with one that is passed over
-  pub saw_none : (done : Bool) → (done ≡ true → so_far ≡ true) → (done ≡ true → is_live c n ≡ false) → SawNodes c r r1 lengths (n + 1) done
-  saw_none done was gone = record {
+module _ (S : AnyNode → NodeState) (gates : TableId) where
+  -- more sights show no less
+  saw_more : (c : Configuration) (a b : List Sight) (old : List ℕ) → ((n : ℕ) → is_seen_done c (seen_in a) n ≡ true → is_seen_done c (seen_in b) n ≡ true) → (n : ℕ) (now : List ℕ) → SawEach S gates c a old n now → SawEach S gates c b old n now
+  saw_more c a b old more_ _ _ none_yet = none_yet
+  saw_more c a b old more_ _ _ (no_node n now gone h) = no_node n now gone (saw_more c a b old more_ n now h)
+  saw_more c a b old more_ _ _ (sighted n now live h is) = sighted n now live (saw_more c a b old more_ n now h) (more_ n is)
+  saw_more c a b old more_ _ _ (undone n now x live h fits off) = undone n now x live (saw_more c a b old more_ n now h) fits off
+  saw_more c a b old more_ _ _ (unmet n now next live h miss) = unmet n now next live (saw_more c a b old more_ n now h) miss
+
+  -- one node more
+  saw_next : (c : Configuration) (sights : List Sight) (old now next : List ℕ) (n : ℕ) (done : Bool) → is_live c n ≡ true → SawEach S gates c sights old n now → (done ≡ true → is_seen_done c (seen_in sights) n ≡ true)
+      → LookedAt S gates n now next done → SawEach S gates c sights old (n + 1) next
+  saw_next c sights old now next n done live h is (was_there x fits told same) = subst (λ d. SawEach S gates c sights old (n + 1) d) (sym same) (⊎_elim
+      (λ (on : done ≡ true). sighted n now live h (is on))
+      (λ (off : done ≡ false). undone n now x live h fits (sym told ∙ off))
+      (cases_Bool done))
+  saw_next c sights old now next n done live h is (absent miss off) = unmet n now next live h miss
+
+module _ (S : AnyNode → NodeState) (gates : TableId) (c : Configuration) (r r1 r2 : List Entry) (lengths lengths' : List (Option ℕ)) (missed now next : List ℕ) (n : ℕ) (so_far : Bool) (h : SawNodes S gates c r r1 lengths missed now n so_far) where
+  -- a slot without a live node
+  pub saw_none : is_live c n ≡ false → SawNodes S gates c r r1 lengths missed now (n + 1) so_far
+  saw_none gone = record {
     sights = h.sights;
     adds = h.adds;
     lengths_are = h.lengths_are;
     of_lines = λ i es at. let x = h.of_lines i es at in (x.0, (let below = x.1 in omega (arith, below)), x.2, x.3);
     seen = λ is i few live. ⊎_elim
-        (λ (below : i < n). h.seen (was is) i below live)
-        (λ (past : n ≤ i). let same : i ≡ n = omega (arith, few, past) in absurd (both_ways (is_live c i) (ap (is_live c) same ∙ gone is) live))
+        (λ (below : i < n). h.seen is i below live)
+        (λ (past : n ≤ i). let same : i ≡ n = omega (arith, few, past) in absurd (both_ways (is_live c i) (ap (is_live c) same ∙ gone) live))
         (cases_lt i n);
+    each = no_node n now gone h.each;
   }
 
-  module _ (apart : LinesAreApart c) (live : is_live c n ≡ true) (done : Bool) (x : SeesNode c r1 r2 lengths lengths' n done) where
+  module _ (apart : LinesAreApart c) (live : is_live c n ≡ true) (done : Bool) (x : SeesNode c r1 r2 lengths lengths' n done) (looked : LookedAt S gates n now next done) where
     fresh : (i : ℕ) (es : List Event) → seen_in x.sights i ≡ Some es → seen_in h.sights i ≡ None
     fresh i es at = by (seen_in h.sights i) refl
       where
@@ -113,7 +135,7 @@ module _ (c : Configuration) (r r1 r2 : List Entry) (lengths lengths' : List (Op
     shows : ShowsMore (seen_in x.sights) (seen_in (h.sights ++ x.sights))
     shows i es at = seen_next h.sights x.sights i (fresh i es at) ∙ at
 
-    pub saw_one : SawNodes c r r2 lengths' (n + 1) (so_far && done)
+    pub saw_one : SawNodes S gates c r r2 lengths' missed next (n + 1) (so_far && done)
     saw_one = record {
       sights = h.sights ++ x.sights;
       adds = x.adds ∙ ap (λ (q : List Entry). q ++ map sight_entry x.sights) h.adds ∙ append_assoc r (map sight_entry h.sights) (map sight_entry x.sights)
@@ -127,6 +149,9 @@ module _ (c : Configuration) (r r1 r2 : List Entry) (lengths lengths' : List (Op
           subst (λ j. is_seen_done c (seen_in (h.sights ++ x.sights)) j ≡ true) same
           (done_more c (seen_in x.sights) (seen_in (h.sights ++ x.sights)) shows n (x.seen (and_parts so_far done is).1)))
           (cases_lt i n);
+      each = saw_next S gates c (h.sights ++ x.sights) missed now next n done live
+          (saw_more S gates c h.sights (h.sights ++ x.sights) missed (λ i. done_more c (seen_in h.sights) (seen_in (h.sights ++ x.sights)) (λ j es at. seen_first h.sights x.sights j es at) i) n now h.each)
+          (λ on. done_more c (seen_in x.sights) (seen_in (h.sights ++ x.sights)) shows n (x.seen on)) looked;
     }
       where
         by_seen : (i : ℕ) (es : List Event) → seen_in (h.sights ++ x.sights) i ≡ Some es → (o : Option (List Event)) → seen_in h.sights i ≡ o
@@ -144,15 +169,18 @@ sees_none c r lengths n done off = record {
   seen = λ on. absurd (both_ways done off on);
 }
 
-pub saw_nothing : (c : Configuration) (r : List Entry) (lengths : List (Option ℕ)) → AreLengths [] lengths → SawNodes c r r lengths 0 true
-saw_nothing c r lengths h = record {
+pub saw_nothing : (S : AnyNode → NodeState) (gates : TableId) (c : Configuration) (r : List Entry) (lengths : List (Option ℕ)) (missed : List ℕ) → AreLengths [] lengths → SawNodes S gates c r r lengths missed missed 0 true
+saw_nothing S gates c r lengths missed h = record {
   sights = [];
   adds = sym (append-nil r);
   lengths_are = h;
   of_lines = λ i es at. none_is_some es at;
   seen = λ on i few live. absurd (omega arith);
+  each = none_yet;
 }
 
-pub saw_as : (c : Configuration) (r r1 r2 : List Entry) (lengths lengths' : List (Option ℕ)) (n : ℕ) (done done' : Bool) → r2 ≡ r1 → lengths' ≡ lengths → done' ≡ done → SawNodes c r r1 lengths n done → SawNodes c r r2 lengths' n done'
-saw_as c r r1 r2 lengths lengths' n done done' entries long same h =
-    subst (λ q. SawNodes c r q lengths' n done') (sym entries) (subst (λ ls. SawNodes c r r1 ls n done') (sym long) (subst (SawNodes c r r1 lengths n) (sym same) h))
+pub saw_as : (S : AnyNode → NodeState) (gates : TableId) (c : Configuration) (r r1 r2 : List Entry) (lengths lengths' : List (Option ℕ)) (missed now now' : List ℕ) (n : ℕ) (done done' : Bool) → r2 ≡ r1 → lengths' ≡ lengths → now' ≡ now → done' ≡ done
+    → SawNodes S gates c r r1 lengths missed now n done → SawNodes S gates c r r2 lengths' missed now' n done'
+saw_as S gates c r r1 r2 lengths lengths' missed now now' n done done' entries long here same h =
+    subst (λ q. SawNodes S gates c r q lengths' missed now' n done') (sym entries)
+    (subst (λ ls. SawNodes S gates c r r1 ls missed now' n done') (sym long) (subst (λ d. SawNodes S gates c r r1 lengths missed d n done') (sym here) (subst (SawNodes S gates c r r1 lengths missed now n) (sym same) h)))

@@ -28,15 +28,15 @@ seen_among (x ∷ xs) n es at = by (seen_among xs n es) (is_in_slot n x) at
     by rest false h = rest h
 
 module _ {A : Type 0} (v : A → NodeView) (l : A → LineSight) where
-  words_are : (ps : List A) (own : NodeView) → map seen_word (map v ps ++ own ∷ []) ≡ map (λ p. seen_word (v p)) ps ++ seen_word own ∷ []
+  pub words_are : (ps : List A) (own : NodeView) → map seen_word (map v ps ++ own ∷ []) ≡ map (λ p. seen_word (v p)) ps ++ seen_word own ∷ []
   words_are [] own = refl
   words_are (p ∷ ps) own = ap (λ ws. seen_word (v p) ∷ ws) (words_are ps own)
 
-  places_are : (ps : List A) (last : LineSight) → map line_place (map l ps ++ last ∷ []) ≡ map (λ p. line_place (l p)) ps ++ line_place last ∷ []
+  pub places_are : (ps : List A) (last : LineSight) → map line_place (map l ps ++ last ∷ []) ≡ map (λ p. line_place (l p)) ps ++ line_place last ∷ []
   places_are [] last = refl
   places_are (p ∷ ps) last = ap (λ xs. line_place (l p) ∷ xs) (places_are ps last)
 
-  nodes_are : (ps : List A) → map line_node (map l ps) ≡ map (λ p. line_node (l p)) ps
+  pub nodes_are : (ps : List A) → map line_node (map l ps) ≡ map (λ p. line_node (l p)) ps
   nodes_are [] = refl
   nodes_are (p ∷ ps) = ap (λ xs. line_node (l p) ∷ xs) (nodes_are ps)
 

@@ -36,3 +36,7 @@ IsLast r (Some lengths) = EndsIdle r lengths
 -- with the length of one node's log more, where none was noted of it
 abbrev pub noted : List (Option ℕ) → ℕ → ℕ → List (Option ℕ)
 noted lengths n count = if is_none (length_at lengths n) then slice_set lengths n (Some count) else lengths
+
+-- both are there and the same
+abbrev pub AreAlike : Option ℕ → Option ℕ → Type 0
+AreAlike a b = (k : ℕ) × (a ≡ Some k) × (b ≡ Some k)

@@ -1,4 +1,11 @@
+pub mod Behind
+pub mod Boards
+pub mod Collecting
+pub mod Heirs
 pub mod Keeping
 pub mod Lengths
 pub mod Looking
+pub mod Making
+pub mod Scanning
 pub mod Seeing
+pub mod Turning

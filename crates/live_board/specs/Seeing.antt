@@ -1,13 +1,17 @@
 -- What a scan sees of nodes.
 use Rattle.std.specs.Prelude.{◌≡◌, ℕ, ◌<◌, Bool, true, List, [], ◌∷◌, ◌++◌, map, Option, Some, None}
 use Rattle.std.specs.List.{list_any}
+use Rattle.atomic_table.specs.Seated.{TableId}
 use Rattle.change_board.specs.Sights.{Sight, is_seen_done, seen_in, sight_entry}
+use Rattle.component_trait.specs.States.{NodeState}
 use Rattle.config_graph.specs.declared.kind.Kind.{Kind}
 use Rattle.live_board.specs.Lengths.{AreLengths}
+use Rattle.live_board.specs.Turning.{SawEach}
 use Rattle.live_hall.specs.declared.guest.Guest.{Guest}
 use Rattle.live_laws.specs.Lines.{IsMadeLine, LineSight, is_in_slot}
 use Rattle.quiesce_core.specs.State.{Configuration, is_live}
 use Rattle.quiesce_core.specs.declared.event.Event.{Event}
+use Rattle.state_handover.specs.declared.any_node.AnyNode.{AnyNode}
 use Rattle.txn_records.specs.declared.entry.Entry.{Entry}
 
 -- what is seen of a line, the earliest node first
@@ -32,11 +36,12 @@ pub record SeesNode (c : Configuration) (r r' : List Entry) (lengths lengths' : 
   pub of_line : (n : ℕ) (es : List Event) → seen_in sights n ≡ Some es → IsOfLine c slot n
   pub seen : done ≡ true → is_seen_done c (seen_in sights) slot ≡ true
 
--- Of all nodes in slots below this: each sight is of the line of a live one; and where all were done, each live one is
--- seen as done.
-pub record SawNodes (c : Configuration) (r r' : List Entry) (lengths : List (Option ℕ)) (slots : ℕ) (done : Bool) : Type 0 where
+-- Of all nodes in slots below this: each sight is of the line of a live one; where all were done, each live one is seen
+-- as done; and each live one that isn't seen so wasn't done, or the door found none there.
+pub record SawNodes (S : AnyNode → NodeState) (gates : TableId) (c : Configuration) (r r' : List Entry) (lengths : List (Option ℕ)) (missed missed' : List ℕ) (slots : ℕ) (done : Bool) : Type 0 where
   pub sights : List Sight
   pub adds : r' ≡ r ++ map sight_entry sights
   pub lengths_are : AreLengths sights lengths
   pub of_lines : (n : ℕ) (es : List Event) → seen_in sights n ≡ Some es → (slot : ℕ) × (slot < slots) × (is_live c slot ≡ true) × IsOfLine c slot n
   pub seen : done ≡ true → (n : ℕ) → n < slots → is_live c n ≡ true → is_seen_done c (seen_in sights) n ≡ true
+  pub each : SawEach S gates c sights missed slots missed'

@@ -1,6 +1,6 @@
 //! What a board keeps: removed nodes, by slot, and empty lists for the pasts of nodes to be made.
 
-ghost use Rattle.std.specs.Prelude.{◌≡◌, ◌<◌, ◌≤◌, IfOk, IfSome, OnOk, length};
+ghost use Rattle.std.specs.Prelude.{◌≡◌, ℕ, ◌+◌, ◌<◌, ◌≤◌, IfOk, IfSome, OnOk, length};
 ghost use Rattle.config_graph.specs.declared.TheConstants.{MAX_NODES};
 ghost use Rattle.live_board.specs.Keeping.{AreKept, HaveRoom};
 ghost use Rattle.live_hall.specs.Houses.{FitsCell};
@@ -100,4 +100,13 @@ pub fn blanks(alloc: Global, nodes: u32, lines: u32) -> Result<Vec<Blank>, NoMem
         all.push(blank)?;
     }
     Ok(all)
+}
+
+/// One of these lists.
+pub fn take_blank(blanks: &mut Vec<Blank>) -> Blank
+    requires { 0 < length blanks.old.items }
+    ensures { (nodes lines : ℕ) → HaveRoom blanks.old.items (nodes + 1) lines
+        → HaveRoom blanks.new.items nodes lines × (lines ≤ result.room) }
+{
+    blanks.take_last()
 }

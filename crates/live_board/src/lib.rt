@@ -2,8 +2,15 @@
 #![tactic(auto)]
 
 mod blank;
+mod collecting;
+mod comparing;
+mod ends;
+mod heirs;
 mod keeping;
 mod looking;
+mod making;
+mod reserving;
+mod scanning;
 mod seeing;
 mod stile;
 mod turning;

@@ -2,17 +2,21 @@
 
 ghost use Rattle.std.specs.Prelude.{◌≡◌, ◌≤◌, ◌<◌, List, [], ◌∷◌, ◌++◌, map, length};
 ghost use Rattle.change_board.specs.Sights.{Sight};
+ghost use Rattle.component_trait.specs.Moves as moves;
 ghost use Rattle.config_graph.specs.declared.TheConstants.{MAX_NODES};
 ghost use Rattle.live_board.specs.Lengths.{AreLengths, noted};
 ghost use Rattle.live_board.specs.Seeing.{SawNodes, SeesNode, sights_of};
+ghost use Rattle.live_board.specs.Turning.{LookedAt};
 ghost use Rattle.live_hall.specs.Houses.{IsAt, tables_of};
 ghost use Rattle.txn_gate.specs.Seats.{IsChangeSeatOf, collected_in, record_of, table_of_change};
 ghost use Rattle.txn_records.specs.Entries.{config_of};
 ghost use Rattle.txn_records.specs.Records.{IsRecord};
 
+use component_trait::Component;
 use live_hall::{Door, Guest, Named};
 use live_laws::{done_nodes_are_seen_as_done, lines_share_no_node, seats_tell_of_their_line};
 use node_host::Past;
+use state_handover::AnyNode;
 use std::sync::Wait;
 use txn_gate::{ChangeSeat, Gates, NodeSeat};
 
@@ -67,6 +71,7 @@ fn see_guest(
     ensures count { length lengths.new.items ≡ length lengths.old.items }
     ensures seen { SeesNode (config_of (record_of seat.old)) (record_of seat.old) (record_of seat.new) lengths.old.items
         lengths.new.items guest.old.node.slot result }
+    ensures done { result ≡ moves.is_done (⟦<AnyNode as Component>⟧.state guest.old.node.inner) }
 {
     let done = guest.node.done();
     if done {
@@ -97,6 +102,7 @@ fn see_node<J: Named, R: Wait>(
     ensures count { length lengths.new.items ≡ length lengths.old.items }
     ensures seen { SeesNode (config_of (record_of seat.old)) (record_of seat.old) (record_of seat.new) lengths.old.items
         lengths.new.items slot result }
+    ensures looked { LookedAt ⟦<AnyNode as Component>⟧.state J.gates slot door.old door.new result }
 {
     let Some(mut guest) = door.take(slot) else {
         return false;
@@ -124,8 +130,8 @@ pub fn see_nodes<J: Named, R: Wait>(
     ensures nodes { collected_in seat.new ≡ collected_in seat.old }
     ensures spare { seat.new.spare ≡ seat.old.spare }
     ensures count { length lengths.new.items ≡ length lengths.old.items }
-    ensures seen { SawNodes (config_of (record_of seat.old)) (record_of seat.old) (record_of seat.new) lengths.new.items
-        slots result }
+    ensures seen { SawNodes ⟦<AnyNode as Component>⟧.state J.gates (config_of (record_of seat.old))
+        (record_of seat.old) (record_of seat.new) lengths.new.items door.old door.new slots result }
 {
     lines_share_no_node();
     let mut done = true;

@@ -1,8 +1,11 @@
 //! The turns that a scan gives.
 
-ghost use Rattle.std.specs.Prelude.{◌≡◌, ◌≤◌, ◌<◌};
+ghost use Rattle.std.specs.Prelude.{◌≡◌, ◌≤◌, ◌<◌, IfOk};
 ghost use Rattle.config_graph.specs.declared.TheConstants.{MAX_NODES};
-ghost use Rattle.txn_gate.specs.Seats.{IsChangeSeatOf};
+ghost use Rattle.live_board.specs.Turning.{GaveTurn, GaveTurns};
+ghost use Rattle.live_board.specs.Turning as turning;
+ghost use Rattle.txn_gate.specs.Seats.{record_of};
+ghost use Rattle.txn_records.specs.Entries.{config_of};
 
 use crate::stile::Turnstile;
 use config_graph::NoMemory;
@@ -11,6 +14,12 @@ use live_hands::Hand;
 use node_host::Turn;
 use std::sync::Wait;
 use txn_gate::{ChangeSeat, Gates};
+
+fn has_moved(turn: &Turn) -> bool
+    ensures { result ≡ turning.has_moved turn.now }
+{
+    matches!(turn, Turn::Moved(_))
+}
 
 /// Gives the node of a slot a turn, where it lies in the hall. Tells whether it moved. After want of memory the node lies
 /// there again.
@@ -24,6 +33,7 @@ fn give_turn<J: Named, R: Wait, T: Turnstile>(
 ) -> Result<bool, NoMemory>
     requires named { J.gates ≡ gates.now.words.shared.table_id }
     requires slot { slot < MAX_NODES }
+    ensures { IfOk result (GaveTurn J.gates begins slot door.old door.new) }
 {
     let Some(mut guest) = door.take(slot) else {
         return Ok(false);
@@ -31,7 +41,7 @@ fn give_turn<J: Named, R: Wait, T: Turnstile>(
     stile.before(0, slot);
     let turn = guest.turn(gates, hand, begins);
     door.put(guest);
-    Ok(matches!(turn?, Turn::Moved(_)))
+    Ok(has_moved(&turn?))
 }
 
 /// Gives each live node that lies in the hall a turn, in the order of slots. Tells whether one moved.
@@ -46,6 +56,7 @@ pub fn give_turns<J: Named, R: Wait, T: Turnstile>(
 ) -> Result<bool, NoMemory>
     requires named { J.gates ≡ gates.now.words.shared.table_id }
     requires few { slots ≤ MAX_NODES }
+    ensures { IfOk result (GaveTurns J.gates (config_of (record_of seat.now)) begins door.old slots door.new) }
 {
     let mut moved = false;
     for slot in 0..slots {

@@ -7,7 +7,8 @@ use Rattle.base.proofs.PlaceLaws.{slice_get-push_cases}
 use Rattle.state_handover.specs.contracts.any_node.AnyNodeComponent.TheImpl.{ghosts}
 use Rattle.node_host.specs.Lines as line
 use Rattle.live_hall.specs.Lines.{seen_word}
-use Rattle.txn_gate.specs.Seats.{node_in}
+use Rattle.atomic_table.specs.Seated.{TableId}
+use Rattle.txn_gate.specs.Seats.{node_in, table_of_node}
 use Rattle.live_hall.proofs.HandedLaws.{line_handed}
 use Rattle.live_hall.proofs.LineOpening.{arg_is, map_snoc, opens_from}
 use Rattle.live_hall.proofs.guest.Guest.handed.Goals as goal
@@ -17,7 +18,8 @@ host-requires-clause-opens c =
     let parts = c.into_parts-inner.ensures in
     opens_from (ghosts.state c.args.old.node.inner) (ghosts.state c.import.result) c.args.arg c.args.first_port _ _ _ c.args.old.node.hosted.folds (c.import.ensures.state ∙ ap (λ q. handed_over (ghosts.state q.0).kind c.args.arg (ghosts.state q.0).kept) parts)
     (ap (map {B = line.LineNode} (λ p. record { first = p.first_port; arg = p.arg; log = p.log.items })) c.push_reserved.ensures.items
-    ∙ map_snoc {B = line.LineNode} (λ p. record { first = p.first_port; arg = p.arg; log = p.log.items }) c.into_parts-inner.result.3.items _
+    ∙ map_snoc {B = line.LineNode} (λ p. record { first = p.first_port; arg = p.arg; log = p.log.items }) c.joined-past.result.items _
+    ∙ ap (λ ps. map {B = line.LineNode} (λ p. record { first = p.first_port; arg = p.arg; log = p.log.items }) ps ++ record { first = c.args.old.node.first_port; arg = c.unwrap_or-old_arg.result; log = c.into_parts-inner.result.2.items } ∷ []) c.joined-past.ensures.items
     ∙ ap (λ q. map {B = line.LineNode} (λ p. record { first = p.first_port; arg = p.arg; log = p.log.items }) q.3.items ++ record { first = c.args.old.node.first_port; arg = c.unwrap_or-old_arg.result; log = q.2.items } ∷ []) parts
     ∙ ap (λ a. map {B = line.LineNode} (λ p. record { first = p.first_port; arg = p.arg; log = p.log.items }) c.args.old.node.past.items ++ record { first = c.args.old.node.first_port; arg = a; log = c.args.old.node.log.items } ∷ [])
     (arg_is _ (ghosts.state c.args.old.node.inner) _ c.arg.ensures.arg c.unwrap_or-old_arg.ensures c.requires.old_arg))
@@ -26,9 +28,18 @@ pub host-requires-clause-past_slots : goal.host-requires-clause-past_slots
 host-requires-clause-past_slots c = λ k p at.
     let parts = c.into_parts-inner.ensures in
     let there = sym (ap (λ l. slice_get l k) c.push_reserved.ensures.items) ∙ at in
-    ⊎_elim (λ old. c.args.old.node.past_slots k p (sym (ap (λ q. slice_get q.3.items k) parts) ∙ old))
+    ⊎_elim (λ old. c.args.old.node.past_slots k p (sym (ap (λ ps. slice_get ps k) c.joined-past.ensures.items ∙ ap (λ q. slice_get q.3.items k) parts) ∙ old))
     (λ new. subst (λ x. x.seat.slot ≡ x.slot) new.1 (ap (λ q. q.1.slot) parts ∙ c.args.old.node.hosted.of_slot))
-    (slice_get-push_cases c.into_parts-inner.result.3.items _ k p there)
+    (slice_get-push_cases c.joined-past.result.items _ k p there)
+
+pub returns-clause-past : goal.returns-clause-past
+returns-clause-past c =
+    let parts = c.into_parts-inner.ensures in
+    ap (λ v. map {B = TableId} (λ p. table_of_node p.seat) v.items) c.host.ensures.past
+    ∙ ap (map {B = TableId} (λ p. table_of_node p.seat)) c.push_reserved.ensures.items
+    ∙ map_snoc {B = TableId} (λ p. table_of_node p.seat) c.joined-past.result.items _
+    ∙ ap (λ ps. map {B = TableId} (λ p. table_of_node p.seat) ps ++ table_of_node c.into_parts-inner.result.1 ∷ []) c.joined-past.ensures.items
+    ∙ ap (λ q. map {B = TableId} (λ p. table_of_node p.seat) q.3.items ++ table_of_node q.1 ∷ []) parts
 
 pub invariant_of-result : goal.invariant_of-result
 invariant_of-result c =
@@ -40,8 +51,8 @@ invariant_of-result c =
     let seat = ap node_in c.host.ensures.seat ∙ s.1 in
     let place = c.host.ensures.place in
     record {
-      line = line_handed (λ p. seen_word (node_in p.seat)) (λ p. record { slot = p.slot; first = p.first_port; arg = p.arg }) g.node.past.items c.into_parts-inner.result.3.items c.host.result.past.items _ (node_in g.node.seat) (node_in c.host.result.seat) _ _ _ _ g.line
-          (ap (λ v. v.items) c.host.ensures.past ∙ c.push_reserved.ensures.items) (ap (λ q. q.3.items) parts)
+      line = line_handed (λ p. seen_word (node_in p.seat)) (λ p. record { slot = p.slot; first = p.first_port; arg = p.arg }) g.node.past.items c.joined-past.result.items c.host.result.past.items _ (node_in g.node.seat) (node_in c.host.result.seat) _ _ _ _ g.line
+          (ap (λ v. v.items) c.host.ensures.past ∙ c.push_reserved.ensures.items) (c.joined-past.ensures.items ∙ ap (λ q. q.3.items) parts)
           (ap (λ q. seen_word (node_in q.1)) parts)
           (ap (λ a. record { slot = g.node.slot; first = g.node.first_port; arg = a }) (arg_is _ (ghosts.state g.node.inner) _ c.arg.ensures.arg c.unwrap_or-old_arg.ensures c.requires.old_arg))
           (ap (λ (t : NodeState). t.kind) inner)

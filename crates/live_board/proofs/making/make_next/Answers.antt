@@ -1,0 +1,100 @@
+use Rattle.std.proofs.Common.{◌≡◌, ◌∙◌, ◌++◌, ◌∷◌, [], Some, append_assoc, ap, arith, List, length, map, refl, subst, sym, ◌+◌}
+use Rattle.std.specs.List.{AllByRecursion}
+use Rattle.std.proofs.lemmas.List.{length-map}
+use Rattle.atomic_table.specs.Seated.{TableId}
+use Rattle.live_board.specs.Behind.{HasBehind}
+use Rattle.live_hall.specs.Sighting.{PastSeen, sight_of, views_of}
+use Rattle.quiesce_core.specs.declared.event.Event.TheVariants.{Make}
+use Rattle.quiesce_core.specs.declared.known.Known.{Known}
+use Rattle.state_handover.specs.contracts.any_node.AnyNodeComponent.TheImpl.{ghosts}
+use Rattle.txn_gate.specs.Calls.{made_node}
+use Rattle.txn_gate.specs.Seats.{node_in, record_of, table_of_node}
+use Rattle.txn_law.specs.declared.view.ChangeView.{ChangeView}
+use Rattle.txn_records.specs.Entries.{config_of}
+use Rattle.txn_records.specs.declared.entry.Entry.{Entry}
+use Rattle.txn_records.specs.declared.entry.Entry.TheVariants.{Did}
+use Rattle.live_board.proofs.LineLaws.{line_behind}
+use Rattle.live_board.proofs.MakeLemmas.{make_fits, make_limits, rests_told, rotated, sights_as, slot_below, source_behind, source_guest, view_sight}
+use Rattle.live_board.proofs.making.make_next.Goals as goal
+
+pub handed-requires-clause-rests : goal.handed-requires-clause-rests
+handed-requires-clause-rests c =
+    let x = c.args.old.node in
+    let f =
+    source_guest (record_of c.args.seat.now) (record_of c.make_node-theirs.new.seat) c.args.node.now c.args.from (node_in x.seat) _ (ghosts.state x.inner) x.slot x.first_port c.requires.may
+    (ap (λ (k : ChangeView). k.entries) c.make_node-theirs.ensures.change) c.args.old.at c.requires.fits.0 c.sight.ensures.made in
+    ap (λ q. (ghosts.state q).service) c.sight.ensures.own.1
+    ∙ rests_told x.slot x.first_port (ghosts.state x.inner) x.log.items _ x.known x.waiting _ x.hosted (ap (λ (w : Known). w.service) (sym x.seat.known_is) ∙ f.1)
+
+pub handed-requires-clause-fits : goal.handed-requires-clause-fits
+handed-requires-clause-fits c =
+    let x = c.args.old.node in
+    let f =
+    source_guest (record_of c.args.seat.now) (record_of c.make_node-theirs.new.seat) c.args.node.now c.args.from (node_in x.seat) _ (ghosts.state x.inner) x.slot x.first_port c.requires.may
+    (ap (λ (k : ChangeView). k.entries) c.make_node-theirs.ensures.change) c.args.old.at c.requires.fits.0 c.sight.ensures.made in
+    make_fits (config_of (record_of c.args.seat.now)) c.args.node.now (Some c.args.from) c.requires.may _ (sym (ap (λ q. (ghosts.state q).kind) c.sight.ensures.own.1 ∙ f.0))
+
+pub handed-requires-clause-limits : goal.handed-requires-clause-limits
+handed-requires-clause-limits c =
+    let x = c.args.old.node in
+    let f =
+    source_guest (record_of c.args.seat.now) (record_of c.make_node-theirs.new.seat) c.args.node.now c.args.from (node_in x.seat) _ (ghosts.state x.inner) x.slot x.first_port c.requires.may
+    (ap (λ (k : ChangeView). k.entries) c.make_node-theirs.ensures.change) c.args.old.at c.requires.fits.0 c.sight.ensures.made in
+    make_limits (config_of (record_of c.args.seat.now)) c.args.node.now (Some c.args.from) c.requires.may _ c.made-made.result.nodes c.made-made.result.ports (sym (ap (λ q. (ghosts.state q).kind) c.sight.ensures.own.1 ∙ f.0))
+    c.made-made.ensures.nodes c.made-made.ensures.ports
+
+pub handed-requires-clause-room : goal.handed-requires-clause-room
+handed-requires-clause-room c =
+    let x = c.args.old.node in
+    let r1 = record_of c.make_node-theirs.new.seat in
+    let q = c.requires.room in
+    let behind =
+    line_behind (config_of r1) (ghosts.state x.inner).kind (λ p. node_in p.seat) (λ p. record { slot = p.slot; first = p.first_port; arg = p.arg }) (node_in x.seat)
+    (record { slot = x.slot; first = x.first_port; arg = (ghosts.state x.inner).arg }) x.past.items c.args.old.line c.sight.ensures.made in
+    let fewer =
+    source_behind (record_of c.args.seat.now) r1 (record_of c.sight.new.seat) c.args.node.now c.args.from q.0 c.args.blank.room (length x.past.items) (views_of c.args.old) (ap (λ (k : ChangeView). k.entries) c.make_node-theirs.ensures.change)
+    (ap (λ (k : ChangeView). k.entries) c.sight.ensures.change) c.sight.ensures.run q.3 q.2 q.1 (subst (λ i. HasBehind (config_of r1) i (length x.past.items)) c.requires.fits.0 behind) in
+    let same = ap length c.sight.ensures.past in
+    let one = length-map {B = PastSeen} c.sight.new.self.node.past.items (λ p. record { slot = p.slot; first = p.first_port; arg = p.arg; log = p.log.items; view = node_in p.seat; table = table_of_node p.seat }) in
+    let two = length-map {B = PastSeen} x.past.items (λ p. record { slot = p.slot; first = p.first_port; arg = p.arg; log = p.log.items; view = node_in p.seat; table = table_of_node p.seat }) in
+    omega (arith, fewer, same, one, two, c.args.blank.has_room)
+
+pub handed-requires-clause-seat : goal.handed-requires-clause-seat
+handed-requires-clause-seat c =
+    let x = c.args.old.node in
+    let f =
+    source_guest (record_of c.args.seat.now) (record_of c.make_node-theirs.new.seat) c.args.node.now c.args.from (node_in x.seat) _ (ghosts.state x.inner) x.slot x.first_port c.requires.may
+    (ap (λ (k : ChangeView). k.entries) c.make_node-theirs.ensures.change) c.args.old.at c.requires.fits.0 c.sight.ensures.made in
+    let made = c.made-made.ensures in (
+      c.args.node.now,
+      c.make_node-theirs.ensures.node ∙ (λ i. made_node (sym made.nodes i) (sym made.ports i) c.args.node.now (Some (sym (c.sight.ensures.slot ∙ c.requires.fits.0) i))),
+      sym (ap (λ q. (ghosts.state q).kind) c.sight.ensures.own.1 ∙ f.0),
+      refl,
+    )
+
+pub returns : goal.returns
+returns c =
+    let r = record_of c.args.seat.now in
+    let at = λ (t : TableId). t ≡ c.args.gates.now.words.shared.table_id in
+    let tables = subst (AllByRecursion at) (sym c.sight.ensures.tables) c.requires.fits.1 in
+    record {
+      made = (
+        map view_sight (views_of c.args.old),
+        record {
+          here = c.sight.ensures.here ∙ c.make_node-theirs.ensures.here.0;
+          entries = ap (λ (k : ChangeView). k.entries) c.sight.ensures.change ∙ ap (λ (k : ChangeView). k.entries ++ map sight_of (views_of c.args.old)) c.make_node-theirs.ensures.change
+              ∙ append_assoc r (Did (Make (length (config_of r).slots) c.args.node.now (Some c.args.from)) ∷ []) (map sight_of (views_of c.args.old))
+              ∙ ap (λ (es : List Entry). r ++ Did (Make (length (config_of r).slots) c.args.node.now (Some c.args.from)) ∷ es) (sights_as (views_of c.args.old));
+          nodes = c.sight.ensures.nodes ∙ c.make_node-theirs.ensures.nodes;
+          spare = ap (λ k. k + 1) c.sight.ensures.spare ∙ c.make_node-theirs.ensures.spare;
+          fits = (
+            c.handed.ensures.place.0 ∙ c.made-made.ensures.nodes,
+            (
+              ap table_of_node c.handed.ensures.seat ∙ c.make_node-theirs.ensures.here.1 ∙ c.requires.here,
+              subst (AllByRecursion at) (sym c.handed.ensures.past) (rotated at (table_of_node c.sight.new.self.node.seat) _ tables),
+            ),
+          );
+          below = slot_below (config_of r) c.args.node.now (Some c.args.from) c.requires.may;
+        },
+      );
+    }
