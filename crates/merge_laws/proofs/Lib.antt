@@ -19,4 +19,3 @@ mod AloneLemmas
 mod GoneLemmas
 mod MisleadingLemmas
 mod DecidedLemmas
-pub mod LeftLaws
