@@ -20,4 +20,3 @@ mod GoneLemmas
 mod MisleadingLemmas
 mod MisleadingReportLemmas
 mod DecidedLemmas
-pub mod LeftLaws

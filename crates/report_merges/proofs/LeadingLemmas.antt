@@ -1,10 +1,11 @@
 -- Ways one behind the other, and that each member that comes leaves one less.
-use Rattle.std.proofs.Common.{◌≡◌, ◌∙◌, ◌⊎◌, ℕ, zero, suc, ◌+◌, ◌*◌, ◌<◌, ◌≤◌, Bool, true, false, ◌||◌, cond, List, [], ◌∷◌, ◌++◌, refl, sym, ap, subst, ⊎_elim, inl, inr, arith}
+use Rattle.std.proofs.Common.{◌≡◌, ◌∙◌, ◌⊎◌, ℕ, zero, suc, ◌+◌, ◌*◌, ◌<◌, ◌≤◌, Bool, true, false, ◌||◌, cond, List, [], ◌∷◌, ◌++◌, length, get_or, set, refl, sym, ap, subst, ⊎_elim, inl, inr, arith}
 use Rattle.std.specs.Prelude.{fold}
 use Rattle.std.proofs.lemmas.Bool.{and_from, and_parts, both_ways, cases_lt}
 use Rattle.std.proofs.lemmas.List.Sums.{fold-append}
-use Rattle.merge_laws.specs.Guarded.{Left, can_go, go, left, log_of, may_do_first, may_go}
-use Rattle.merge_laws.proofs.LeftLaws.{one_less}
+use Rattle.quiesce_core.specs.declared.event.Event.{Event}
+use Rattle.report_types.specs.declared.report.HistoryLine.{HistoryLine}
+use Rattle.merge_laws.specs.Guarded.{Left, amount, can_go, do_first, go, left, log_of, may_do_first, may_go, may_tell_first, tell_first}
 use Rattle.report_merges.specs.Going.{IsTried}
 use Rattle.report_merges.specs.Ways.{IsPassed, IsSwept, LeadsOn}
 
@@ -26,6 +27,32 @@ tried_leads x c true y t = record { way = c ∷ []; can = and_from (may_go x c) 
 tried_leads x c false y t = record { way = []; can = refl; to = sym t.new_is }
 
 -- ---- one less is left
+
+shorter : (logs : List (List Event)) (n : ℕ) (e : Event) (rest : List Event) → get_or logs n [] ≡ e ∷ rest → amount (set logs n rest) + 1 ≡ amount logs
+shorter [] n e rest h = absurd (cc (h))
+shorter (l ∷ logs) zero e rest h =
+    let now : amount (set (l ∷ logs) 0 rest) ≡ length rest + amount logs = refl in
+    let was : amount (l ∷ logs) ≡ length l + amount logs = refl in
+    let one : length l ≡ length (e ∷ rest) = ap (λ (es : List Event). length es) h in
+    let more_ : length (e ∷ rest) ≡ length rest + 1 = omega arith in
+    omega (arith, now, was, one, more_)
+shorter (l ∷ logs) (suc n) e rest h =
+    let now : amount (set (l ∷ logs) (suc n) rest) ≡ length l + amount (set logs n rest) = refl in
+    let was : amount (l ∷ logs) ≡ length l + amount logs = refl in
+    omega (arith, now, was, shorter logs n e rest h)
+
+line_less : (x : Left) (ls : List HistoryLine) → x.lines ≡ ls → may_tell_first x.state ls ≡ true → left (tell_first x ls) + 1 ≡ left x
+line_less x [] e h = absurd (both_ways false refl h)
+line_less x (l ∷ rest) e h =
+    let long = ap (λ (ls : List HistoryLine). length ls) e in let more_ : length (l ∷ rest) ≡ length rest + 1 = omega arith in omega (arith, long, more_)
+
+event_less : (x : Left) (n : ℕ) (es : List Event) → log_of x n ≡ es → may_do_first x.state x.lines n es ≡ true → left (do_first x n es) + 1 ≡ left x
+event_less x n [] e h = absurd (both_ways false refl h)
+event_less x n (a ∷ rest) e h = omega (arith, shorter x.logs n a rest e)
+
+one_less : (x : Left) (c : ℕ) → may_go x c ≡ true → left (go x c) + 1 ≡ left x
+one_less x zero h = line_less x x.lines refl h
+one_less x (suc n) h = event_less x n (log_of x n) refl h
 
 pub fewer : (x : Left) (c : ℕ) (y : Left) → IsTried x c true y → left y + 1 ≡ left x
 fewer x c y t = ap (λ u. left u + 1) t.new_is ∙ one_less x c (sym t.came_is)
