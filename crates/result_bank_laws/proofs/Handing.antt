@@ -36,12 +36,12 @@ use Rattle.change_round_laws.proofs.FoldLaws.{StatesAreHanded}
 use Rattle.result_come_laws.specs.Coming.{HasFolds, come}
 use Rattle.result_come_laws.proofs.AgreeingLaws.{change_does}
 use Rattle.result_come_laws.proofs.ComingLaws.{facts, folds_before, folds_stay, given_to, made_has, old_stays}
+use Rattle.result_come_laws.proofs.EventLaws.{nothing_there}
 use Rattle.result_come_laws.proofs.FactLaws.{Facts}
 use Rattle.result_bank_laws.specs.Sums.{is_account}
 use Rattle.result_bank_laws.proofs.Adding.{sum_more, sum_one, sum_two}
 use Rattle.result_bank_laws.proofs.Balance.{BranchHas, Calls, answered, answers, at_rest, first_idle, first_open, second_idle, second_open, taken, waiting}
 use Rattle.result_bank_laws.proofs.Giving.{given_is_gone, given_was_moved, hands_on}
-use Rattle.result_bank_laws.proofs.Leading.{nothing_there}
 use Rattle.result_bank_laws.proofs.Ledger.{Has, account_is, bound, holds, held_by, is_account_at, kind_is_account, opened_in, plain, quiet, rest_has}
 use Rattle.result_bank_laws.proofs.Offices.{Office, kind_stays, office_owned, office_stays}
 

@@ -40,7 +40,7 @@ use Rattle.quiesce_core.proofs.RunLaws.{node_events_keep_the_configuration}
 use Rattle.quiesce_core.proofs.SettledLaws.{settled_if}
 use Rattle.quiesce_core.proofs.StabilityLaws.{unsettled_ports_stay}
 use Rattle.result_come_laws.specs.Describing.{kind_at}
-use Rattle.result_come_laws.proofs.EventLaws.{idle_passes, starts_at}
+use Rattle.result_come_laws.proofs.EventLaws.{idle_passes, nothing_there, starts_at}
 use Rattle.result_come_laws.proofs.FactLaws.{Facts}
 use Rattle.result_bank_laws.specs.Banks.{IsBank, LeadsToAccount}
 use Rattle.result_bank_laws.proofs.Offices.{IsAccount, IsOffice, IsOfKind, Office, kind_stays, no_port_of_account, of_branch, office_owned, office_stays, port_of_branch}
@@ -143,16 +143,6 @@ module _ (c : Configuration) (sound : IsSound c) (named : AreNamed c) (g : Graph
       by (inr (inr account)) = absurd (omega (arith, low, has Account account))
 
 -- ---- what an event leaves
-
--- an event of the change does nothing at a port
-pub nothing_there : (s : State) (q : ℕ) (z : Event) → is_of_change z ≡ true → exchange_next s q z ≡ exchange s q
-nothing_there s q (Close p) h = refl
-nothing_there s q (Reopen p) h = refl
-nothing_there s q (Make n node from) h = refl
-nothing_there s q (Link p n x) h = refl
-nothing_there s q (Unlink p) h = refl
-nothing_there s q (Remove n) h = refl
-nothing_there s q _ h = absurd (both_ways false refl h)
 
 module _ (s : State) (f : ℕ → NodeState) (facts : Facts s f) (e : Event) (legal : Legal s e) where
   abbrev after : State

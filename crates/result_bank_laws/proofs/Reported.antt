@@ -52,7 +52,7 @@ use Rattle.change_round_laws.proofs.LineLaws.{changes}
 use Rattle.result_come_laws.specs.Coming.{HasFolds, come}
 use Rattle.result_come_laws.proofs.ComingLaws.{facts, fits_of}
 use Rattle.result_come_laws.proofs.PlacedLaws.{opened_at}
-use Rattle.result_come_laws.proofs.StoppingLaws.{logs_fold, open_nowhere, slots_of_logs, state_told, takes_over}
+use Rattle.result_come_laws.proofs.StoppingLaws.{NothingIsOpen, logs_fold, open_nowhere, slots_of_logs, state_told, takes_over}
 use Rattle.result_bank_laws.specs.Banks.{AreBanks, IsBank}
 use Rattle.result_bank_laws.specs.Sums.{balance, gone_at, is_account, live_at, live_sum, makes_account, opened_by, opened_sum, removed_sum, removes}
 use Rattle.result_bank_laws.proofs.Adding.{sums_agree}
@@ -258,9 +258,6 @@ told_so history l = by (list_any (makes_account l.slot) history) (list_any (remo
     by true true = omega arith
     by true false = omega arith
     by false b = omega arith
-
-abbrev pub NothingIsOpen : Type 0
-NothingIsOpen = (statements : List Statement) (report : Report) (m : List Member) → Follows statements report.history → Merge m report → IsRun (events m) → Each IsDrainedAt m → (p k : ℕ) → is_open_after (events m) p k ≡ false
 
 module _ (handed : StatesAreHanded) (each_may : EachMayCommit) (by_config : CommitsByConfiguration) (leaves : CommitsLeaveGraphs) (none_open : NothingIsOpen) (statements : List Statement) (report : Report) (sound : AreSound statements) (banks : AreBanks statements) (l : Lawful statements report) where
   abbrev m : List Member

@@ -34,7 +34,8 @@ use Rattle.report_types.specs.declared.report.Last.TheVariants as last
 use Rattle.report_types.specs.declared.report.NodeLog.{NodeLog}
 use Rattle.report_types.specs.declared.report.Report.{Report}
 use Rattle.change_law.specs.Endings.{is_made_from, moved_to}
-use Rattle.change_law.specs.Lawful.{EndsAs, IsFolded, Merge}
+use Rattle.change_law.specs.Follows.{Follows}
+use Rattle.change_law.specs.Lawful.{EndsAs, IsDrainedAt, IsFolded, Merge}
 use Rattle.change_law.specs.Members.{Member, events, is_root, lines, of_history, state_at, without_roots}
 use Rattle.change_law.specs.Opening.{fold_of_node}
 use Rattle.change_law.specs.Scene.{config_after}
@@ -45,6 +46,12 @@ use Rattle.change_round_laws.proofs.RoundLaws.{made_lines, slots_made}
 use Rattle.quiesce_laws.proofs.OrderLaws.{open_is_seen}
 use Rattle.result_come_laws.specs.Coming.{HasFolds}
 use Rattle.result_come_laws.proofs.ReopenedLaws.{kept, rooted}
+use Rattle.base.specs.Each.{Each}
+use Rattle.change_law.specs.Statements.{Statement}
+
+-- nothing is open where each drained port was seen so: a law of change_law
+abbrev pub NothingIsOpen : Type 0
+NothingIsOpen = (statements : List Statement) (report : Report) (m : List Member) → Follows statements report.history → Merge m report → IsRun (events m) → Each IsDrainedAt m → (p k : ℕ) → is_open_after (events m) p k ≡ false
 
 pub open_nowhere : (es : List Event) → IsRun es → ((p k : ℕ) → is_open_after es p k ≡ false) → (p : ℕ) → is_idle (exchange (state_after es) p).phase ≡ true
 open_nowhere es run none p = by (is_idle (exchange (state_after es) p).phase) (sym (open_is_seen es p (exchange (state_after es) p).serial run) ∙ none p (exchange (state_after es) p).serial)

@@ -30,7 +30,7 @@ use Rattle.result_row_laws.specs.Keeping.{AreRows}
 use Rattle.result_row_laws.specs.Rows.{through}
 use Rattle.result_come_laws.specs.Coming.{HasFolds, come}
 use Rattle.result_come_laws.proofs.PlacedLaws.{placed}
-use Rattle.result_come_laws.proofs.StoppingLaws.{logs_fold, open_nowhere}
+use Rattle.result_come_laws.proofs.StoppingLaws.{NothingIsOpen, logs_fold, open_nowhere}
 use Rattle.result_row_laws.proofs.Course.{Course, RowAt}
 use Rattle.result_row_laws.proofs.Ends.{MakesWell, each_is_last, last_made, same_sink, same_source}
 use Rattle.result_row_laws.proofs.Lawfully.{makes, opens, placed_courses}
@@ -93,9 +93,6 @@ was_answered m v item w =
 events_at : (m before between after : List Member) (b e : Event) → m ≡ before ++ by_node b ∷ (between ++ by_node e ∷ after) → events m ≡ events before ++ b ∷ (events between ++ e ∷ events after)
 events_at m before between after b e parts =
     ap events parts ∙ events_parts before (by_node b ∷ (between ++ by_node e ∷ after)) ∙ ap (λ xs. events before ++ b ∷ xs) (events_parts between (by_node e ∷ after))
-
-abbrev pub NothingIsOpen : Type 0
-NothingIsOpen = (statements : List Statement) (report : Report) (m : List Member) → Follows statements report.history → Merge m report → IsRun (events m) → Each IsDrainedAt m → (p k : ℕ) → is_open_after (events m) p k ≡ false
 
 module _ (handed : StatesAreHanded) (each_may : EachMayCommit) (by_config : CommitsByConfiguration) (leaves : CommitsLeaveGraphs) (none_open : NothingIsOpen) (statements : List Statement) (report : Report) (sound : AreSound statements) (rows : AreRows statements) (l : Lawful statements report) where
   folds : HasFolds (events l.members)

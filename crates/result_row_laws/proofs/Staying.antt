@@ -32,6 +32,7 @@ use Rattle.quiesce_core.proofs.InductionLaws.{IsNext, always}
 use Rattle.change_round_laws.proofs.FoldLaws.{StatesAreHanded}
 use Rattle.result_row_laws.proofs.AtRest.{IsStill}
 use Rattle.result_come_laws.specs.Coming.{HasFolds, come}
+use Rattle.result_come_laws.proofs.EventLaws.{nothing_there}
 use Rattle.result_come_laws.proofs.ComingLaws.{given_to, made_has, old_stays}
 use Rattle.result_row_laws.proofs.Ends.{IsMadeWell, last_made, last_more, last_next, same_sink, same_source}
 use Rattle.result_row_laws.proofs.Resting.{Rest}
@@ -104,15 +105,6 @@ was_open c (event.Make n node from) q calm h = by (nat_le (length c.gates) q && 
 was_open c (event.Reopen p) q calm h = absurd (both_ways true calm refl)
 was_open c _ q calm h = (h, refl)
 
-no_message : (s : State) (e : Event) → is_of_change e ≡ true → (q : ℕ) → exchange_next s q e ≡ exchange s q
-no_message s (event.Close p) h q = refl
-no_message s (event.Reopen p) h q = refl
-no_message s (event.Make n node from) h q = refl
-no_message s (event.Link p n x) h q = refl
-no_message s (event.Unlink p) h q = refl
-no_message s (event.Remove n) h q = refl
-no_message s _ h q = absurd (both_ways false refl h)
-
 -- a node that is live then was live before, where it was made
 live_before : (c d : Configuration) (e : Event) → Reconfigures c e d → (n : ℕ) → n < length c.slots → is_live d n ≡ true → is_live c n ≡ true
 live_before c d e r n low live = by e (ap (λ o. option_map_or (λ (m : Slot). m.live) o false) (sym (r.slots n)) ∙ live)
@@ -134,7 +126,7 @@ calm_last k o _ h = refl
 module _ (handed : StatesAreHanded) (es : List Event) (e : Event) (here : IsNext es e) (run' : IsRun (es ++ e ∷ [])) (later : HasFolds (es ++ e ∷ [])) (change : is_of_change e ≡ true) where
   still_on : is_reopen e ≡ false → IsStill (state_after es) (come es) → IsStill (state_after (es ++ e ∷ [])) (come (es ++ e ∷ []))
   still_on calm still = record {
-    idle = λ q. ap (λ (s : State). is_idle (exchange s q).phase) here.next ∙ ap (λ (x : Exchange). is_idle x.phase) (exchanges_next (state_after es) e here.well here.legal q ∙ no_message (state_after es) e change q) ∙ still.idle q;
+    idle = λ q. ap (λ (s : State). is_idle (exchange s q).phase) here.next ∙ ap (λ (x : Exchange). is_idle x.phase) (exchanges_next (state_after es) e here.well here.legal q ∙ nothing_there (state_after es) q e change) ∙ still.idle q;
     opened = λ q open_.
         let now : gate (state_after (es ++ e ∷ [])).config q ≡ gate_next (state_after es).config q e = ap (λ (s : State). gate s.config q) here.next ∙ (reconfigured (state_after es) e here.legal).gates q in
         let was = was_open (state_after es).config e q calm (sym (ap (λ (g : Gate). g.closed) now) ∙ open_) in
@@ -196,7 +188,7 @@ module _ (handed : StatesAreHanded) (es : List Event) (e : Event) (here : IsNext
       r = subst (λ (s : State). Reconfigures (state_after es).config e s.config) (sym here.next) (reconfigured (state_after es) e here.legal)
 
       same : exchange (state_after (es ++ e ∷ [])) q ≡ exchange (state_after es) q
-      same = ap (λ (s : State). exchange s q) here.next ∙ exchanges_next (state_after es) e here.well here.legal q ∙ no_message (state_after es) e change q
+      same = ap (λ (s : State). exchange s q) here.next ∙ exchanges_next (state_after es) e here.well here.legal q ∙ nothing_there (state_after es) q e change
 
       of_old : q < length (state_after es).config.gates → (exchange (state_after (es ++ e ∷ [])) q).serial ≤ length past
       of_old made =
