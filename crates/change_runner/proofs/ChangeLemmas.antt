@@ -142,7 +142,7 @@ module _ {B : Type 0} (W : BoardWords B) (e e1 f : Engine B) (c : Replacement) (
           );
         };
         some_left = x.some_left;
-        left_told = record { before = opened; after = last; are = ap (λ u. opened ++ u) (append_assoc pend did (said to.Abandon ∷ [])) };
+        left_told = record { before = opened; deeds = y.deeds; are = ap (λ u. opened ++ u) (append_assoc pend did (said to.Abandon ∷ [])) };
         pending = some;
         idle = subst (λ u. IsIdle W f u) (ap (λ u. u ++ last) place ∙ here) done_;
         graph = y.graph_is ∙ same_graph;

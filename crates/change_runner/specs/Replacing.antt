@@ -1,5 +1,5 @@
 -- What a change adds to the transcript of an engine that tries it: it is carried out, or given up with some roots left.
-use Rattle.std.specs.Prelude.{◌≡◌, ◌<◌, ℕ, true, false, List, ◌++◌, Option, None, Some, length}
+use Rattle.std.specs.Prelude.{◌≡◌, ◌<◌, ℕ, true, false, List, [], ◌∷◌, ◌++◌, Option, None, Some, flat_map, length}
 use Rattle.std.specs.List.{list_any}
 use Rattle.config_graph.specs.Graph.{Graph}
 use Rattle.change_plan.specs.declared.plan_data.Plan.{Plan}
@@ -7,9 +7,12 @@ use Rattle.change_plan_laws.specs.Committing.{made_in}
 use Rattle.change_law.specs.Asked.{made_with_change}
 use Rattle.change_law.specs.Members.{is_pending}
 use Rattle.change_law.specs.declared.steps.Replacement.{Replacement}
+use Rattle.report_types.specs.declared.report.HistoryLine.TheVariants as to
 use Rattle.change_board.specs.declared.board.Board.{Ghosts as BoardWords}
-use Rattle.change_board.specs.Transcripts.{Item, lines}
+use Rattle.change_board.specs.Steps.{Deed}
+use Rattle.change_board.specs.Transcripts.{Item, lines, said}
 use Rattle.change_engine.specs.Calls.{HasAbandoned, HasCommitted, HasLeft, HasPassivated}
+use Rattle.change_engine.specs.Carrying.{deed_items}
 use Rattle.change_engine.specs.Draining.{pending_items}
 use Rattle.change_engine.specs.Engines.{IsIdle}
 use Rattle.change_engine.specs.declared.engine.Engine.{Engine}
@@ -34,11 +37,12 @@ pub record HasReplaced {B : Type 0} (words : BoardWords B) (old new : Engine B) 
   pub graph : new.graph ≡ c.graph
   pub made : made_in (config_at (t ++ items)) ≡ made_with_change (made_in (config_at t)) c
 
--- these roots are told as those that were left after so many rounds
+-- These roots, and no others, are told as those that were left after so many rounds: behind them stand only events and
+-- the line of the end.
 pub record AreTold (within : ℕ) (left : List LeftRoot) (items : List Item) : Type 0 where
   pub before : List Item
-  pub after : List Item
-  pub are : items ≡ before ++ (pending_items within left ++ after)
+  pub deeds : List Deed
+  pub are : items ≡ before ++ (pending_items within left ++ (flat_map deed_items deeds ++ said to.Abandon ∷ []))
 
 -- it was given up, with these roots left: the graph before it stands
 pub record HasGivenUp {B : Type 0} (words : BoardWords B) (old new : Engine B) (t : List Item) (c : Replacement)
