@@ -64,5 +64,5 @@ pub fn a_node_stands_in_one_part()
 pub fn parts_may_be_carried_out()
     ensures { (old new : Graph) (moves : List Move) (made : Made) (ps : List Part) → IsGraph old → IsGraph new
         → Sound old → Sound new → CanPlan old new moves made → AreParts old new moves ps
-        → ((p : Part) → Contains ps p → IsGraph p.next) → CanCarryOutAll old made ps }
+        → All (λ p. IsGraph p.next) ps → CanCarryOutAll old made ps }
 {}
