@@ -7,7 +7,6 @@ use Rattle.std.proofs.lemmas.Bool.{and_parts, both_ways, cases_Bool, eq-eqb, eqb
 use Rattle.std.proofs.lemmas.List.Elements.{All-contains}
 use Rattle.std.proofs.lemmas.List.Folds.{list_any-append}
 use Rattle.std.proofs.lemmas.List.Sums.{sum_by-cons}
-use Rattle.base.specs.Each.{Each}
 use Rattle.base.proofs.ContainsLaws.{Contains-filter_map, Contains-here, Contains-there}
 use Rattle.base.proofs.FindLaws.{find_passes, is_some-find_from}
 use Rattle.base.proofs.OptionLaws.{Some-from_is_some}
@@ -25,7 +24,7 @@ use Rattle.quiesce_core.specs.Doers.{is_make, is_of_change}
 use Rattle.quiesce_core.specs.Effect.{effect}
 use Rattle.quiesce_core.specs.Legal.{Legal}
 use Rattle.quiesce_core.specs.Rules.{has_room}
-use Rattle.quiesce_core.specs.Runs.{IsRun, is_open_after, state_after}
+use Rattle.quiesce_core.specs.Runs.{IsRun, state_after}
 use Rattle.quiesce_core.specs.State.{Configuration, State, exchange, slot}
 use Rattle.quiesce_core.specs.declared.event.Event.{Event}
 use Rattle.quiesce_core.specs.declared.event.Event.TheVariants as event
@@ -39,8 +38,7 @@ use Rattle.report_types.specs.declared.report.Last.TheVariants as last
 use Rattle.report_types.specs.declared.report.NodeLog.{NodeLog}
 use Rattle.report_types.specs.declared.report.Report.{Report}
 use Rattle.change_law.specs.Endings.{is_made_from, moved_to}
-use Rattle.change_law.specs.Follows.{Follows}
-use Rattle.change_law.specs.Lawful.{EndsAs, IsDrainedAt, IsFolded, Lawful, Merge}
+use Rattle.change_law.specs.Lawful.{EndsAs, IsFolded, Lawful, Merge}
 use Rattle.change_law.specs.Members.{Member, event_of, events, made_slot}
 use Rattle.change_law.specs.Opening.{fold_of_node}
 use Rattle.change_law.specs.Statements.{Statement}

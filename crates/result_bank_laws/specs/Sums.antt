@@ -3,7 +3,7 @@
 -- those that were removed.
 use Rattle.std.specs.Prelude.{ℕ, Bool, true, false, ◌==◌, List, [], ◌∷◌, None, if◌then◌else◌, sum_by}
 use Rattle.std.specs.List.{list_any}
-use Rattle.std.specs.Option.{option_map_or}
+use Rattle.component_trait.specs.Making.{argument_or_0}
 use Rattle.config_graph.specs.declared.kind.Kind.{Kind}
 use Rattle.config_graph.specs.declared.kind.Kind.TheVariants.{Account}
 use Rattle.report_types.specs.declared.report.HistoryLine.{HistoryLine}
@@ -19,7 +19,7 @@ is_account _ = false
 
 -- what an account was opened with, where a line makes one without ` from`
 abbrev pub opened_by : HistoryLine → ℕ
-opened_by (to.Make n node None) = if is_account node.kind then option_map_or (λ a. a) node.arg 0 else 0
+opened_by (to.Make n node None) = if is_account node.kind then argument_or_0 node.arg else 0
 opened_by _ = 0
 
 -- whether a line makes an account in slot n, and whether one removes the node there

@@ -1,32 +1,25 @@
 -- Small systems on which the definitions are evaluated.
-use Rattle.std.specs.Prelude.{ℕ, List, [], ◌∷◌, Option, Some, None, codes}
+use Rattle.std.specs.Prelude.{ℕ, [], ◌∷◌, Some, None, codes}
 use Rattle.config_graph.specs.Graph.{Graph}
-use Rattle.config_graph.specs.declared.kind.Kind.{Kind}
 use Rattle.config_graph.specs.declared.kind.Kind.TheVariants.{Teller, Branch, Account}
-use Rattle.config_graph.specs.declared.node.Link.{Link}
-use Rattle.config_graph.specs.declared.node.Node.{Node}
+use Rattle.quiesce_laws.specs.Worked.{node}
+use Rattle.change_plan_laws.specs.Systems.{leads}
 use Rattle.report_types.specs.declared.report.HistoryLine.TheVariants as to
 use Rattle.report_types.specs.declared.report.Last.{Last}
 use Rattle.report_types.specs.declared.report.Last.TheVariants as last
 use Rattle.report_types.specs.declared.report.NodeLog.{NodeLog}
 use Rattle.report_types.specs.declared.report.Report.{Report}
 
-abbrev node : List ℕ → Kind → Option ℕ → Node
-node path kind arg = record { path = path; kind = kind; arg = arg }
-
-abbrev link : ℕ → ℕ → ℕ → Link
-link from require to = record { from = from; require = require; to = to; provide = 0 }
-
 -- a teller, a branch and two accounts, and a teller that leads nowhere
 abbrev pub bank : Graph
 bank = record {
   nodes = node (codes "a") Account (Some 100) ∷ node (codes "b") Account (Some 0) ∷ node (codes "m") Branch None ∷ node (codes "t") Teller (Some 3) ∷ node (codes "u") Teller (Some 1) ∷ [];
-  links = link 2 0 0 ∷ link 2 1 1 ∷ link 3 0 2 ∷ [];
+  links = leads 2 0 0 ∷ leads 2 1 1 ∷ leads 3 0 2 ∷ [];
 }
 
 -- a teller that leads to an account
 abbrev pub with_teller_at_account : Graph
-with_teller_at_account = record { nodes = node (codes "a") Account (Some 100) ∷ node (codes "t") Teller (Some 3) ∷ []; links = link 1 0 0 ∷ [] }
+with_teller_at_account = record { nodes = node (codes "a") Account (Some 100) ∷ node (codes "t") Teller (Some 3) ∷ []; links = leads 1 0 0 ∷ [] }
 
 abbrev log : ℕ → Last → NodeLog
 log n l = record { slot = n; events = []; last = l }

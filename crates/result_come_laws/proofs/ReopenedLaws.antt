@@ -1,4 +1,4 @@
--- At each reopen among the members of a lawful report the graph is one that a description names.
+-- At each reopen among the members of a lawful report, and at their end, the graph is one that a description names.
 use Rattle.std.proofs.Common.{◌≡◌, ◌∙◌, true, false, not, List, [], ◌∷◌, ◌++◌, Option, Some, None, refl, sym, ap, subst, ⊎_elim}
 use Rattle.std.specs.Prelude.{All, Any, Contains, IfSome, filter}
 use Rattle.std.proofs.lemmas.Bool.{cases_Bool}
@@ -21,12 +21,13 @@ use Rattle.change_law.specs.Lawful.{IsOfItsKind, Merge}
 use Rattle.change_law.specs.Members.{Member, of_history, events, is_root, lines, state_at, without_roots}
 use Rattle.change_law.specs.Statements.{Statement, graph_of}
 use Rattle.change_law.proofs.MemberLaws.{all_parts, changes_are_lines, config_of_lines, events_without_roots, lines_parts}
+use Rattle.change_law.specs.Scene.{config_after}
 use Rattle.change_round_laws.specs.SoundStatements.{AreSound}
 use Rattle.change_round_laws.proofs.AloneLaws.{changes_run}
 use Rattle.change_round_laws.proofs.CommitGraphLaws.{CommitsByConfiguration, CommitsLeaveGraphs, EachMayCommit}
 use Rattle.change_round_laws.proofs.LineLaws.{changes}
 use Rattle.result_come_laws.specs.Describing.{Describes}
-use Rattle.result_come_laws.proofs.ReopeningLaws.{Opens, history_opens}
+use Rattle.result_come_laws.proofs.ReopeningLaws.{Opens, history_ends, history_opens}
 
 pub rooted : (l : HistoryLine) (xs : List HistoryLine) → is_root l ≡ true → without_roots (l ∷ xs) ≡ without_roots xs
 rooted l xs e = rw e refl
@@ -70,6 +71,14 @@ reopened_at each_may by_config leaves statements P report m sound all follows me
     let here = each_at (Opens P) (lines before) (lines after) (to.Reopen p) (subst (Each (Opens P)) there each) in
     let kinds = (all_parts IsOfItsKind before (of_history (to.Reopen p) ∷ after) (subst (All IsOfItsKind) parts merge.by_nodes)).0 in
     record { graph = here.graph; has = here.has; stands = subst (λ c. IsGraphOf c here.graph) (sym (config_of_lines before kinds)) here.stands }
+
+pub ends_at : EachMayCommit → CommitsByConfiguration → CommitsLeaveGraphs → (statements : List Statement) (P : Graph → Type 0) (report : Report) (m : List Member) → AreSound statements → All (Describes P) statements
+    → Follows statements report.history → Merge m report → IsRun (events m) → NamedAt P m
+ends_at each_may by_config leaves statements P report m sound all follows merge goes =
+    let changed : filter is_of_change (events m) ≡ changes report.history = changes_are_lines m merge.by_nodes ∙ ap changes merge.history ∙ events_without_roots report.history in
+    let last_ = history_ends each_may by_config leaves statements P report.history sound all follows (subst IsRun changed (changes_run (events m) goes)) in
+    let same = config_of_lines m merge.by_nodes ∙ ap config_after merge.history ∙ ap (change_all empty.config) (events_without_roots report.history) in
+    record { graph = last_.graph; has = last_.has; stands = subst (λ c. IsGraphOf c last_.graph) (sym same) last_.stands }
 
 -- each statement describes what one of them describes
 pub each_described : (statements : List Statement) → All (Describes (λ (g : Graph). Any (λ st. graph_of st ≡ Some g) statements)) statements

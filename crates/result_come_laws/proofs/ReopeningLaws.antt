@@ -1,4 +1,4 @@
--- At each reopen of a history the graph of the live nodes and links is one that a description names.
+-- At each reopen of a history, and at its end, the graph of the live nodes and links is one that a description names.
 use Rattle.std.proofs.Common.{◌≡◌, ◌∙◌, ℕ, Bool, true, false, List, [], ◌∷◌, ◌++◌, append_assoc, map, Option, Some, None, refl, sym, ap, subst, ⊎_elim}
 use Rattle.std.specs.Prelude.{⊤, ℤ, All, filter_map, option_map}
 use Rattle.std.specs.List.{cons_option, enumerate_from, list_any}
@@ -157,6 +157,11 @@ module _ (each_may : EachMayCommit) (by_config : CommitsByConfiguration) (leaves
     onward : Onward statements done s h ls rest old
     opens : EachAfter (Opens P) h ls
     has : P onward.graph
+    behind : Named P (h ++ ls)
+
+  -- lines that shape nothing leave what stands
+  named_on : (h ls : List HistoryLine) → IsRun (changes (h ++ ls)) → list_any is_shaping (changes ls) ≡ false → Named P h → Named P (h ++ ls)
+  named_on h ls goes calm n = record { graph = n.graph; has = n.has; stands = graph_on h ls n.graph goes calm n.stands }
 
   quiet_map : {A : Type 0} (t : HistoryLine → Bool) (f : A → HistoryLine) → ((x : A) → t (f x) ≡ false) → (xs : List A) → list_any t (map f xs) ≡ false
   quiet_map t f h xs = none_mapped t f h xs
@@ -234,6 +239,14 @@ module _ (each_may : EachMayCommit) (by_config : CommitsByConfiguration) (leaves
       (three P h front closed (to.Abandon ∷ []) old has none_ refl goes'
       (graph_on h front old (front_runs (h ++ front) last_ (subst (λ xs. IsRun (changes xs)) (sym (append_assoc h front last_)) goes')) calm stands))
 
+  given_up_calm : (name : List ℕ) (args : List ℤ) (old : Graph) (plan : Plan) (within : ℕ) (looks : List (List Seen)) (left : List Seen) (closed : List ℕ) (c : Configuration)
+      → list_any is_shaping (changes (opening_lines name args old plan c ++ (drained_lines looks ++ pending_lines within left closed))) ≡ false
+  given_up_calm name args old plan within looks left closed c =
+      calm_both (opening_lines name args old plan c) (drained_lines looks ++ pending_lines within left closed) (calm_map to.Close (λ x es. refl) (ports_to_close old plan c))
+      (calm_both (drained_lines looks) (pending_lines within left closed) (calm_map drained_line (λ x es. refl) (seen_in_all looks))
+      (calm_both (to.Pending within ∷ map root_line left ++ map to.Reopen closed) (to.Abandon ∷ [])
+      (calm_both (to.Pending within ∷ map root_line left) (map to.Reopen closed) (calm_map root_line (λ x es. refl) left) (calm_map to.Reopen (λ x es. refl) closed)) refl))
+
   pendless : (e : Event) (ls : List HistoryLine) → list_any is_pending ls ≡ false → list_any is_pending (cons_option (line_of e) ls) ≡ false
   pendless (event.Make n made from) ls h = h
   pendless (event.Link p n x) ls h = h
@@ -248,21 +261,21 @@ module _ (each_may : EachMayCommit) (by_config : CommitsByConfiguration) (leaves
   described_has done rest s parts all = All-head (Describes P) s rest (all_parts (Describes P) done (s ∷ rest) (subst (All (Describes P)) parts all)).1
 
   opened_statement : (done : List Statement) (s : Statement) (h ls : List HistoryLine) (rest : List Statement) (g : Graph) (made : Made) → statements ≡ done ++ s ∷ rest → IsRight h s ls → IsRun (changes (h ++ ls))
-      → Fits done h g made → GoOnSoundly (s ∷ rest) g made → P g → All (Describes P) statements → Opened done s h ls rest g
-  opened_statement done (start name args new) h ls rest g made parts right goes fits says has all = absurd says
-  opened_statement done (change name args new within moves) h ls rest g made parts right goes fits says has all =
+      → Fits done h g made → GoOnSoundly (s ∷ rest) g made → P g → All (Describes P) statements → Named P h → Opened done s h ls rest g
+  opened_statement done (start name args new) h ls rest g made parts right goes fits says has all named = absurd says
+  opened_statement done (change name args new within moves) h ls rest g made parts right goes fits says has all named =
       let first = onward each_may by_config leaves statements done (change name args new within moves) h ls rest g made parts right (front_runs h ls goes) fits says in
       let new_has : P new = described_has done rest (change name args new within moves) parts all in
-      record {
-        onward = first;
-        opens = ⊎_elim
-            (λ (skipped : list_any is_pending h ≡ true). subst (EachAfter (Opens P) h) (sym (right.0 skipped)) (free P h (to.Change name args ∷ to.Skipped ∷ []) refl))
-            (λ (tried : list_any is_pending h ≡ false). tried_opens first new_has tried (right.1 tried))
-            (cases_Bool (list_any is_pending h));
-        has = subst P (sym first.named) new_has;
-      }
+      let both : EachAfter (Opens P) h ls × Named P (h ++ ls) = ⊎_elim
+      (λ (skipped : list_any is_pending h ≡ true). (
+        subst (EachAfter (Opens P) h) (sym (right.0 skipped)) (free P h (to.Change name args ∷ to.Skipped ∷ []) refl),
+        named_on h ls goes (ap (λ xs. list_any is_shaping (changes xs)) (right.0 skipped)) named,
+      ))
+      (λ (tried : list_any is_pending h ≡ false). tried_opens first new_has tried (right.1 tried))
+      (cases_Bool (list_any is_pending h)) in
+      record { onward = first; opens = both.0; has = subst P (sym first.named) new_has; behind = both.1 }
     where
-      tried_opens : Onward statements done (change name args new within moves) h ls rest g → P new → list_any is_pending h ≡ false → IsChange h name args new within moves ls → EachAfter (Opens P) h ls
+      tried_opens : Onward statements done (change name args new within moves) h ls rest g → P new → list_any is_pending h ≡ false → IsChange h name args new within moves ls → EachAfter (Opens P) h ls × Named P (h ++ ls)
       tried_opens first new_has tried w = ⊎_elim
           (λ (e : IsCommitted w.old new w.plan within (config_after (h ++ opening_lines name args w.old w.plan (config_after h))) w.rest).
           let o = opening_lines name args w.old w.plan (config_after h) in
@@ -275,31 +288,37 @@ module _ (each_may : EachMayCommit) (by_config : CommitsByConfiguration) (leaves
           (none_both is_pending (lines_of_events ev) (to.Commit ∷ []) (none_of_events is_pending pendless ev) refl)) in
           let whole : list_any is_pending (h ++ ls) ≡ false = none_both is_pending h ls tried (ap (list_any is_pending) are ∙ none_) in
           let stands = subst (IsGraphOf (config_after (h ++ ls))) first.named (first.fits.stands whole).graph in
-          opened_commit h name args w.old new w.plan e.looks ls (config_after h) d are goes new_has stands)
+          (opened_commit h name args w.old new w.plan e.looks ls (config_after h) d are goes new_has stands, record { graph = new; has = new_has; stands = stands }))
           (λ (e : IsGivenUp (ports_to_close w.old w.plan (config_after h)) within w.rest).
           let o = opening_lines name args w.old w.plan (config_after h) in
           let one = one_graph (IsLiveNode (config_after h)) (AreLinked (config_after h)) w.old g w.is_old (fits.stands tried).graph in
-          opened_given_up h name args w.old w.plan within e.looks e.left (ports_to_close w.old w.plan (config_after h)) ls (config_after h) (w.are ∙ ap (λ xs. o ++ xs) e.are) goes (subst P (sym one) has) w.is_old)
+          let are = w.are ∙ ap (λ xs. o ++ xs) e.are in
+          let closed = ports_to_close w.old w.plan (config_after h) in (
+            opened_given_up h name args w.old w.plan within e.looks e.left closed ls (config_after h) are goes (subst P (sym one) has) w.is_old,
+            named_on h ls goes (ap (λ xs. list_any is_shaping (changes xs)) are ∙ given_up_calm name args w.old w.plan within e.looks e.left closed (config_after h)) named,
+          ))
           w.ends
-  opened_statement done (run k) h ls rest g made parts right goes fits says has all =
+  opened_statement done (run k) h ls rest g made parts right goes fits says has all named =
       let first = onward each_may by_config leaves statements done (run k) h ls rest g made parts right (front_runs h ls goes) fits says in
-      record { onward = first; opens = free P h ls (ap (list_any is_reopening) right.are); has = subst P (sym first.named) has }
-  opened_statement done (finish n) h ls rest g made parts right goes fits says has all =
+      record { onward = first; opens = free P h ls (ap (list_any is_reopening) right.are); has = subst P (sym first.named) has; behind = named_on h ls goes (ap (λ xs. list_any is_shaping (changes xs)) right.are) named }
+  opened_statement done (finish n) h ls rest g made parts right goes fits says has all named =
       let first = onward each_may by_config leaves statements done (finish n) h ls rest g made parts right (front_runs h ls goes) fits says in
-      record { onward = first; opens = free P h ls (ap (list_any is_reopening) right.are); has = subst P (sym first.named) has }
-  opened_statement done show h ls rest g made parts right goes fits says has all =
+      record { onward = first; opens = free P h ls (ap (list_any is_reopening) right.are); has = subst P (sym first.named) has; behind = named_on h ls goes (ap (λ xs. list_any is_shaping (changes xs)) right.are) named }
+  opened_statement done show h ls rest g made parts right goes fits says has all named =
       let first = onward each_may by_config leaves statements done show h ls rest g made parts right (front_runs h ls goes) fits says in
-      record { onward = first; opens = free P h ls (ap (list_any is_reopening) right.are); has = subst P (sym first.named) has }
+      record { onward = first; opens = free P h ls (ap (list_any is_reopening) right.are); has = subst P (sym first.named) has; behind = named_on h ls goes (ap (λ xs. list_any is_shaping (changes xs)) right.are) named }
 
   all_opened : (done : List Statement) (h : List HistoryLine) (parts : List Part) (g : Graph) (made : Made) → statements ≡ done ++ map (λ (p : Part). p.statement) parts → AreRightAfter h parts
-      → IsRun (changes (h ++ lines_of parts)) → Fits done h g made → GoOnSoundly (map (λ (p : Part). p.statement) parts) g made → P g → All (Describes P) statements → EachAfter (Opens P) h (lines_of parts)
-  all_opened done h [] g made parts right goes fits says has all = tt
-  all_opened done h (p ∷ ps) g made parts right goes fits says has all =
+      → IsRun (changes (h ++ lines_of parts)) → Fits done h g made → GoOnSoundly (map (λ (p : Part). p.statement) parts) g made → P g → All (Describes P) statements → Named P h
+      → EachAfter (Opens P) h (lines_of parts) × Named P (h ++ lines_of parts)
+  all_opened done h [] g made parts right goes fits says has all named = (tt, subst (Named P) (sym (append-nil h)) named)
+  all_opened done h (p ∷ ps) g made parts right goes fits says has all named =
       let goes' = subst (λ xs. IsRun (changes xs)) (sym (append_assoc h p.lines (lines_of ps))) goes in
-      let first = opened_statement done p.statement h p.lines (map (λ (q : Part). q.statement) ps) g made parts right.0 (front_runs (h ++ p.lines) (lines_of ps) goes') fits says has all in
-      each_joined (Opens P) h p.lines (lines_of ps) first.opens
-      (all_opened (done ++ p.statement ∷ []) (h ++ p.lines) ps first.onward.graph first.onward.made (parts ∙ sym (append_assoc done (p.statement ∷ []) (map (λ (q : Part). q.statement) ps)))
-      right.1 goes' first.onward.fits first.onward.below first.has all)
+      let first = opened_statement done p.statement h p.lines (map (λ (q : Part). q.statement) ps) g made parts right.0 (front_runs (h ++ p.lines) (lines_of ps) goes') fits says has all named in
+      let later =
+      all_opened (done ++ p.statement ∷ []) (h ++ p.lines) ps first.onward.graph first.onward.made (parts ∙ sym (append_assoc done (p.statement ∷ []) (map (λ (q : Part). q.statement) ps)))
+      right.1 goes' first.onward.fits first.onward.below first.has all first.behind in
+      (each_joined (Opens P) h p.lines (lines_of ps) first.opens later.0, subst (Named P) (append_assoc h p.lines (lines_of ps)) later.1)
 
   pub right_after : (before parts : List Part) → EachAfter (λ before (p : Part). IsRight (lines_of before) p.statement p.lines) before parts → AreRightAfter (lines_of before) parts
   right_after before [] each = tt
@@ -307,22 +326,23 @@ module _ (each_may : EachMayCommit) (by_config : CommitsByConfiguration) (leaves
       (each.0, subst (λ h. AreRightAfter h ps) (flat_map-append (λ (q : Part). q.lines) before (p ∷ []) ∙ ap (λ xs. lines_of before ++ xs) (append-nil p.lines)) (right_after (before ++ p ∷ []) ps each.1))
 
   from_start : (parts : List Part) → statements ≡ map (λ (p : Part). p.statement) parts → AreRightAfter [] parts → AreSound (map (λ (p : Part). p.statement) parts) → IsRun (changes (lines_of parts)) → All (Describes P) statements
-      → EachAfter (Opens P) [] (lines_of parts)
-  from_start [] are right sound goes all = tt
+      → EachAfter (Opens P) [] (lines_of parts) × Named P (lines_of parts)
+  from_start [] are right sound goes all = absurd sound
   from_start (p ∷ ps) are right sound goes all = by p.statement refl right.0 sound (front_runs p.lines (lines_of ps) goes) (all_opened (p.statement ∷ []) p.lines ps)
     where
       rest_type : (s : Statement) → Type 0
       rest_type s = (g : Graph) (made : Made) → statements ≡ (s ∷ []) ++ map (λ (q : Part). q.statement) ps → AreRightAfter p.lines ps → IsRun (changes (p.lines ++ lines_of ps)) → Fits (s ∷ []) p.lines g made
-          → GoOnSoundly (map (λ (q : Part). q.statement) ps) g made → P g → All (Describes P) statements → EachAfter (Opens P) p.lines (lines_of ps)
+          → GoOnSoundly (map (λ (q : Part). q.statement) ps) g made → P g → All (Describes P) statements → Named P p.lines
+          → EachAfter (Opens P) p.lines (lines_of ps) × Named P (p.lines ++ lines_of ps)
 
-      by : (s : Statement) → p.statement ≡ s → IsRight [] s p.lines → AreSound (s ∷ map (λ (q : Part). q.statement) ps) → IsRun (changes p.lines) → rest_type p.statement → EachAfter (Opens P) [] (lines_of (p ∷ ps))
+      by : (s : Statement) → p.statement ≡ s → IsRight [] s p.lines → AreSound (s ∷ map (λ (q : Part). q.statement) ps) → IsRun (changes p.lines) → rest_type p.statement → EachAfter (Opens P) [] (lines_of (p ∷ ps)) × Named P (lines_of (p ∷ ps))
       by (start name args g) is right_so says goes_so later =
           let all_are = are ∙ ap (λ x. x ∷ map (λ (q : Part). q.statement) ps) is in
           let first = begun each_may by_config leaves statements name args g (map (λ (q : Part). q.statement) ps) all_are says p.lines right_so in
           let has : P g = described_has [] (map (λ (q : Part). q.statement) ps) (start name args g) all_are all in
           let stands = subst (IsGraphOf (config_after p.lines)) first.named (first.fits.stands (ap (list_any is_pending) right_so ∙ none_pending name args g)).graph in
-          each_joined (Opens P) [] p.lines (lines_of ps) (opened_start name args g p.lines right_so goes_so has stands)
-          (subst rest_type is later first.graph first.made all_are right.1 goes first.fits first.below (subst P (sym first.named) has) all)
+          let more_ = subst rest_type is later first.graph first.made all_are right.1 goes first.fits first.below (subst P (sym first.named) has) all (record { graph = g; has = has; stands = stands }) in
+          (each_joined (Opens P) [] p.lines (lines_of ps) (opened_start name args g p.lines right_so goes_so has stands) more_.0, more_.1)
         where
           none_pending : (name : List ℕ) (args : List ℤ) (g : Graph) → list_any is_pending (start_lines name args g) ≡ false
           none_pending name args g = none_both is_pending (to.Start name args ∷ lines_of_events (start_of g)) (to.Commit ∷ []) (none_of_events is_pending pendless (start_of g)) refl
@@ -331,15 +351,26 @@ module _ (each_may : EachMayCommit) (by_config : CommitsByConfiguration) (leaves
       by (finish n) is right_so says goes_so later = absurd says
       by show is right_so says goes_so later = absurd says
 
-  -- ---- at each reopen of a history that follows the statements
+  -- ---- at each reopen of a history that follows the statements, and at its end
+
+  first_opens : (history : List HistoryLine) → AreSound statements → All (Describes P) statements → (f : Follows statements history) → IsRun (changes history) → EachAfter (Opens P) [] (lines_of f.parts) × Named P (lines_of f.parts)
+  first_opens history sound all f goes =
+      let first = lines_of f.parts in
+      let both : changes history ≡ changes first ++ changes f.stop = ap changes (sym f.history_is) ∙ changes_both first f.stop in
+      from_start f.parts (sym f.statements_are) (right_after [] f.parts f.right) (subst AreSound (sym f.statements_are) sound) (fronts_are_runs (changes first) (changes f.stop) (subst IsRun both goes)) all
+
+  pub history_ends : (history : List HistoryLine) → AreSound statements → All (Describes P) statements → Follows statements history → IsRun (changes history) → Named P history
+  history_ends history sound all f goes =
+      let live = live_ports (config_after (lines_of f.parts)) in
+      let calm : list_any is_shaping (changes f.stop) ≡ false =
+      ap (λ xs. list_any is_shaping (changes xs)) f.stops.are ∙ calm_both (to.Stop ∷ map to.Close live) (map drained_line f.stops.seen) (calm_map to.Close (λ x es. refl) live) (calm_map drained_line (λ x es. refl) f.stops.seen) in
+      subst (Named P) f.history_is (named_on (lines_of f.parts) f.stop (subst (λ xs. IsRun (changes xs)) (sym f.history_is) goes) calm (first_opens history sound all f goes).1)
+
   pub history_opens : (history : List HistoryLine) → AreSound statements → All (Describes P) statements → Follows statements history → IsRun (changes history) → Each (Opens P) history
   history_opens history sound all f goes =
       let first = lines_of f.parts in
       let live = live_ports (config_after first) in
-      let both : changes history ≡ changes first ++ changes f.stop = ap changes (sym f.history_is) ∙ changes_both first f.stop in
       let none_ : list_any is_reopening f.stop ≡ false =
       ap (list_any is_reopening) f.stops.are ∙ none_both is_reopening (map to.Close live) (map drained_line f.stops.seen) (none_mapped is_reopening to.Close (λ p. refl) live) (none_mapped is_reopening drained_line (λ d. refl) f.stops.seen) in
       subst (Each (Opens P)) f.history_is
-      (each_joined (Opens P) [] first f.stop
-      (from_start f.parts (sym f.statements_are) (right_after [] f.parts f.right) (subst AreSound (sym f.statements_are) sound) (fronts_are_runs (changes first) (changes f.stop) (subst IsRun both goes)) all)
-      (free P first f.stop none_))
+      (each_joined (Opens P) [] first f.stop (first_opens history sound all f goes).0 (free P first f.stop none_))

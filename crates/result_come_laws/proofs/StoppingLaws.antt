@@ -1,6 +1,6 @@
 -- A run at its end: nothing is open, each node made has a log and a fold, and a live node's state went to no other.
 use Rattle.std.proofs.Common.{◌≡◌, ◌∙◌, ℕ, zero, suc, ◌+◌, ◌<◌, Bool, true, false, cond, not, List, [], ◌∷◌, ◌++◌, length, map, filter, Option, Some, None, refl, sym, ap, subst, arith, ⊎_elim}
-use Rattle.std.specs.Prelude.{◌==◌, ◌&&◌, ◌||◌, All, filter_map, is_some, slice_get}
+use Rattle.std.specs.Prelude.{◌==◌, ◌&&◌, ◌||◌, All, Contains, filter_map, is_some, slice_get}
 use Rattle.std.specs.List.{list_any, range_with_len}
 use Rattle.std.specs.Option.{option_map_or}
 use Rattle.std.proofs.lemmas.Bool.{and_parts, both_ways, eq-eqb, eqb-true, not-true, or_cases, or_left, or_right}
@@ -130,14 +130,20 @@ module _ (m : List Member) (report : Report) (merge : Merge m report) (run : IsR
       sym (config_of_lines m merge.by_nodes ∙ ap config_after merge.history ∙ ap (change_all state.empty.config) (events_without_roots h)) in
       merge.one_log_a_node ∙ sym (made_lines h) ∙ slots_made (changes h) run_so ∙ ap (λ (c : Configuration). range_with_len 0 (length c.slots)) (config_of h ∙ same)
 
+  -- a node made has a log
+  pub log_of : (n : ℕ) (x : Slot) → slot (state_after (events m)).config n ≡ Some x → (l : NodeLog) × Contains report.logs l × (l.slot ≡ n)
+  log_of n x there =
+      let c = (state_after (events m)).config in
+      let at : slice_get (map (λ (l : NodeLog). l.slot) report.logs) n ≡ Some n =
+      ap (λ xs. slice_get xs n) slots_of_logs ∙ numbered_at 0 (length c.slots) n (slice_get-below c.slots n x there) ∙ ap Some (omega arith) in
+      let l = slice_get-map_some (λ (l : NodeLog). l.slot) report.logs n n at in
+      (l.0, Contains-at report.logs n l.0 l.1, l.2)
+
   pub logs_fold : All (IsFolded m report.history) report.logs → HasFolds (events m)
   logs_fold folds = record {
     all = λ n x there.
-        let c = (state_after (events m)).config in
-        let at : slice_get (map (λ (l : NodeLog). l.slot) report.logs) n ≡ Some n =
-        ap (λ xs. slice_get xs n) slots_of_logs ∙ numbered_at 0 (length c.slots) n (slice_get-below c.slots n x there) ∙ ap Some (omega arith) in
-        let l = slice_get-map_some (λ (l : NodeLog). l.slot) report.logs n n at in
-        let has = All-contains (IsFolded m report.history) report.logs l.0 folds (Contains-at report.logs n l.0 l.1) in
+        let l = log_of n x there in
+        let has = All-contains (IsFolded m report.history) report.logs l.0 folds l.1 in
         ap (λ k. is_some (fold_of_node (events m) k)) (sym l.2) ∙ folded (fold_of_node (events m) l.0.slot) (moved_to report.history l.0.slot) l.0.last has;
   }
 

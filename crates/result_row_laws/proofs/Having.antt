@@ -1,15 +1,19 @@
 -- A lawful report of rows has its items.
 use Rattle.std.proofs.Common.{◌≡◌, ◌∙◌, ℕ, ◌+◌, true, false, List, [], ◌∷◌, ◌++◌, Some, refl, sym, ap, arith}
-use Rattle.std.specs.Prelude.{◌==◌, slice_get}
+use Rattle.std.specs.Prelude.{◌==◌, option_map, slice_get}
 use Rattle.std.specs.Option.{option_map_or}
 use Rattle.std.proofs.lemmas.Bool.{both_ways, eq-eqb, ne_eqb}
 use Rattle.std.proofs.lemmas.List.{append-nil, append_cancel_left}
 use Rattle.std.proofs.lemmas.Option.{none-some, same_Some}
-use Rattle.base.specs.Each.{Each}
 use Rattle.base.proofs.PlaceLaws.{one_at, tails_are}
+use Rattle.base.proofs.OptionLaws.{option_map_some}
+use Rattle.config_graph.specs.Graph.{Graph}
+use Rattle.config_graph.specs.declared.kind.Kind.{Kind}
 use Rattle.config_graph.specs.declared.kind.Kind.TheVariants.{Sink, Source}
+use Rattle.config_graph.specs.declared.node.Node.{Node}
+use Rattle.quiesce_core.specs.Live.{IsGraphOf}
+use Rattle.quiesce_core.specs.State.{slot}
 use Rattle.quiesce_core.specs.Doers.{is_of_change}
-use Rattle.quiesce_core.specs.Runs.{IsRun, is_open_after}
 use Rattle.quiesce_core.specs.declared.event.Event.{Event}
 use Rattle.quiesce_core.specs.declared.event.Event.TheVariants as event
 use Rattle.report_types.specs.declared.report.HistoryLine.{HistoryLine}
@@ -17,9 +21,8 @@ use Rattle.report_types.specs.declared.report.HistoryLine.TheVariants as to
 use Rattle.report_types.specs.declared.report.Last.TheVariants as last
 use Rattle.report_types.specs.declared.report.NodeLog.{NodeLog}
 use Rattle.report_types.specs.declared.report.Report.{Report}
-use Rattle.change_law.specs.Follows.{Follows}
-use Rattle.change_law.specs.Lawful.{IsDrainedAt, Lawful, Merge}
-use Rattle.change_law.specs.Members.{Member, by_node, of_history, event_in, event_of, events}
+use Rattle.change_law.specs.Lawful.{Lawful}
+use Rattle.change_law.specs.Members.{Member, by_node, of_history, event_in, event_of, events, state_at}
 use Rattle.change_law.specs.Statements.{Statement}
 use Rattle.change_law.proofs.MemberLaws.{events_parts}
 use Rattle.change_round_laws.specs.SoundStatements.{AreSound}
@@ -27,15 +30,18 @@ use Rattle.change_round_laws.proofs.CommitGraphLaws.{CommitsByConfiguration, Com
 use Rattle.change_round_laws.proofs.FoldLaws.{StatesAreHanded}
 use Rattle.result_row_laws.specs.Items.{HasItems, IsItem, IsLogOfLive, WasAnswered}
 use Rattle.result_row_laws.specs.Keeping.{AreRows}
-use Rattle.result_row_laws.specs.Rows.{through}
+use Rattle.result_come_laws.specs.Describing.{kind_at}
+use Rattle.result_row_laws.specs.Rows.{IsRow, through}
 use Rattle.result_come_laws.specs.Coming.{HasFolds, come}
 use Rattle.result_come_laws.proofs.PlacedLaws.{placed}
-use Rattle.result_come_laws.proofs.StoppingLaws.{NothingIsOpen, logs_fold, open_nowhere}
+use Rattle.result_come_laws.proofs.ReopenedLaws.{ends_at}
+use Rattle.result_come_laws.proofs.StoppingLaws.{NothingIsOpen, log_of, logs_fold, open_nowhere}
 use Rattle.result_row_laws.proofs.Course.{Course, RowAt}
 use Rattle.result_row_laws.proofs.Ends.{MakesWell, each_is_last, last_made, same_sink, same_source}
 use Rattle.result_row_laws.proofs.Lawfully.{makes, opens, placed_courses}
 use Rattle.result_row_laws.proofs.Placing.{ItemAt, PlacedCourse}
 use Rattle.result_row_laws.proofs.Resting.{Ends}
+use Rattle.result_row_laws.proofs.Rising.{stand_of}
 use Rattle.result_row_laws.proofs.Serving.{not_answered_0, served}
 use Rattle.result_row_laws.proofs.Stopping.{ends_there, log_ends}
 
@@ -143,6 +149,31 @@ module _ (handed : StatesAreHanded) (each_may : EachMayCommit) (by_config : Comm
         began = λ j item at. was_answered l.members (j + 1) item (whole.places j item at);
         each = item_of;
       }
+
+  -- the report has a log of each node of the graph that stands at its end
+  log_of_kind : (g : Graph) → IsGraphOf (state_at l.members).config g → (k : Kind) (i : ℕ) → kind_at g i ≡ Some k → (log : NodeLog) × IsLogOfLive l.members report k log
+  log_of_kind g stands k i here =
+      let node = option_map_some (λ (n : Node). n.kind) (slice_get g.nodes i) k here in
+      let stand = stand_of (state_at l.members).config g stands i node.0 node.1 in
+      let at = stand.1 in
+      let log = log_of l.members report l.by_them.merge l.by_them.runs stand.0 at.made at.there in (
+        log.0,
+        record {
+          there = log.1;
+          made = at.made;
+          at = ap (slot (state_at l.members).config) log.2 ∙ at.there;
+          live = at.live;
+          kind = same_Some at.made.node.kind k (sym (ap (option_map (λ (n : Node). n.kind)) at.stands) ∙ here);
+        },
+      )
+
+  pub end_logs : (source : NodeLog) × (sink : NodeLog) × IsLogOfLive l.members report Source source × IsLogOfLive l.members report Sink sink
+  end_logs =
+      let last_ = ends_at each_may by_config leaves statements IsRow report l.members sound rows.rows l.follows l.by_them.merge l.by_them.runs in
+      let row = last_.has in
+      let first = log_of_kind last_.graph last_.stands Source row.source row.is_source in
+      let second = log_of_kind last_.graph last_.stands Sink row.sink row.is_sink in
+      (first.0, second.0, first.1, second.1)
 
   pub not_0 : (before between after : List Member) (port serial value answer : ℕ) → l.members ≡ before ++ by_node (event.Begin port serial value) ∷ (between ++ by_node (event.End port serial answer) ∷ after) → answer ≡ 0 → ⊥
   not_0 before between after port serial value answer parts is =

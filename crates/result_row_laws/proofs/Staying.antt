@@ -14,7 +14,7 @@ use Rattle.config_graph.specs.declared.node.Node.{Node}
 use Rattle.component_trait.specs.States.{Kept, NodeState}
 use Rattle.component_trait.specs.Tables.{opening}
 use Rattle.quiesce_word.specs.Phases.{is_idle}
-use Rattle.quiesce_core.specs.Alters.{Reconfigures, exchange_next, gate_next, slot_next}
+use Rattle.quiesce_core.specs.Alters.{Reconfigures, gate_next, slot_next}
 use Rattle.quiesce_core.specs.Doers.{is_make, is_of_change}
 use Rattle.quiesce_core.specs.Effect.{effect}
 use Rattle.quiesce_core.specs.Legal.{Legal}

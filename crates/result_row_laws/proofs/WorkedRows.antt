@@ -1,19 +1,24 @@
 -- The definitions on small systems.
-use Rattle.std.proofs.Common.{◌≡◌, ◌∙◌, ℕ, zero, suc, ◌<◌, false, true, List, [], ◌∷◌, length, Option, Some, None, refl, sym, ap, subst, arith, inl, inr}
-use Rattle.std.specs.Prelude.{◌⊎◌, All, Contains, is_some, slice_get}
+use Rattle.std.proofs.Common.{◌≡◌, ◌∙◌, ℕ, zero, suc, ◌+◌, ◌<◌, Bool, false, true, List, [], ◌∷◌, ◌++◌, length, Option, Some, None, refl, sym, ap, subst, arith, inl, inr}
+use Rattle.std.specs.Prelude.{◌⊎◌, ◌||◌, All, Contains, is_some, slice_get}
+use Rattle.std.specs.List.{list_any}
 use Rattle.std.proofs.lemmas.List.Elements.{All-cons, All-head, All-nil, All-tail}
-use Rattle.std.proofs.lemmas.Bool.{both_ways, ne_eqb}
+use Rattle.std.proofs.lemmas.Bool.{both_ways, ne_eqb, or_parts}
+use Rattle.std.proofs.lemmas.List.Folds.{list_any-append}
+use Rattle.std.proofs.lemmas.Option.{none-some, same_Some}
+use Rattle.base.proofs.PlaceLaws.{heads_are, tails_are}
 use Rattle.config_graph.specs.declared.node.Target.{Target}
 use Rattle.config_graph.specs.Graph.{Graph, target_of}
 use Rattle.config_graph.specs.Cycles.{IsLinked}
 use Rattle.config_graph.specs.declared.kind.Kind.TheVariants.{Map, Sink, Source}
 use Rattle.quiesce_core.specs.Live.{IsGraphOf}
 use Rattle.quiesce_core.specs.State.{Configuration}
+use Rattle.quiesce_core.specs.declared.event.Event.TheVariants as event
 use Rattle.report_types.specs.declared.report.Last.{Last}
 use Rattle.report_types.specs.declared.report.Last.TheVariants as last
-use Rattle.change_law.specs.Members.{state_at}
+use Rattle.change_law.specs.Members.{Member, by_node, state_at}
 use Rattle.change_law.specs.Standing.{is_graph_of}
-use Rattle.result_row_laws.specs.Items.{HasItems, WasAnswered}
+use Rattle.result_row_laws.specs.Items.{HasItems, IsItem, WasAnswered}
 use Rattle.result_come_laws.specs.Describing.{kind_at}
 use Rattle.result_row_laws.specs.Rows.{IsRow, LeadsThrough, through}
 use Rattle.result_row_laws.specs.Worked.{members, row_of_none, row_of_one, row_of_two, sink_log, source_log, under_way, until_begun, with_one_aside}
@@ -136,12 +141,57 @@ items_in : Last → List ℕ
 items_in (last.State xs) = xs
 items_in _ = []
 
+-- its one transaction
+abbrev one_answered : WasAnswered members 1
+one_answered = record { before = until_begun; between = under_way; after = []; port = 0; serial = 1; answer = 1; parts = refl; not_0 = λ e. omega (arith, e) }
+
+abbrev is_begun : Member → Bool
+is_begun (by_node (event.Begin p k v)) = true
+is_begun _ = false
+
+-- where there is one Begin, it stands there
+one_begun : (front before : List Member) (x y : Member) (rest after : List Member) → list_any is_begun front ≡ false → list_any is_begun rest ≡ false → is_begun y ≡ true → front ++ x ∷ rest ≡ before ++ y ∷ after → before ≡ front
+one_begun [] [] x y rest after none_ none_' is h = refl
+one_begun [] (b ∷ before) x y rest after none_ none_' is h =
+    let there : list_any is_begun (before ++ y ∷ after) ≡ true = list_any-append is_begun before (y ∷ after) ∙ ap (λ b. list_any is_begun before || (b || list_any is_begun after)) is ∙ either (list_any is_begun before) in
+    absurd (both_ways (list_any is_begun rest) none_' (ap (list_any is_begun) (tails_are x b rest (before ++ y ∷ after) h) ∙ there))
+  where
+    either : (b : Bool) → (b || true) ≡ true
+    either true = refl
+    either false = refl
+one_begun (a ∷ front) [] x y rest after none_ none_' is h =
+    absurd (both_ways (is_begun a) (or_parts (is_begun a) (list_any is_begun front) none_).0 (ap is_begun (heads_are a y (front ++ x ∷ rest) after h) ∙ is))
+one_begun (a ∷ front) (b ∷ before) x y rest after none_ none_' is h =
+    let same = sym (heads_are a b (front ++ x ∷ rest) (before ++ y ∷ after) h) in
+    let later = one_begun front before x y rest after (or_parts (is_begun a) (list_any is_begun front) none_).1 none_' is (tails_are a b (front ++ x ∷ rest) (before ++ y ∷ after) h) in
+    (λ i. same i ∷ later i)
+
+-- it is 11
+pub item_holds : ((c : Configuration) (g : Graph) → is_graph_of c g ≡ true → IsGraphOf c g) → HasItems members source_log (sink_log 11)
+item_holds found = record { items = 11 ∷ []; source_says = refl; sink_has = refl; began = begun; each = each }
+  where
+    begun : (j item : ℕ) → slice_get (11 ∷ []) j ≡ Some item → WasAnswered members (j + 1)
+    begun zero item at = one_answered
+    begun (suc j) item at = absurd (none-some item at)
+
+    each : (j item : ℕ) (b : WasAnswered members (j + 1)) → slice_get (11 ∷ []) j ≡ Some item → IsItem members (j + 1) item b
+    each zero item b at =
+        let e = by_node (event.End 0 1 1) in
+        let before : b.before ≡ until_begun =
+        one_begun until_begun b.before (by_node (event.Begin 0 1 1)) (by_node (event.Begin b.port b.serial 1)) (under_way ++ e ∷ []) (b.between ++ by_node (event.End b.port b.serial b.answer) ∷ b.after) refl refl refl b.parts in
+        record {
+          graph = row_of_one;
+          stands = subst (λ (m : List Member). IsGraphOf (state_at m).config row_of_one) (sym before) (found (state_at until_begun).config row_of_one refl);
+          row = one_is_row;
+          is = sym (same_Some 11 item at) ∙ sym (maps_of_one one_is_row);
+        }
+    each (suc j) item b at = absurd (none-some item at)
+
 -- its item is what the one map made of it, and no other number
 pub item_is : ((c : Configuration) (g : Graph) → is_graph_of c g ≡ true → IsGraphOf c g) → ((c : Configuration) (g h : Graph) → IsGraphOf c g → IsGraphOf c h → g ≡ h) → (item : ℕ) → HasItems members source_log (sink_log item) → item ≡ 11
 unfolding items_in
 item_is found one item h =
     let has : item ∷ [] ≡ h.items = ap items_in h.sink_has in
-    let b : WasAnswered members 1 = record { before = until_begun; between = under_way; after = []; port = 0; serial = 1; answer = 1; parts = refl; not_0 = λ e. omega (arith, e) } in
-    let i = h.each 0 item b (sym (ap (λ (xs : List ℕ). slice_get xs 0) has)) in
+    let i = h.each 0 item one_answered (sym (ap (λ (xs : List ℕ). slice_get xs 0) has)) in
     let same : i.graph ≡ row_of_one = one (state_at until_begun).config i.graph row_of_one i.stands (found (state_at until_begun).config row_of_one refl) in
     i.is ∙ subst (λ (g : Graph). (r : IsRow g) → through g r.maps 1 ≡ 11) (sym same) maps_of_one i.row

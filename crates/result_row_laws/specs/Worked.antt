@@ -1,42 +1,35 @@
 -- Small systems on which the definitions are evaluated.
-use Rattle.std.specs.Prelude.{ℕ, List, [], ◌∷◌, ◌++◌, Option, Some, None, codes}
+use Rattle.std.specs.Prelude.{ℕ, List, [], ◌∷◌, ◌++◌, Some, None, codes}
 use Rattle.config_graph.specs.Graph.{Graph}
-use Rattle.config_graph.specs.declared.kind.Kind.{Kind}
 use Rattle.config_graph.specs.declared.kind.Kind.TheVariants.{Source, Map, Sink}
-use Rattle.config_graph.specs.declared.node.Link.{Link}
-use Rattle.config_graph.specs.declared.node.Node.{Node}
 use Rattle.quiesce_core.specs.declared.event.Event.TheVariants as event
+use Rattle.quiesce_laws.specs.Worked.{node}
+use Rattle.change_plan_laws.specs.Systems.{leads}
 use Rattle.report_types.specs.declared.report.HistoryLine.TheVariants as to
 use Rattle.report_types.specs.declared.report.Last.TheVariants as last
 use Rattle.report_types.specs.declared.report.NodeLog.{NodeLog}
 use Rattle.change_law.specs.Members.{Member, by_node, of_history}
 
-abbrev node : List ℕ → Kind → Option ℕ → Node
-node path kind arg = record { path = path; kind = kind; arg = arg }
-
-abbrev link : ℕ → ℕ → ℕ → Link
-link from require to = record { from = from; require = require; to = to; provide = 0 }
-
 -- two maps between a source and a sink; the order of paths is another than that of the way
 abbrev pub row_of_two : Graph
 row_of_two = record {
   nodes = node (codes "a") Map (Some 10) ∷ node (codes "b") Sink None ∷ node (codes "c") Source (Some 3) ∷ node (codes "d") Map (Some 16777215) ∷ [];
-  links = link 0 0 1 ∷ link 2 0 3 ∷ link 3 0 0 ∷ [];
+  links = leads 0 0 1 ∷ leads 2 0 3 ∷ leads 3 0 0 ∷ [];
 }
 
 -- a source and a sink alone
 abbrev pub row_of_none : Graph
-row_of_none = record { nodes = node (codes "a") Sink None ∷ node (codes "b") Source (Some 3) ∷ []; links = link 1 0 0 ∷ [] }
+row_of_none = record { nodes = node (codes "a") Sink None ∷ node (codes "b") Source (Some 3) ∷ []; links = leads 1 0 0 ∷ [] }
 
 -- a map that stands aside
 abbrev pub with_one_aside : Graph
-with_one_aside = record { nodes = node (codes "a") Map (Some 1) ∷ node (codes "b") Sink None ∷ node (codes "c") Source (Some 3) ∷ []; links = link 0 0 1 ∷ link 2 0 1 ∷ [] }
+with_one_aside = record { nodes = node (codes "a") Map (Some 1) ∷ node (codes "b") Sink None ∷ node (codes "c") Source (Some 3) ∷ []; links = leads 0 0 1 ∷ leads 2 0 1 ∷ [] }
 
 -- a source, a map that adds 10, and a sink
 abbrev pub row_of_one : Graph
 row_of_one = record {
   nodes = node (codes "a") Source (Some 1) ∷ node (codes "b") Map (Some 10) ∷ node (codes "c") Sink None ∷ [];
-  links = link 0 0 1 ∷ link 1 0 2 ∷ [];
+  links = leads 0 0 1 ∷ leads 1 0 2 ∷ [];
 }
 
 -- it is started, and one value passes through it

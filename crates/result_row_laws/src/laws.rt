@@ -22,12 +22,15 @@ use change_plan_laws::{commits_can_not_fail, commits_leave_the_new_graph, each_p
 
 /// Where each description is a row system, and each change keeps or moves the source and the sink, the last sink has as
 /// many items as the last source says that it sent, and each is what became of its value on the way that stood when
-/// its transaction began.
+/// its transaction began. There are logs of a live source and of a live sink.
 pub fn rows_have_their_items()
     ensures items { (statements : List Statement) (report : Report) → AreSound statements
         → AreRows statements → (l : Lawful statements report) → (source sink : NodeLog)
         → IsLogOfLive l.members report Source source → IsLogOfLive l.members report Sink sink
         → HasItems l.members source sink }
+    ensures ends { (statements : List Statement) (report : Report) → AreSound statements
+        → AreRows statements → (l : Lawful statements report) → (source : NodeLog) × (sink : NodeLog)
+        × IsLogOfLive l.members report Source source × IsLogOfLive l.members report Sink sink }
 {
     each_plan_may_commit();
     commits_can_not_fail();
@@ -53,12 +56,13 @@ pub fn sources_are_never_answered_0()
 }
 
 /// The definitions on small systems: two maps in a row, and a graph in which one stands aside, which is no row. A value
-/// on its way; and a report in which an item went through another map than the one that stood, which is wrong.
+/// on its way; and a report whose one item is 11: one that went through another map than the one that stood is wrong.
 pub fn rows_are_told_from_others()
     ensures rows { IsRow row_of_none × IsRow row_of_one × ((row : IsRow row_of_two) × (row.maps ≡ 3 ∷ 0 ∷ [])) }
     ensures passed { through row_of_two (3 ∷ 0 ∷ []) 1 ∷ through row_of_two (3 ∷ 0 ∷ []) 2
         ∷ through row_of_none [] 7 ∷ [] ≡ 10 ∷ 11 ∷ 7 ∷ [] }
     ensures aside { IsRow with_one_aside → ⊥ }
+    ensures holds { HasItems members source_log (sink_log 11) }
     ensures item { (item : ℕ) → HasItems members source_log (sink_log item) → item ≡ 11 }
 {
     plans_and_graphs_are_found_by_tests();
