@@ -106,6 +106,7 @@ impl Way {
         requires allowed { denial self.now.core.state event.now ≡ None }
         ensures { result ≡ guarded.waits self.now.core.state (drop self.now.line history.now) event.now }
     {
+        // it tells that the state is well formed, so that an allowed event or line is of a port that the tables have
         let _ = self.core.made();
         match event {
             Event::Begin { port, serial, .. } => {
@@ -175,6 +176,7 @@ impl Way {
         ensures { is_allowed self.now.core.state line.now ≡ true
             → result ≡ spec.is_ready self.now.core.state (drop (self.now.line + 1) history.now) line.now }
     {
+        // it tells that the state is well formed, so that an allowed event or line is of a port that the tables have
         let _ = self.core.made();
         match line {
             HistoryLine::Close { port } => {
@@ -254,7 +256,11 @@ impl Way {
     }
 
     /// Adds the chains that may go on behind the last line.
-    fn add_behind_line(&self, history: &[HistoryLine], candidates: &mut Candidates) -> Result<(), NoMemory>
+    fn add_behind_line(
+        &self,
+        history: &[HistoryLine],
+        candidates: &mut Candidates,
+    ) -> Result<(), NoMemory>
         ensures { OnOk result (length candidates.new.chains.items ≤ length candidates.old.chains.items + 3) }
     {
         candidates.add(Chain::History)?;
