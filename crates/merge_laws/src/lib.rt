@@ -1,6 +1,7 @@
-//! Laws of merges: a history and the nodes' logs are parts of one run exactly where a simulation, in which each member
-//! comes as soon as the machine's rules and a few guards let it, ends with nothing left. So whether there is such a run is
-//! found without a search: members that may come next never bar each other, and either order comes to the same.
+//! Laws of merges: for a history that tells of each close (`IsTold`), it and the nodes' logs are parts of one run in which
+//! no root is begun where services call, exactly where a simulation ends with nothing left. In that each member comes as
+//! soon as the machine's rules and a few guards let it. So whether there is such a run is found without a search: members
+//! that may come next never bar each other, and either order comes to the same.
 #![tactic(auto)]
 
 mod deciding;

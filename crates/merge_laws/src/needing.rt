@@ -19,8 +19,9 @@ pub fn each_guard_is_needed()
     ensures open_is_apart { Misleads (record all_guards { open_is_apart = false }) }
 {}
 
-/// Each guard by which a member waits is needed for reports that follow a script. Without it there is a lawful one from
-/// which a way goes on no more before its end: the report would be called unlawful, though it isn't.
+/// The guards by which a close, a begin, a call and an end wait for what is told are needed for reports that follow a
+/// script. Without any one of them there is a lawful report from which a way goes on no more before its end: it would be
+/// called unlawful, though it isn't.
 pub fn lawful_reports_need_each_wait()
     ensures close_waits { MisleadsOnReport (record all_guards { close_waits = false }) }
     ensures begin_waits { MisleadsOnReport (record all_guards { begin_waits = false }) }

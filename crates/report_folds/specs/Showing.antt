@@ -6,15 +6,15 @@ use Rattle.change_law.specs.Members.{is_commit}
 use Rattle.change_law.specs.Statements.{Statement, graph_of}
 use Rattle.report_types.specs.declared.report.HistoryLine.{HistoryLine}
 use Rattle.report_types.specs.declared.report.HistoryLine.TheVariants as to
-use Rattle.report_folds.specs.declared.showing.Place.{Place}
+use Rattle.report_folds.specs.declared.showing.Begun.{Begun as BegunFields}
 
 -- how many starts and changes were begun, and which one, from 0 on, was the last that was committed
 pub record Begun : Type 0 where
   pub heads : ℕ
   pub committed : Option ℕ
 
-abbrev pub begun_in : Place → Begun
-begun_in p = record { heads = p.heads; committed = p.committed }
+abbrev pub begun_in : BegunFields → Begun
+begun_in b = record { heads = b.heads; committed = b.committed }
 
 abbrev pub none_begun : Begun
 none_begun = record { heads = 0; committed = None }

@@ -29,12 +29,7 @@ fn keeps_to_limit(line: &HistoryLine) -> bool
 fn keep_to_limits(history: &[HistoryLine]) -> bool
     ensures { result ≡ list_all consistent.keeps_to_limit history.now }
 {
-    for line in history {
-        if !keeps_to_limit(line) {
-            return false;
-        }
-    }
-    true
+    history.iter().all(|line| keeps_to_limit(line))
 }
 
 fn is_pending(line: &HistoryLine) -> bool
@@ -47,12 +42,7 @@ fn is_pending(line: &HistoryLine) -> bool
 fn has_pending(history: &[HistoryLine]) -> bool
     ensures { result ≡ list_any members.is_pending history.now }
 {
-    for line in history {
-        if is_pending(line) {
-            return true;
-        }
-    }
-    false
+    history.iter().any(|line| is_pending(line))
 }
 
 /// The status of a run with this history that left this node undone.
@@ -77,12 +67,7 @@ fn is_finish(step: &Step) -> bool
 fn have_finish(steps: &[Step]) -> bool
     ensures { result ≡ list_any (λ s. statements.is_finish (statement_of s)) steps.now }
 {
-    for step in steps {
-        if is_finish(step) {
-            return true;
-        }
-    }
-    false
+    steps.iter().any(|step| is_finish(step))
 }
 
 /// Whether the rounds of each `finish`, the node that isn't done and the status are right, where this is the first live

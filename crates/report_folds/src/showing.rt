@@ -16,7 +16,7 @@ use std::alloc::Global;
 
 /// How many starts and changes were begun, and which one was the last that was committed.
 #[derive(Clone, Copy, Debug)]
-pub(crate) struct Place {
+pub(crate) struct Begun {
     pub heads: usize,
     pub committed: Option<usize>,
 }
@@ -57,18 +57,18 @@ fn described_graphs<'a>(
     Ok(graphs)
 }
 
-impl Place {
-    /// The place behind a line.
-    fn behind(self, line: &HistoryLine) -> Place
+impl Begun {
+    /// The same behind a line.
+    fn behind(self, line: &HistoryLine) -> Begun
         requires { self.heads < 2 ^ 63 }
         ensures { begun_in result ≡ showing.behind_line (begun_in self) line.now }
     {
         match line {
-            HistoryLine::Start { .. } | HistoryLine::Change { .. } => Place {
+            HistoryLine::Start { .. } | HistoryLine::Change { .. } => Begun {
                 heads: self.heads + 1,
                 committed: self.committed,
             },
-            HistoryLine::Commit => Place {
+            HistoryLine::Commit => Begun {
                 heads: self.heads,
                 committed: Some(self.heads.saturating_sub(1)),
             },
@@ -104,15 +104,15 @@ impl Place {
 fn are_standing(graphs: &[&Graph], history: &[HistoryLine]) -> bool
     ensures { IsTrue result ↔ Each (showing.IsShownBy (map (λ g. g.now) graphs.now)) history.now }
 {
-    let mut place = Place {
+    let mut begun = Begun {
         heads: 0,
         committed: None,
     };
     for line in history {
-        if !place.shows(graphs, line) {
+        if !begun.shows(graphs, line) {
             return false;
         }
-        place = place.behind(line);
+        begun = begun.behind(line);
     }
     true
 }

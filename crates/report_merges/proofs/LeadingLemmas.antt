@@ -57,7 +57,7 @@ one_less x (suc n) h = event_less x n (log_of x n) refl h
 pub fewer : (x : Left) (c : ℕ) (y : Left) → IsTried x c true y → left y + 1 ≡ left x
 fewer x c y t = ap (λ u. left u + 1) t.new_is ∙ one_less x c (sym t.came_is)
 
--- where each member that comes hints at three chains at most, tries come to an end
+-- where each member that comes adds three candidates at most, tries come to an end
 pub tries_end : (x : Left) (c : ℕ) (came : Bool) (y : Left) (a b d : ℕ) → IsTried x c came y → b + 1 ≡ a → d ≤ b + cond came 3 0
     → 4 * left y + d < 4 * left x + a
 tries_end x c true y a b d t one few = omega (arith, fewer x c y t, one, few)

@@ -11,8 +11,8 @@ use Rattle.report_types.specs.declared.report.NodeLog.{NodeLog}
 use Rattle.change_law.specs.Members.{event_of}
 use Rattle.merge_laws.specs.Guarded.{Left, go, is_called_at, is_met, may_go, told}
 use Rattle.report_merges.specs.Ahead.{AreBounds, IsAhead}
-use Rattle.report_merges.specs.declared.hints.Chain.{Chain}
-use Rattle.report_merges.specs.declared.hints.Chain.TheVariants.{History, Log}
+use Rattle.report_merges.specs.declared.candidates.Chain.{Chain}
+use Rattle.report_merges.specs.declared.candidates.Chain.TheVariants.{History, Log}
 use Rattle.report_merges.specs.declared.way.Way.{Way}
 
 -- what each node did, by slots

@@ -8,17 +8,17 @@ ghost use Rattle.merge_laws.specs.Telling.{IsTold};
 ghost use Rattle.report_merges.specs.Going.{IsPlaced, IsTried, events_of, left_behind, number_of};
 ghost use Rattle.report_merges.specs.Ways.{GoesOnNoMore, IsDecidedBy, IsPassed, LeadsOn};
 
-use crate::hints::{Chain, Hints};
+use crate::candidates::{Candidates, Chain};
 use crate::way::Way;
 use config_graph::NoMemory;
 use merge_laws::going_decides_merges;
 use report_types::{HistoryLine, NodeLog};
 use std::alloc::Global;
 
-/// Lets the next member of a chain come, where it may, and then hints at those that may go on.
+/// Lets the next member of a chain come, where it may, and then adds the chains that may go on behind it.
 fn try_one(
     way: &mut Way,
-    hints: &mut Hints,
+    candidates: &mut Candidates,
     history: &[HistoryLine],
     logs: &[NodeLog],
     chain: Chain,
@@ -27,20 +27,20 @@ fn try_one(
     ensures tried { IfOk result (λ came. IsTried (left_behind way.old history.now logs.now)
         (number_of chain) came (left_behind way.new history.now logs.now)) }
     ensures placed { OnOk result (IsPlaced way.new history.now logs.now) }
-    ensures few { IfOk result (λ came. length hints.new.chains.items
-        ≤ length hints.old.chains.items + (if came then 3 else 0)) }
+    ensures few { IfOk result (λ came. length candidates.new.chains.items
+        ≤ length candidates.old.chains.items + (if came then 3 else 0)) }
 {
     if way.try_chain(history, logs, chain)? {
-        way.hint(history, logs, chain, hints)?;
+        way.add_behind(history, logs, chain, candidates)?;
         return Ok(true);
     }
     Ok(false)
 }
 
-/// Follows hints until none is left.
+/// Tries candidates until none is left.
 fn follow(
     way: &mut Way,
-    hints: &mut Hints,
+    candidates: &mut Candidates,
     history: &[HistoryLine],
     logs: &[NodeLog],
 ) -> Result<(), NoMemory>
@@ -49,8 +49,8 @@ fn follow(
         (LeadsOn (left_behind way.old history.now logs.now) (left_behind way.new history.now logs.now)) }
     ensures placed { OnOk result (IsPlaced way.new history.now logs.now) }
 {
-    while let Some(chain) = hints.take() {
-        try_one(way, hints, history, logs, chain)?;
+    while let Some(chain) = candidates.take() {
+        try_one(way, candidates, history, logs, chain)?;
     }
     Ok(())
 }
@@ -58,7 +58,7 @@ fn follow(
 /// Tries each chain once, and says whether a member came.
 fn try_all(
     way: &mut Way,
-    hints: &mut Hints,
+    candidates: &mut Candidates,
     history: &[HistoryLine],
     logs: &[NodeLog],
 ) -> Result<bool, NoMemory>
@@ -67,18 +67,18 @@ fn try_all(
         came (left_behind way.new history.now logs.now)) }
     ensures placed { OnOk result (IsPlaced way.new history.now logs.now) }
 {
-    let mut came = try_one(way, hints, history, logs, Chain::History)?;
+    let mut came = try_one(way, candidates, history, logs, Chain::History)?;
     for node in 0..logs.len() {
-        let one = try_one(way, hints, history, logs, Chain::Log(node))?;
+        let one = try_one(way, candidates, history, logs, Chain::Log(node))?;
         came = came || one;
     }
     Ok(came)
 }
 
-/// Goes on until no member may come. Hints say where to look; that there is none is found by trying each chain.
+/// Goes on until no member may come. Candidates are tried first; that none may come is found by trying each chain.
 fn go_on(
     way: &mut Way,
-    hints: &mut Hints,
+    candidates: &mut Candidates,
     history: &[HistoryLine],
     logs: &[NodeLog],
 ) -> Result<(), NoMemory>
@@ -88,8 +88,8 @@ fn go_on(
     ensures no_more { OnOk result (GoesOnNoMore (left_behind way.new history.now logs.now)) }
     ensures placed { OnOk result (IsPlaced way.new history.now logs.now) }
 {
-    while try_all(way, hints, history, logs)? {
-        follow(way, hints, history, logs)?;
+    while try_all(way, candidates, history, logs)? {
+        follow(way, candidates, history, logs)?;
     }
     Ok(())
 }
@@ -104,13 +104,14 @@ fn decide(
     requires { IsPlaced way.old history.now logs.now }
     ensures { IfOk result (IsDecidedBy (left_behind way.old history.now logs.now)) }
 {
-    let mut hints = Hints::new(alloc, logs.len())?;
-    go_on(way, &mut hints, history, logs)?;
+    let mut candidates = Candidates::new(alloc, logs.len())?;
+    go_on(way, &mut candidates, history, logs)?;
     Ok(way.has_ended(history, logs))
 }
 
 /// Whether a way that goes on no more ends with nothing left of the history and of the logs, which stand by slots. Where
-/// the history tells of each close, that is so exactly where there is a merge.
+/// the history tells of each close, that is so exactly where there is a merge in which no root is begun at a port at
+/// which services call.
 pub fn leads_to_the_end(
     alloc: Global,
     history: &[HistoryLine],

@@ -11,9 +11,9 @@ ghost use Rattle.report_merges.specs.Going.{IsPlaced, IsTried, events_of, is_all
 ghost use Rattle.report_types.specs.declared.report.NodeLog.{NodeLog as NodeEvents};
 
 use crate::ahead::Ahead;
+use crate::candidates::{Candidates, Chain};
 use crate::closes::{Closes, Root};
 use crate::guards::{is_beyond, is_called_at, is_done_by, is_drained, is_met, is_of_change, tell};
-use crate::hints::{Chain, Hints};
 use config_graph::NoMemory;
 use quiesce_core::{Core, Event};
 use report_types::{HistoryLine, NodeLog};
@@ -59,11 +59,10 @@ fn port_of(event: &Event) -> Option<u32> {
     }
 }
 
-/// The port of which the line at a place is.
+/// The port at whose ends more may come behind the line at a place: it is open again, or another line tells of it next.
 fn line_port(history: &[HistoryLine], place: usize) -> Option<u32> {
     match history.get(place) {
         Some(HistoryLine::Reopen { port }) => Some(*port),
-        Some(HistoryLine::Unlink { port }) => Some(*port),
         Some(HistoryLine::Drained { port, .. }) => Some(*port),
         Some(HistoryLine::Root { port, .. }) => Some(*port),
         _ => None,
@@ -107,6 +106,7 @@ impl Way {
         requires allowed { denial self.now.core.state event.now ≡ None }
         ensures { result ≡ guarded.waits self.now.core.state (drop self.now.line history.now) event.now }
     {
+        // it tells that the state is well formed, so that an allowed event or line is of a port that the tables have
         let _ = self.core.made();
         match event {
             Event::Begin { port, serial, .. } => {
@@ -176,6 +176,7 @@ impl Way {
         ensures { is_allowed self.now.core.state line.now ≡ true
             → result ≡ spec.is_ready self.now.core.state (drop (self.now.line + 1) history.now) line.now }
     {
+        // it tells that the state is well formed, so that an allowed event or line is of a port that the tables have
         let _ = self.core.made();
         match line {
             HistoryLine::Close { port } => {
@@ -243,63 +244,67 @@ impl Way {
         }
     }
 
-    /// Hints at the nodes at the ends of a port.
-    fn hint_at(&self, port: u32, hints: &mut Hints) -> Result<(), NoMemory>
-        ensures { OnOk result (length hints.new.chains.items ≤ length hints.old.chains.items + 2) }
+    /// Adds the logs of the nodes at the ends of a port.
+    fn add_at(&self, port: u32, candidates: &mut Candidates) -> Result<(), NoMemory>
+        ensures { OnOk result (length candidates.new.chains.items ≤ length candidates.old.chains.items + 2) }
     {
         let gate = self.core.gate(port);
         if let Some(target) = gate.target {
-            hints.add(Chain::Log(target.node as usize))?;
+            candidates.add(Chain::Log(target.node as usize))?;
         }
-        hints.add(Chain::Log(gate.owner as usize))
+        candidates.add(Chain::Log(gate.owner as usize))
     }
 
-    /// Hints at the chains that may go on behind the last line.
-    fn hint_behind_line(&self, history: &[HistoryLine], hints: &mut Hints) -> Result<(), NoMemory>
-        ensures { OnOk result (length hints.new.chains.items ≤ length hints.old.chains.items + 3) }
+    /// Adds the chains that may go on behind the last line.
+    fn add_behind_line(
+        &self,
+        history: &[HistoryLine],
+        candidates: &mut Candidates,
+    ) -> Result<(), NoMemory>
+        ensures { OnOk result (length candidates.new.chains.items ≤ length candidates.old.chains.items + 3) }
     {
-        hints.add(Chain::History)?;
+        candidates.add(Chain::History)?;
         match self.line.checked_sub(1) {
             Some(place) => match line_port(history, place) {
-                Some(port) => self.hint_at(port, hints),
+                Some(port) => self.add_at(port, candidates),
                 None => Ok(()),
             },
             None => Ok(()),
         }
     }
 
-    /// Hints at the chains that may go on behind the last event of a log.
-    fn hint_behind_event(
+    /// Adds the chains that may go on behind the last event of a log.
+    fn add_behind_event(
         &self,
         history: &[HistoryLine],
         logs: &[NodeLog],
         node: usize,
-        hints: &mut Hints,
+        candidates: &mut Candidates,
     ) -> Result<(), NoMemory>
-        ensures { OnOk result (length hints.new.chains.items ≤ length hints.old.chains.items + 3) }
+        ensures { OnOk result (length candidates.new.chains.items ≤ length candidates.old.chains.items + 3) }
     {
         let Some(port) = self.last_port(logs, node) else {
             return Ok(());
         };
         if self.waits_for(history, port) {
-            hints.add(Chain::History)?;
+            candidates.add(Chain::History)?;
         }
-        self.hint_at(port, hints)
+        self.add_at(port, candidates)
     }
 
-    /// Hints at the chains that may go on behind the member of a chain that came last.
-    pub fn hint(
+    /// Adds the chains that may go on behind the last member of a chain.
+    pub fn add_behind(
         &self,
         history: &[HistoryLine],
         logs: &[NodeLog],
         chain: Chain,
-        hints: &mut Hints,
+        candidates: &mut Candidates,
     ) -> Result<(), NoMemory>
-        ensures { OnOk result (length hints.new.chains.items ≤ length hints.old.chains.items + 3) }
+        ensures { OnOk result (length candidates.new.chains.items ≤ length candidates.old.chains.items + 3) }
     {
         match chain {
-            Chain::History => self.hint_behind_line(history, hints),
-            Chain::Log(node) => self.hint_behind_event(history, logs, node, hints),
+            Chain::History => self.add_behind_line(history, candidates),
+            Chain::Log(node) => self.add_behind_event(history, logs, node, candidates),
         }
     }
 

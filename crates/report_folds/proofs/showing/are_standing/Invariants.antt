@@ -6,7 +6,7 @@ use Rattle.report_folds.proofs.showing.are_standing.Given as goal
 
 abbrev pub invariant-loop-line : goal.invariant-loop-line
 invariant-loop-line l = record {
-  few : l.place.heads ≤ l.line-index;
-  place : begun_in l.place ≡ showing.begun_after (take l.line-index l.history);
+  few : l.begun.heads ≤ l.line-index;
+  begun : begun_in l.begun ≡ showing.begun_after (take l.line-index l.history);
   shown : Each (showing.IsShownBy (map (λ g. g.now) l.graphs)) (take l.line-index l.history);
 }

@@ -1,4 +1,4 @@
--- The members that came are a way, and each leaves one less and hints at three chains at most.
+-- The members that came are a way, and each leaves one less and adds three candidates at most.
 use Rattle.std.proofs.Common.{◌+◌, ◌*◌, length}
 use Rattle.merge_laws.specs.Guarded.{left}
 use Rattle.report_merges.specs.Going.{IsPlaced, left_behind}
@@ -13,4 +13,4 @@ invariant-loop-chain l =
     }
 
 abbrev pub decreases-loop-chain : goal.decreases-loop-chain
-decreases-loop-chain l = 4 * left (left_behind l.way l.history l.logs) + length l.hints.chains.items
+decreases-loop-chain l = 4 * left (left_behind l.way l.history l.logs) + length l.candidates.chains.items

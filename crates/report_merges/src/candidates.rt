@@ -1,4 +1,4 @@
-//! Chains of which the next member may have become one that may come. What isn't hinted at is found all the same, when
+//! Chains of which the next member may have become one that may come. What is no candidate is found all the same, when
 //! each chain is tried.
 
 ghost use Rattle.std.specs.Prelude.{◌≡◌, ◌+◌, ◌≤◌, length, IfSome, OnOk};
@@ -15,18 +15,18 @@ pub enum Chain {
 
 /// Chains to try, the last first. Each stands there once at most.
 #[derive(Drop)]
-pub struct Hints {
+pub struct Candidates {
     pub chains: Vec<Chain>,
     /// Whether the history is to be tried, and of each log whether it is.
     history: bool,
     logs: Vec<bool>,
 }
 
-impl Hints {
-    /// No hints yet, at so many logs.
-    pub fn new(alloc: Global, logs: usize) -> Result<Hints, NoMemory> {
+impl Candidates {
+    /// No candidates yet, at so many logs.
+    pub fn new(alloc: Global, logs: usize) -> Result<Candidates, NoMemory> {
         let logs = vec![in alloc; false; logs]?;
-        Ok(Hints {
+        Ok(Candidates {
             chains: Vec::new(alloc),
             history: false,
             logs,
