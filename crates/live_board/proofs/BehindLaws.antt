@@ -15,7 +15,7 @@ use Rattle.quiesce_core.specs.declared.state.Slot.{Slot}
 use Rattle.quiesce_core.proofs.SourceLaws.{new_slot}
 use Rattle.live_board.specs.Behind.{HasBehind, IsShallow}
 use Rattle.live_board.specs.Boards.{FitsNodes}
-use Rattle.live_board.specs.Heirs.{with_heir}
+use Rattle.live_board.specs.Heirs.{AreHeirs, with_heir}
 use Rattle.live_board.specs.Lengths.{length_at}
 use Rattle.live_board.proofs.HeirLemmas.{heirs_made, with_heir_length}
 
@@ -124,14 +124,27 @@ fits_gated p g sources lines heirs c f =
 pub fits_removed : (n sources lines : ℕ) (heirs : List (Option ℕ)) (c : Configuration) → FitsNodes c sources lines heirs → FitsNodes (change_next c (Remove n)) sources lines heirs
 fits_removed n sources lines heirs c f = fits_kept c (with_removed c n) (removed_keeps c n) sources lines heirs f
 
+heirs_longer : (c : Configuration) (heirs heirs' : List (Option ℕ)) → ((n : ℕ) → length_at heirs' n ≡ length_at heirs n) → AreHeirs c heirs → AreHeirs c heirs'
+heirs_longer c heirs heirs' same h = record {
+  took = λ n j at. h.took n j (sym (same n) ∙ at);
+  known = λ n j m at from. let k = h.known n j m at from in (k.0, same n ∙ k.1);
+}
+
+-- there are more places
+pub fits_longer : (c : Configuration) (sources lines : ℕ) (heirs heirs' : List (Option ℕ)) → ((n : ℕ) → length_at heirs' n ≡ length_at heirs n) → length heirs ≤ length heirs' → FitsNodes c sources lines heirs → FitsNodes c sources lines heirs'
+fits_longer c sources lines heirs heirs' same long f = record {
+  heirs_are = heirs_longer c heirs heirs' same f.heirs_are;
+  places = omega (arith, long, f.places);
+  shallow = f.shallow;
+  made = f.made;
+  few = f.few;
+}
+
 -- from now on a node that was made so far may be taken over from
 pub fits_from_now : (c : Configuration) (sources lines lines' : ℕ) (heirs heirs' : List (Option ℕ)) → ((n : ℕ) → length_at heirs' n ≡ length_at heirs n) → length c.slots ≤ length heirs'
     → lines' ≡ cond (nat_lt sources (length c.slots)) (lines + 1) lines → FitsNodes c sources lines heirs → FitsNodes c (length c.slots) lines' heirs'
 fits_from_now c sources lines lines' heirs heirs' same long is f = record {
-  heirs_are = record {
-    took = λ n j at. f.heirs_are.took n j (sym (same n) ∙ at);
-    known = λ n j m at from. let k = f.heirs_are.known n j m at from in (k.0, same n ∙ k.1);
-  };
+  heirs_are = heirs_longer c heirs heirs' same f.heirs_are;
   places = long;
   shallow = (by (nat_lt sources (length c.slots)) refl).0;
   made = omega arith;

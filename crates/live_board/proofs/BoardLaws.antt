@@ -1,5 +1,8 @@
 -- A board that stands for the record of its seat.
-use Rattle.std.proofs.Common.{◌≡◌, ◌∙◌, ℕ, ◌<◌, true, List, [], ◌∷◌, ◌++◌, length, map, Option, Some, None, sym, ap, subst, arith}
+use Rattle.std.proofs.Common.{◌≡◌, ◌∙◌, ℕ, ◌+◌, ◌<◌, ◌≤◌, cond, true, List, [], ◌∷◌, ◌++◌, length, map, Option, Some, None, sym, ap, subst, arith}
+use Rattle.std.specs.Prelude.{nat_lt}
+use Rattle.std.specs.Option.{option_map_or}
+use Rattle.std.proofs.lemmas.Bool.{ltb-true}
 use Rattle.std.specs.List.{filter_map}
 use Rattle.std.proofs.lemmas.List.{append-nil}
 use Rattle.std.proofs.lemmas.List.Elements.{filter_map-append}
@@ -7,6 +10,7 @@ use Rattle.std.proofs.lemmas.List.Sums.{fold_push}
 use Rattle.base.proofs.OptionLaws.{map_or_true}
 use Rattle.base.proofs.PlaceLaws.{slice_get-below}
 use Rattle.change_board.specs.Making.{Makes}
+use Rattle.change_board.specs.Steps.{HasRoomToMake}
 use Rattle.change_board.specs.Sights.{Sight, sight_entry}
 use Rattle.change_law.proofs.LowerLaws.{lower_after}
 use Rattle.config_graph.specs.declared.TheConstants.{MAX_NODES}
@@ -30,8 +34,8 @@ use Rattle.txn_records.specs.declared.entry.Entry.{Entry}
 use Rattle.txn_records.specs.declared.entry.Entry.TheVariants.{Did}
 use Rattle.live_board.specs.Boards.{BoardSeen, FitsNodes, StandsLive}
 use Rattle.live_board.specs.Heirs.{with_heir}
-use Rattle.live_board.specs.Lengths.{IsLast}
-use Rattle.live_board.proofs.BehindLaws.{AreBelow, fits_made}
+use Rattle.live_board.specs.Lengths.{IsLast, length_at}
+use Rattle.live_board.proofs.BehindLaws.{AreBelow, fits_from_now, fits_longer, fits_made}
 use Rattle.live_board.proofs.ScanLaws.{few_now}
 use Rattle.live_board.proofs.QuietLaws.{quiet, quiet_sights}
 
@@ -55,9 +59,13 @@ removed_below r n h may =
     let below = slice_get-below (config_of r).slots n m.0 m.1 in
     omega (arith, below, few_now r h)
 
+-- a part of two that are the same
+pub same_part : {A B : Type 0} {x y : A} → x ≡ y → (f : A → B) → f x ≡ f y
+same_part is f = ap f is
+
 -- What a call did by the seat's record is what a board stands for; the board's own view `v` is the one that contracts see.
 module _ (v old : BoardSeen) (view : v ≡ old) (new : BoardSeen) where
-  here : (r : List Entry) → StandsLive old r → r ≡ v.entries
+  pub here : (r : List Entry) → StandsLive old r → r ≡ v.entries
   here r h = h.is ∙ sym (ap (λ (b : BoardSeen). b.entries) view)
 
   pub fits_here : (r : List Entry) → StandsLive old r → FitsNodes (config_of r) v.room.sources v.lines v.heirs
@@ -75,6 +83,13 @@ module _ (v old : BoardSeen) (view : v ≡ old) (new : BoardSeen) where
 
   pub may_now : (e : Event) → ((r : List Entry) × StandsLive old r × May r e) → May v.entries e
   may_now e m = subst (λ q. May q e) (here m.0 m.1) m.2
+
+  pub make_now : (node : Node) (from : Option ℕ) → ((r : List Entry) × StandsLive old r × May r (Make (length (config_of r).slots) node from)) → May v.entries (Make (length (config_of v.entries).slots) node from)
+  make_now node from m = subst (λ q. May q (Make (length (config_of q).slots) node from)) (here m.0 m.1) m.2
+
+  pub sources_now : (from : Option ℕ) → HasRoomToMake old.room from → (k : ℕ) → from ≡ Some k → k < v.room.sources
+  sources_now from h k is =
+      subst (λ (b : BoardSeen). k < b.room.sources) (sym view) (ltb-true k old.room.sources (ap (λ o. option_map_or (λ i. nat_lt i old.room.sources) o true) (sym is) ∙ h.source))
 
   module _ (sources : new.room.sources ≡ v.room.sources) (lines : new.lines ≡ v.lines) where
     fits_new : (c : Configuration) (heirs : List (Option ℕ)) → new.heirs ≡ heirs → FitsNodes c v.room.sources v.lines heirs → FitsNodes c new.room.sources new.lines new.heirs
@@ -134,6 +149,21 @@ module _ (v old : BoardSeen) (view : v ≡ old) (new : BoardSeen) where
         fits = subst (λ x. FitsNodes (config_of x) new.room.sources new.lines new.heirs) (sym (here r h)) (keeps (fits_now r h));
         last = subst (IsLast r) (sym (last ∙ ap (λ (b : BoardSeen). b.last) view)) h.last;
       })
+
+  -- more places for heirs
+  pub adds_places : new.entries ≡ v.entries → new.last ≡ v.last → new.room.sources ≡ v.room.sources → new.lines ≡ v.lines → ((n : ℕ) → length_at new.heirs n ≡ length_at v.heirs n) → length v.heirs ≤ length new.heirs → Adds StandsLive old new []
+  adds_places is last sources lines same long =
+      adds_no_entry is last (λ f.
+      subst (λ i. FitsNodes (config_of v.entries) i new.lines new.heirs) (sym sources)
+      (subst (λ i. FitsNodes (config_of v.entries) v.room.sources i new.heirs) (sym lines) (fits_longer (config_of v.entries) v.room.sources v.lines v.heirs new.heirs same long f)))
+
+  -- room for heirs of all nodes that were made
+  pub adds_room : new.entries ≡ v.entries → new.last ≡ v.last → new.room.sources ≡ length (config_of v.entries).slots
+      → new.lines ≡ cond (nat_lt v.room.sources (length (config_of v.entries).slots)) (v.lines + 1) v.lines
+      → ((n : ℕ) → length_at new.heirs n ≡ length_at v.heirs n) → length (config_of v.entries).slots ≤ length new.heirs → Adds StandsLive old new []
+  adds_room is last sources lines same long =
+      adds_no_entry is last (λ f.
+      subst (λ i. FitsNodes (config_of v.entries) i new.lines new.heirs) (sym sources) (fits_from_now (config_of v.entries) v.room.sources v.lines new.lines v.heirs new.heirs same long lines f))
 
 -- a run that goes on without the change
 pub cut : (b : BoardSeen) (r : List Entry) → StandsLive b r → IsRecordCut r

@@ -1,5 +1,6 @@
 pub mod BehindLaws
 pub mod BoardLaws
+pub mod BoardLemmas
 pub mod ChainLemmas
 pub mod EndLemmas
 pub mod GatherLemmas
@@ -16,4 +17,5 @@ pub mod QuietLaws
 pub mod ScanLaws
 pub mod SeenLaws
 pub mod SightingLaws
+pub mod TakenLemmas
 pub mod TellLemmas

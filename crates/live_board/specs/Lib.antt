@@ -8,4 +8,5 @@ pub mod Looking
 pub mod Making
 pub mod Scanning
 pub mod Seeing
+pub mod Standing
 pub mod Turning

@@ -2,11 +2,13 @@
 #![tactic(auto)]
 
 mod blank;
+mod board;
 mod collecting;
 mod comparing;
 mod ends;
 mod heirs;
 mod keeping;
+mod laws;
 mod looking;
 mod making;
 mod reserving;
@@ -15,4 +17,6 @@ mod seeing;
 mod stile;
 mod turning;
 
+pub use board::LiveBoard;
+pub use laws::scripts_leave_all_taken_in;
 pub use stile::{Free, Turnstile};

@@ -1,0 +1,14 @@
+use Rattle.std.proofs.Common.{[], ◌∷◌, ap, refl}
+use Rattle.txn_law.specs.declared.view.ChangeView.{ChangeView}
+use Rattle.txn_records.specs.declared.entry.Entry.TheVariants.{Looked}
+use Rattle.live_board.proofs.BoardLaws.{adds_seen}
+use Rattle.live_board.proofs.board.LiveBoardBoard.look.Goals as goal
+
+pub returns-clause-board : goal.returns-clause-board
+returns-clause-board g c =
+    let word = c.look.ensures.change.0 in
+    record {
+      word = word;
+      found = c.look.ensures.change.2;
+      adds = adds_seen _ c.args.self.now c.self.view_is _ refl refl refl (Looked c.args.port word ∷ []) refl c.look.ensures.run (ap (λ (k : ChangeView). k.entries) c.look.ensures.change.1) (λ r h. tt);
+    }
