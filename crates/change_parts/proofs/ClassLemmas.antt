@@ -30,6 +30,14 @@ renamed_is from to x same = ap (λ b. cond b to x) (eq-eqb x from same)
 renamed_other : (from to x : ℕ) → ¬ (x ≡ from) → renamed from to x ≡ x
 renamed_other from to x other = ap (λ b. cond b to x) (ne_eqb x from other)
 
+-- a number that is renamed to itself
+pub renamed_itself : (from to x : ℕ) → from ≡ to → renamed from to x ≡ x
+renamed_itself from to x same =
+    elim (cases_eq x from) [
+      | inl is ↦ renamed_is from to x is ∙ sym same ∙ sym is
+      | inr other ↦ renamed_other from to x other
+    ]
+
 -- the classes with one tie more: one of its ends' least numbers takes the other's place
 module _ (ties : List (ℕ × ℕ)) (least : List ℕ) (are : AreClasses ties least) (a b high low : ℕ) (a_in : a < length least) (b_in : b < length least)
     (not_above : low ≤ high) (ends : ((get_or least a 0 ≡ high) × (get_or least b 0 ≡ low)) ⊎ ((get_or least a 0 ≡ low) × (get_or least b 0 ≡ high))) where

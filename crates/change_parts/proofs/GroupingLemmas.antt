@@ -1,6 +1,7 @@
 -- Lemmas on the groups of a change by numbers: they are its groups.
-use Rattle.std.proofs.Common.{◌≡◌, ◌<◌, ◌^◌, ℕ, List, length, get_or, subst, All}
+use Rattle.std.proofs.Common.{◌≡◌, ◌<◌, ◌^◌, ℕ, List, length, get_or, subst, All, arith}
 use Rattle.std.specs.List.{range_with_len}
+use Rattle.std.proofs.lemmas.List.FromFn.{length-range_with_len}
 use Rattle.std.proofs.lemmas.Option.{slice_get-get_or, slice_get_within}
 use Rattle.config_graph.specs.Graph.{Graph}
 use Rattle.config_graph.specs.declared.node.Node.{Node}
@@ -17,7 +18,7 @@ use Rattle.change_parts.specs.declared.groups.Grouping.{Grouping}
 use Rattle.change_parts.specs.declared.members.Members.{Members}
 use Rattle.change_parts.proofs.ChangedLemmas.{changed_listed, listed_changed}
 use Rattle.change_parts.proofs.GroupLemmas.{Leads, as_many, first_groups, firsts, firsts_groups}
-use Rattle.change_parts.proofs.PairLemmas.{Selects-alike}
+use Rattle.change_parts.proofs.PairLemmas.{Selects-alike, selects_fewer}
 use Rattle.change_parts.proofs.TyingLemmas.{listed_tied, tie_below, tied_listed}
 
 -- ties and changed numbers are numbers of nodes
@@ -55,6 +56,7 @@ module _ (old new : Graph) (g : Grouping) (index : IsIndex old new g.members) (f
     index = index;
     few = few;
     long = long;
+    few_groups = omega (arith, few, long, length-range_with_len 0 (length g.least.items), selects_fewer (LeadsIn g.least.items (changed_numbers p g.members)) (range_with_len 0 (length g.least.items)) g.firsts.items chosen);
     groups = firsts old new index.old_graph index.new_graph moves all index.members ties g.least.items classes long
         (listed_tied old new index.old_graph index.new_graph moves p plan g.members index) (tied_listed old new index.old_graph index.new_graph moves p plan g.members index) g.firsts.items selected;
     are_groups = firsts_groups old new index.old_graph index.new_graph moves all index.members ties g.least.items classes long

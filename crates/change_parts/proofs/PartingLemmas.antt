@@ -1,8 +1,9 @@
 -- Lemmas on parts that are made one after the other.
 use Rattle.std.proofs.Common.{zero, suc, ◌≡◌, ◌∙◌, ◌≤◌, ◌<◌, ◌+◌, ◌++◌, ℕ, Bool, true, false, not, List, [], ◌∷◌, Some, length, take, drop, get_or, refl, ap, sym, subst, inl, inr, arith, Contains, slice_get, length-append}
 use Rattle.std.specs.Option.{option_map_or}
-use Rattle.std.specs.Prelude.{AllPairs, ◌&&◌, replicate}
+use Rattle.std.specs.Prelude.{All, AllPairs, ◌&&◌, replicate}
 use Rattle.std.proofs.lemmas.Bool.{and_from, and_parts, cases_Bool, cases_lt, false≢true}
+use Rattle.std.proofs.lemmas.List.Elements.{All-append, All-cons, All-nil}
 use Rattle.std.proofs.lemmas.List.{drop-take, length-take-le, take-append-drop, take-take, take_all}
 use Rattle.std.proofs.lemmas.Option.{none-some, same_Some, slice_get_within}
 use Rattle.base.proofs.ContainsLaws.{Contains-at, Contains-nil, at_some_place}
@@ -45,6 +46,8 @@ pub record Progress (old new : Graph) (moves : List Move) (groups : List (List �
   pub few : count ≤ c
   pub are_parts : ArePartsFrom old new moves old (take count groups) parts
   pub within : ArePlansWithin old parts
+  pub graphs : All (λ (p : Part). IsGraph p.next) parts
+  pub as_few : length parts ≤ count
   pub stage_is : IsAfter old new moves (take count groups) old (stage_after old parts (length parts))
   pub cyclic : (k : ℕ) → count < k → k ≤ c → (g : Graph) → IsAfter old new moves (take k groups) old g → HasCycle g
   pub applied : IsApplied old new moves (take count groups) all before
@@ -149,6 +152,8 @@ module _ (old new : Graph) (old_graph : IsGraph old) (new_graph : IsGraph new) (
       few = omega arith;
       are_parts = none_left;
       within = tt;
+      graphs = All-nil (λ (p : Part). IsGraph p.next);
+      as_few = omega arith;
       stage_is = subst (After [] old) (sym (none_pushed old)) (first_stage old new old_graph new_graph moves);
       cyclic = λ k some_ low. absurd (omega (arith, some_, low));
       applied = none_applied before are long;
@@ -160,6 +165,8 @@ module _ (old new : Graph) (old_graph : IsGraph old) (new_graph : IsGraph new) (
       few = omega (arith, w.few);
       are_parts = w.are_parts;
       within = w.within;
+      graphs = w.graphs;
+      as_few = w.as_few;
       stage_is = w.stage_is;
       cyclic = λ k past low g is. elim (cases_lt k (c + 1)) [
         | inl below ↦ w.cyclic k past (omega (arith, below)) g is
@@ -219,13 +226,15 @@ module _ (old new : Graph) (old_graph : IsGraph old) (new_graph : IsGraph new) (
           in_taken k n here = subst (λ gs. In gs n) (take-append-drop k taken) (in_left old new old_graph new_graph moves (take k taken) (drop k taken) n here)
 
       -- one part more
-      pub one_part_more : (p : Part) → p.next ≡ next → ¬ HasCycle next → Selects (HasEndsIn old new moves taken) moves p.moves → IsPlanOf stage next p.moves p.plan → IsPlanWithin stage next p.plan
+      pub one_part_more : (p : Part) → p.next ≡ next → ¬ HasCycle next → Selects (HasEndsIn old new moves taken) moves p.moves → IsPlanOf stage next p.moves p.plan → IsPlanWithin stage next p.plan → IsGraph next
           → IsApplied old new moves whole all applied → SoFar (c + 1) (parts ++ p ∷ []) applied
-      one_part_more p next_same acyclic own plan within is_applied = record {
+      one_part_more p next_same acyclic own plan within next_graph is_applied = record {
         count = c + 1;
         few = omega arith;
         are_parts = subst (λ gs. ArePartsFrom old new moves old gs (parts ++ p ∷ [])) whole_is (parts_more old new old_graph new_graph moves old done taken parts p w.are_parts part);
         within = plans_within_more old parts p w.within (subst (λ g. IsPlanWithin stage g p.plan) (sym next_same) within);
+        graphs = All-append (λ (q : Part). IsGraph q.next) parts (p ∷ []) w.graphs (All-cons (λ (q : Part). IsGraph q.next) p [] (subst IsGraph (sym next_same) next_graph) (All-nil (λ (q : Part). IsGraph q.next)));
+        as_few = omega (arith, w.as_few, w.few, length-append parts (p ∷ []));
         stage_is = subst (After whole old) (sym (last_pushed old parts p ∙ next_same)) next_is;
         cyclic = λ k past low. absurd (omega (arith, past, low));
         applied = is_applied;
@@ -289,11 +298,11 @@ module _ (old new : Graph) (moves : List Move) (g : Grouping) (w : IsGrouping ol
     pub part_can : Sound old → Sound new → CanPlan (stage_after old parts (length parts)) next own made
     part_can old_sound new_sound = can_plan old new w.index.old_graph w.index.new_graph moves w.groups w.are_groups nodes c parts before applied next so_far low next_is made old_sound new_sound can own chosen_ends
 
-    pub grouping_part : (p : Part) → p.next ≡ next → p.moves ≡ own → ¬ HasCycle next → IsPlanOf (stage_after old parts (length parts)) next own p.plan → IsPlanWithin (stage_after old parts (length parts)) next p.plan → GroupProgress (c + 1) (parts ++ p ∷ []) applied
-    grouping_part p next_same own_same acyclic plan within =
+    pub grouping_part : (p : Part) → p.next ≡ next → p.moves ≡ own → ¬ HasCycle next → IsPlanOf (stage_after old parts (length parts)) next own p.plan → IsPlanWithin (stage_after old parts (length parts)) next p.plan → IsGraph next → GroupProgress (c + 1) (parts ++ p ∷ []) applied
+    grouping_part p next_same own_same acyclic plan within next_graph =
         one_part_more old new w.index.old_graph w.index.new_graph moves w.groups w.are_groups nodes c parts before applied next so_far low next_is p next_same acyclic
         (subst (Selects (HasEndsIn old new moves (drop so_far.count (take (c + 1) w.groups))) moves) (sym own_same) chosen_ends)
-        (subst (λ ms. IsPlanOf (stage_after old parts (length parts)) next ms p.plan) (sym own_same) plan) within is_applied
+        (subst (λ ms. IsPlanOf (stage_after old parts (length parts)) next ms p.plan) (sym own_same) plan) within next_graph is_applied
 
   pub grouping_end : (c : ℕ) (parts : List Part) (before : List Bool) → GroupProgress c parts before → c ≡ length g.firsts.items → Sound new → AreParts old new moves parts
   grouping_end c parts before so_far last new_sound = at_end old new w.index.old_graph w.index.new_graph moves w.groups w.are_groups nodes c parts before so_far (w.as_many ∙ sym last) new_sound

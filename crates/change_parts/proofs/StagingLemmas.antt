@@ -456,7 +456,11 @@ module _ (old new : Graph) (old_graph : IsGraph old) (new_graph : IsGraph new) (
         two_each [] = omega arith
         two_each (n ∷ ns) = omega (arith, sum_by-cons requires_of n ns, two_requires n.kind, two_each ns)
 
-    -- so what is built is the stage
+    -- so what is built is a graph
+    pub is_graph : (g : Graph) → g ≡ graph_of nodes links → IsGraph g
+    is_graph g is = subst IsGraph (sym is) (IsGraph-graph_of nodes links stage_rises links_within few_nodes few_ports)
+
+    -- and it is the stage
     pub is_stage : (g : Graph) → g ≡ graph_of nodes links → ((l : Link) → Contains g.links l ↔ Contains links l) → IsAfter old new moves firsts old g
     is_stage g is same_links = record {
       paths_rise = subst PathsRise (sym nodes_are) stage_rises;
@@ -475,7 +479,7 @@ module _ (old new : Graph) (old_graph : IsGraph old) (new_graph : IsGraph new) (
         nodes_are = ap (λ (h : Graph). h.nodes) is
 
         graph : IsGraph g
-        graph = subst IsGraph (sym is) (IsGraph-graph_of nodes links stage_rises links_within few_nodes few_ports)
+        graph = is_graph g is
 
         there : (n : Node) → After n → Contains old.nodes n ⊎ Contains new.nodes n
         there n (inl w) = inl w.0

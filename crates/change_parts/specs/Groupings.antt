@@ -26,6 +26,7 @@ pub record IsGrouping (old new : Graph) (moves : List Move) (g : Grouping) : Typ
   pub index : IsIndex old new g.members
   pub few : length g.members.nodes.items < 2 ^ 31
   pub long : length g.least.items ≡ length g.members.nodes.items
+  pub few_groups : length g.firsts.items < 2 ^ 31
   pub groups : List (List ℕ)
   pub are_groups : AreGroups old new moves groups
   pub as_many : length groups ≡ length g.firsts.items

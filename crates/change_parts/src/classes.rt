@@ -54,7 +54,7 @@ fn tie(least: &mut [u32], a: u32, b: u32)
     let second = least[b as usize];
     if first < second {
         rename(least, second, first);
-    } else {
+    } else if second < first {
         rename(least, first, second);
     }
 }

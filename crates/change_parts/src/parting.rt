@@ -1,7 +1,8 @@
 //! The parts of a change.
 
-ghost use Rattle.std.specs.Prelude.{◌≡◌, ◌⊎◌, ◌<◌, ℕ, List, IfErr, IfOk, OnOk, length};
+ghost use Rattle.std.specs.Prelude.{◌≡◌, ◌⊎◌, ◌<◌, ◌^◌, ℕ, List, All, IfErr, IfOk, OnOk, length};
 ghost use Rattle.base.specs.Answers.{Answers};
+ghost use Rattle.config_graph.specs.Graph.{IsGraph};
 ghost use Rattle.config_graph.specs.Sound.{Sound};
 ghost use Rattle.change_plan.specs.PlanWithin.{IsPlanWithin};
 ghost use Rattle.change_plan.specs.Plans.{IsPlanOf};
@@ -26,7 +27,8 @@ use std::alloc::Global;
 /// together after which there is no cycle of dependent services. There is none where both graphs are the same. What
 /// is refused is what `plan` refuses for the whole change.
 ///
-/// Time grows with the groups, each with the nodes, ports and moves and the bytes of their paths.
+/// Time grows with the groups, each with the nodes, ports and moves and the bytes of their paths; and with the ties
+/// that make one class of two, of which there are fewer than nodes, each with the nodes.
 pub fn parts(
     alloc: Global,
     old: &Graph,
@@ -38,6 +40,8 @@ pub fn parts(
     requires new { Sound new.now }
     ensures parts { IfOk result (AreParts old.now new.now moves.now) }
     ensures within { IfOk result (ArePlansWithin old.now) }
+    ensures graphs { IfOk result (λ ps. All (λ p. IsGraph p.next) ps) }
+    ensures few { IfOk result (λ ps. length ps < 2 ^ 32) }
     ensures accepted { OnOk result (CanPlan old.now new.now moves.now made) }
     ensures accepts { CanPlan old.now new.now moves.now made → IfErr result (λ e. e ≡ NoMemory) }
     ensures refused { IfErr result
@@ -66,6 +70,8 @@ fn list_parts(
     requires grouping { IsGrouping old.now new.now moves.now grouping.now }
     ensures parts { IfOk result (λ v. AreParts old.now new.now moves.now v.items) }
     ensures within { IfOk result (λ v. ArePlansWithin old.now v.items) }
+    ensures graphs { IfOk result (λ v. All (λ p. IsGraph p.next) v.items) }
+    ensures few { IfOk result (λ v. length v.items < 2 ^ 32) }
     ensures refused { IfErr result (λ e. e ≡ NoMemory) }
 {
     let mut parts = Vec::new(alloc);

@@ -1,6 +1,7 @@
 //! The graphs between the parts of a change.
 
 ghost use Rattle.std.specs.Prelude.{◌≡◌, ◌<◌, ◌^◌, ℕ, List, IfOk, filter_map, length, map, not, slice_index_or, false};
+ghost use Rattle.config_graph.specs.Graph.{IsGraph};
 ghost use Rattle.change_plan.specs.declared.plan_data.Move.{Move};
 ghost use Rattle.change_parts_laws.specs.Stages.{IsAfter};
 ghost use Rattle.change_parts.specs.Members.{IsIndex};
@@ -29,7 +30,8 @@ pub(crate) fn stage(
     requires few { length members.now.nodes.items < 2 ^ 31 }
     requires applied { (moves : List Move) × (firsts : List (List ℕ))
         × IsApplied old.now new.now moves firsts members.now.nodes.items applied.now }
-    ensures { IfOk result (λ g. (moves : List Move) (firsts : List (List ℕ))
+    ensures graph { IfOk result (λ g. IsGraph g) }
+    ensures after { IfOk result (λ g. (moves : List Move) (firsts : List (List ℕ))
         → IsApplied old.now new.now moves firsts members.now.nodes.items applied.now
         → IsAfter old.now new.now moves firsts old.now g) }
 {

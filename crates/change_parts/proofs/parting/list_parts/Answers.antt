@@ -54,7 +54,7 @@ part_to-requires c =
     c.in_ok-applied.ensures ∙ (λ q. applied_up_to (c.deref.ensures.value q) (get_or (c.deref-last-items.ensures.value q) i 0)) in
     let is_applied = subst (IsApplied old new moves (take (i + 1) w.groups) g.members.nodes.items) (sym applied_is) (w.applied i inside) in
     let next_is : IsAfter old new moves (take (i + 1) w.groups) old next =
-    c.in_ok-next.ensures moves (take (i + 1) w.groups) (subst (IsApplied old new moves (take (i + 1) w.groups) g.members.nodes.items) (sym c.deref-in-loop-last.ensures.value) is_applied) in
+    c.in_ok-next.ensures.after moves (take (i + 1) w.groups) (subst (IsApplied old new moves (take (i + 1) w.groups) g.members.nodes.items) (sym c.deref-in-loop-last.ensures.value) is_applied) in
     let chosen : Selects (IsOwn old g.members.of_old.items before applied) moves own =
     subst (λ (z : List ℕ × (List Bool × List Bool)). Selects (IsOwn old z.0 z.1.0 z.1.1) moves own)
     (λ q. (c.deref-then-not-branch.ensures.value q, (c.deref-then-not-branch-2.ensures.value q, c.deref-then-not-branch-3.ensures.value q))) c.in_ok-own.ensures in
@@ -81,7 +81,7 @@ loop-last-preserved c = λ w.
     c.in_ok-applied.ensures ∙ (λ q. applied_up_to (c.deref.ensures.value q) (get_or (c.deref-last-items.ensures.value q) i 0)) in
     let is_applied = subst (IsApplied old new moves (take (i + 1) w.groups) nodes) (sym applied_is) (w.applied i inside) in
     let next_is : IsAfter old new moves (take (i + 1) w.groups) old next =
-    c.in_ok-next.ensures moves (take (i + 1) w.groups) (subst (IsApplied old new moves (take (i + 1) w.groups) nodes) (sym c.deref-in-loop-last.ensures.value) is_applied) in
+    c.in_ok-next.ensures.after moves (take (i + 1) w.groups) (subst (IsApplied old new moves (take (i + 1) w.groups) nodes) (sym c.deref-in-loop-last.ensures.value) is_applied) in
     let onward = λ (z : List Part × List Bool). Progress old new moves w.groups nodes (i + 1) z.0 z.1 in
     elim c.if-not-branch.branch [
       | then-not-branch+in_ok-own+in_ok-part+in_ok-push v ↦
@@ -98,7 +98,7 @@ loop-last-preserved c = λ w.
           (grouping_part old new moves g w i parts before applied next so_far inside next_is is_applied c.args.made c.requires.can own chosen part v.in_ok-part.ensures.next v.in_ok-part.ensures.moves
           (λ cycle. false≢true (sym v.if-not-branch.true ∙ c.in_ok-has_cycle.ensures.1 cycle))
           (subst (λ s. IsPlanOf s next own part.plan) stage_is v.in_ok-part.ensures.plan)
-          (subst (λ s. IsPlanWithin s next part.plan) stage_is v.in_ok-part.ensures.within))
+          (subst (λ s. IsPlanWithin s next part.plan) stage_is v.in_ok-part.ensures.within) c.in_ok-next.ensures.graph)
       | else-not-branch v ↦
           let parts_is = ap (λ l. l.items) v.parts-is in
           let before_is = ap (λ l. l.items) v.before-is in
@@ -115,3 +115,13 @@ returns-clause-parts c =
 
 pub returns-clause-within : goal.returns-clause-within
 returns-clause-within c = (c.loop-last.invariant c.requires.grouping).within
+
+pub returns-clause-graphs : goal.returns-clause-graphs
+returns-clause-graphs c = (c.loop-last.invariant c.requires.grouping).graphs
+
+pub returns-clause-few : goal.returns-clause-few
+returns-clause-few c =
+    let w = c.requires.grouping in
+    let so_far = c.loop-last.invariant w in
+    let last : c.loop-last.last-index ≡ length c.args.grouping.now.firsts.items = omega (arith, c.loop-last-test.false, c.loop-last.auto.last-index-end, ap length c.deref-last-items.ensures.value) in
+    omega (arith, so_far.as_few, so_far.few, last, w.few_groups)
