@@ -22,7 +22,8 @@ use result_row_laws::{rows_have_their_items, sources_are_never_answered_0};
 
 /// Where the descriptions of a script that was run are rows, and its changes keep or move the source and the sink, the
 /// last sink in the report of that run has the items that the last source counted. Each is what became of its value in
-/// the row that stood when its transaction began, and no transaction of a source was answered 0.
+/// the row that stood when its transaction began, and no transaction of a source was answered 0. The report has logs of
+/// a live source and of a live sink.
 pub fn runs_of_rows_have_their_items()
     ensures items { (schedule : Schedule) (show : Report → List ℕ) (files : Option Files) (name : List ℕ) (own : Status)
         (taken t : Option (List ℕ)) → (ran : RanShowing schedule show files name own taken t)
@@ -30,6 +31,11 @@ pub fn runs_of_rows_have_their_items()
         → IsLogOfLive (members_by schedule ran.statements ran.report ran.is_report) ran.report Source source
         → IsLogOfLive (members_by schedule ran.statements ran.report ran.is_report) ran.report Sink sink
         → HasItems (members_by schedule ran.statements ran.report ran.is_report) source sink }
+    ensures ends { (schedule : Schedule) (show : Report → List ℕ) (files : Option Files) (name : List ℕ) (own : Status)
+        (taken t : Option (List ℕ)) → (ran : RanShowing schedule show files name own taken t)
+        → AreRows ran.statements → (source : NodeLog) × (sink : NodeLog)
+        × IsLogOfLive (members_by schedule ran.statements ran.report ran.is_report) ran.report Source source
+        × IsLogOfLive (members_by schedule ran.statements ran.report ran.is_report) ran.report Sink sink }
     ensures never_0 { (schedule : Schedule) (show : Report → List ℕ) (files : Option Files) (name : List ℕ) (own : Status)
         (taken t : Option (List ℕ)) → (ran : RanShowing schedule show files name own taken t)
         → AreRows ran.statements → (before between after : List Member) (port serial value answer : ℕ)
