@@ -20,3 +20,16 @@ module _ {A : Type 0} (now : A → List HistoryLine) (Is : List HistoryLine → 
 pub where_ok : {A E : Type 0} (P Q : A → Type 0) → ((x : A) → P x → Q x) → (r : Result A E) → IfOk r P → IfOk r Q
 where_ok P Q f (Ok x) h = f x h
 where_ok P Q f (Err e) h = h
+
+pub where_both : {A E : Type 0} (P R Q : A → Type 0) → ((x : A) → P x → R x → Q x) → (r : Result A E) → IfOk r P → IfOk r R → IfOk r Q
+where_both P R Q f (Ok x) h k = f x h k
+where_both P R Q f (Err e) h k = h
+
+-- what follows of what is found, and of finding nothing
+pub some_so : {A : Type 0} (P Q : A → Type 0) → ((a : A) → P a → Q a) → (o : Option A) → IfSome o P → IfSome o Q
+some_so P Q f None h = h
+some_so P Q f (Some a) h = f a h
+
+pub none_so : {A : Type 0} (P R Q : Type 0) → (P → R → Q) → (o : Option A) → IfNone o P → IfNone o R → IfNone o Q
+none_so P R Q f None h k = f h k
+none_so P R Q f (Some a) h k = h

@@ -3,5 +3,11 @@ mod FrontLemmas
 mod LineLemmas
 mod ChangeLemmas
 mod OpeningLemmas
+mod StillLemmas
 mod FoundLemmas
 mod ExpectedLemmas
+mod LayingLemmas
+mod StandingLemmas
+mod EndLemmas
+mod StepLemmas
+mod ScriptLemmas

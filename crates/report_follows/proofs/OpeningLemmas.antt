@@ -29,10 +29,10 @@ same_both : (n name : List ℕ) (a args : List ℤ) → (bytes_eq n name && poin
 same_both n name a args h =
     let w = and_parts (bytes_eq n name) (pointwise int_eq a args) h in ((bytes_eq-Decides n name).0 w.0, (ints_decide a args).0 w.1)
 
-both_same : (name : List ℕ) (args : List ℤ) → (bytes_eq name name && pointwise int_eq args args) ≡ true
+pub both_same : (name : List ℕ) (args : List ℤ) → (bytes_eq name name && pointwise int_eq args args) ≡ true
 both_same name args = and_from (bytes_eq name name) (pointwise int_eq args args) ((bytes_eq-Decides name name).1 refl) ((ints_decide args args).1 refl)
 
-change_is : (name : List ℕ) (args : List ℤ) (l : HistoryLine) → is_change_line name args l ≡ true → l ≡ to.Change name args
+pub change_is : (name : List ℕ) (args : List ℤ) (l : HistoryLine) → is_change_line name args l ≡ true → l ≡ to.Change name args
 change_is name args (to.Change n a) h = let w = same_both n name a args h in ap₂ to.Change w.0 w.1
 change_is name args _ h = absurd (both_ways false refl h)
 

@@ -84,6 +84,27 @@ behind_closes closed lines = behind_if (tell_closes lines closed) (length closed
 abbrev pub behind_opening : List ℕ → List ℤ → List ℕ → List HistoryLine → Option (List HistoryLine)
 behind_opening name args closed lines = option_and_then (behind_closes closed) (behind_first (is_change_line name args) lines)
 
+-- behind the one line of a run, a finish or a show, and the two of a change that isn't tried
+abbrev pub is_run_line : ℕ → HistoryLine → Bool
+is_run_line k (to.Run asked ended) = asked == k
+is_run_line k _ = false
+
+abbrev pub is_finish_line : ℕ → HistoryLine → Bool
+is_finish_line n (to.Finish most rounds) = most == n
+is_finish_line n _ = false
+
+abbrev pub is_show_line : HistoryLine → Bool
+is_show_line (to.Show g) = true
+is_show_line _ = false
+
+abbrev pub is_skipped_line : HistoryLine → Bool
+is_skipped_line to.Skipped = true
+is_skipped_line _ = false
+
+abbrev pub behind_skipped : List ℕ → List ℤ → List HistoryLine → Option (List HistoryLine)
+behind_skipped name args lines =
+    option_and_then (behind_first is_skipped_line) (behind_first (is_change_line name args) lines)
+
 -- behind those of a start
 abbrev pub is_start_line : List ℕ → List ℤ → HistoryLine → Bool
 is_start_line name args (to.Start n a) = bytes_eq n name && pointwise int_eq a args

@@ -1,3 +1,4 @@
 pub mod Testing
 pub mod Sorting
 pub mod Fronts
+pub mod Readers

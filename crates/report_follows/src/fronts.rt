@@ -261,6 +261,73 @@ fn begin_with_stop(lines: &[HistoryLine]) -> bool
     }
 }
 
+fn begin_with_skipped(lines: &[HistoryLine]) -> bool
+    ensures { result ≡ fronts.begin_so fronts.is_skipped_line lines.now }
+{
+    matches!(lines.get(0), Some(HistoryLine::Skipped))
+}
+
+fn begin_with_run(lines: &[HistoryLine], k: u32) -> bool
+    ensures { result ≡ fronts.begin_so (fronts.is_run_line k) lines.now }
+{
+    match lines.get(0) {
+        Some(HistoryLine::Run { k: asked, .. }) => *asked == k,
+        _ => false,
+    }
+}
+
+fn begin_with_finish(lines: &[HistoryLine], n: u32) -> bool
+    ensures { result ≡ fronts.begin_so (fronts.is_finish_line n) lines.now }
+{
+    match lines.get(0) {
+        Some(HistoryLine::Finish { n: most, .. }) => *most == n,
+        _ => false,
+    }
+}
+
+fn begin_with_show(lines: &[HistoryLine]) -> bool
+    ensures { result ≡ fronts.begin_so fronts.is_show_line lines.now }
+{
+    matches!(lines.get(0), Some(HistoryLine::Show { .. }))
+}
+
+/// What is left behind the line of a run until so many transactions ended.
+pub(crate) fn behind_run(lines: &[HistoryLine], k: u32) -> Option<&[HistoryLine]>
+    ensures { MatchOption result (fronts.behind_first (fronts.is_run_line k) lines.now ≡ None)
+        (λ rest. fronts.behind_first (fronts.is_run_line k) lines.now ≡ Some rest.now) }
+{
+    behind_if(begin_with_run(lines, k), lines, 1)
+}
+
+/// What is left behind the line of a finish of at most so many rounds.
+pub(crate) fn behind_finish(lines: &[HistoryLine], n: u32) -> Option<&[HistoryLine]>
+    ensures { MatchOption result (fronts.behind_first (fronts.is_finish_line n) lines.now ≡ None)
+        (λ rest. fronts.behind_first (fronts.is_finish_line n) lines.now ≡ Some rest.now) }
+{
+    behind_if(begin_with_finish(lines, n), lines, 1)
+}
+
+/// What is left behind the line of a show.
+pub(crate) fn behind_show(lines: &[HistoryLine]) -> Option<&[HistoryLine]>
+    ensures { MatchOption result (fronts.behind_first fronts.is_show_line lines.now ≡ None)
+        (λ rest. fronts.behind_first fronts.is_show_line lines.now ≡ Some rest.now) }
+{
+    behind_if(begin_with_show(lines), lines, 1)
+}
+
+/// What is left behind the two lines of a change that isn't tried.
+pub(crate) fn behind_skipped<'l>(
+    lines: &'l [HistoryLine],
+    name: &[u8],
+    args: &[i32],
+) -> Option<&'l [HistoryLine]>
+    ensures { MatchOption result (fronts.behind_skipped name.now args.now lines.now ≡ None)
+        (λ rest. fronts.behind_skipped name.now args.now lines.now ≡ Some rest.now) }
+{
+    let rest = behind_if(begin_with_change(lines, name, args), lines, 1)?;
+    behind_if(begin_with_skipped(rest), rest, 1)
+}
+
 fn behind_closes<'l>(lines: &'l [HistoryLine], closed: &[u32]) -> Option<&'l [HistoryLine]>
     ensures { MatchOption result (fronts.behind_closes closed.now lines.now ≡ None)
         (λ rest. fronts.behind_closes closed.now lines.now ≡ Some rest.now) }

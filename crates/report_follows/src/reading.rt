@@ -1,8 +1,10 @@
-//! Parts of a history: the lines of a start, the opening and the ends of a change, and the stop.
+//! Parts of a history: the lines of a start, the opening and the ends of a change, those of a run, a finish, a show and a
+//! change that isn't tried, and the stop.
 
 ghost use Rattle.std.specs.Prelude.{◌≡◌, ◌↔◌, ◌++◌, ◌∷◌, [], List, map, IfNone, IfOk, IfSome, IsTrue};
 ghost use Rattle.std.specs.List.{list_all};
 ghost use Rattle.std.specs.List.Sorted.{IsStrictlyIncreasing};
+ghost use Rattle.change_law.specs.Follows.{IsFinishLine, IsRunLine, IsShowLine, skip_lines};
 ghost use Rattle.change_law.specs.Members.{lines_of_events};
 ghost use Rattle.merge_laws.specs.Reading.{IsCommittedSo, IsGivenUpSo};
 ghost use Rattle.report_types.specs.declared.report.HistoryLine.{HistoryLine as Line};
@@ -79,6 +81,43 @@ pub fn after_given_up<'l>(
     ensures none { IfOk result (λ o. IfNone o (HasNoFront (IsGivenUpSo within closed.now) lines.now)) }
 {
     fronts::behind_given_up(alloc, lines, within, closed)
+}
+
+/// What is left of lines behind those of a change that isn't tried, where they begin so.
+pub fn after_skipped<'l>(
+    lines: &'l [HistoryLine],
+    name: &[u8],
+    args: &[i32],
+) -> Option<&'l [HistoryLine]>
+    ensures found { IfSome result
+        (λ rest. LeadsTo (λ (ls : List Line). ls ≡ skip_lines name.now args.now) lines.now rest.now) }
+    ensures none { IfNone result (HasNoFront (λ (ls : List Line). ls ≡ skip_lines name.now args.now) lines.now) }
+{
+    fronts::behind_skipped(lines, name, args)
+}
+
+/// What is left of lines behind that of a run until `k` transactions ended, whatever it tells of how many did.
+pub fn after_run(lines: &[HistoryLine], k: u32) -> Option<&[HistoryLine]>
+    ensures found { IfSome result (λ rest. LeadsTo (IsRunLine k) lines.now rest.now) }
+    ensures none { IfNone result (HasNoFront (IsRunLine k) lines.now) }
+{
+    fronts::behind_run(lines, k)
+}
+
+/// What is left of lines behind that of a finish of at most `n` rounds, whatever it tells of how many there were.
+pub fn after_finish(lines: &[HistoryLine], n: u32) -> Option<&[HistoryLine]>
+    ensures found { IfSome result (λ rest. LeadsTo (IsFinishLine n) lines.now rest.now) }
+    ensures none { IfNone result (HasNoFront (IsFinishLine n) lines.now) }
+{
+    fronts::behind_finish(lines, n)
+}
+
+/// What is left of lines behind that of a show, whatever graph it tells.
+pub fn after_show(lines: &[HistoryLine]) -> Option<&[HistoryLine]>
+    ensures found { IfSome result (λ rest. LeadsTo IsShowLine lines.now rest.now) }
+    ensures none { IfNone result (HasNoFront IsShowLine lines.now) }
+{
+    fronts::behind_show(lines)
 }
 
 /// Whether lines are those of a stop that closes these ports, which rise, and finds each of them drained.

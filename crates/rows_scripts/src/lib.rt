@@ -2,6 +2,8 @@
 #![tactic(auto)]
 
 #[cfg(test)]
+mod merge_rows;
+#[cfg(test)]
 mod parser_rows;
 #[cfg(test)]
 mod report_rows;

@@ -1,0 +1,5 @@
+pub mod Tables
+pub mod Makeable
+pub mod Leading
+pub mod RightAlone
+pub mod Showing

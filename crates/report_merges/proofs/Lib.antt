@@ -1,0 +1,4 @@
+mod AheadLemmas
+mod ClosesLemmas
+mod WayLemmas
+mod LeadingLemmas
