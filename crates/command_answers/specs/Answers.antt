@@ -44,6 +44,9 @@ pub data Answer : Type 0 where
   replay : (count : ℕ) → State → (settled : List ℕ) → Answer
   -- a report in the version that is written today
   report : Report → Answer
+  -- a report can be one of this machine for a script, or can't
+  consistent : Answer
+  unlawful : Answer
   -- the report of a run that was made now
   ran : Report → Answer
   -- the summary of a run that was made now, of so many lanes
@@ -71,6 +74,8 @@ status_of (parts old ps) = status.Ok
 status_of (denied number rule) = status.Denied
 status_of (replay count s settled) = status.Ok
 status_of (report r) = status.Ok
+status_of consistent = status.Ok
+status_of unlawful = status.Unlawful
 status_of (ran r) = run_status r.status
 status_of (summary lanes r) = run_status r.status
 
@@ -79,6 +84,12 @@ usage_line = codes "usage" ++ 10 ∷ []
 
 abbrev pub no_memory_line : List ℕ
 no_memory_line = codes "no memory" ++ 10 ∷ []
+
+abbrev pub consistent_line : List ℕ
+consistent_line = codes "consistent\n"
+
+abbrev pub unlawful_line : List ℕ
+unlawful_line = codes "unlawful\n"
 
 -- the commands with their forms and what each does, the statuses, and what serves for a file
 abbrev pub help_text : List ℕ
@@ -90,6 +101,7 @@ help_text =
     ++ codes "darwin_run parts FILE NAME INT* -- NAME INT*  write the parts into which that change is cut\n"
     ++ codes "darwin_run replay FILE EVENTS                 apply events to the system that they start\n"
     ++ codes "darwin_run step SCRIPT                        run a script on one thread, write its report\n"
+    ++ codes "darwin_run check SCRIPT REPORT                say whether a report can be one of this machine\n"
     ++ codes "darwin_run big N                              run and change a system of N lanes (1 to 40)\n"
     ++ codes "darwin_run upgrade FILE                       write a report in version 2\n"
     ++ codes "\n"
@@ -104,6 +116,7 @@ help_text =
     ++ codes "  7  a change was given up\n"
     ++ codes "  8  a node isn't done behind finish\n"
     ++ codes "  9  an event is denied\n"
+    ++ codes " 10  a report can't be one of this machine\n"
     ++ codes "\n"
     ++ codes "/dev/stdin serves for a file.\n"
 
@@ -127,6 +140,8 @@ text_of (parts old ps) = parts_text old ps
 text_of (denied number rule) = denied_line number rule
 text_of (replay count s settled) = replay_text count s settled
 text_of (report r) = report_text r
+text_of consistent = consistent_line
+text_of unlawful = unlawful_line
 text_of (ran r) = report_text r
 text_of (summary lanes r) = summary_text lanes r
 

@@ -4,13 +4,15 @@ use Rattle.darwin_parser.specs.Tree.{Name, Tree}
 use Rattle.elaborator.specs.Faults.{Faults}
 use Rattle.elaborator.specs.declared.error.ElabError.{ElabError}
 use Rattle.command_answers.specs.DescriptionFaults.{fault_words, is_no_memory}
-use Rattle.command_answers.specs.RefusalLines.{description_line, elaborate_words, script_line, script_words}
+use Rattle.command_answers.specs.RefusalLines.{description_line, elaborate_words, report_words, script_line, script_words}
 use Rattle.command_answers.specs.Statuses.{is_of_run}
 use Rattle.command_answers.specs.declared.error.DescriptionFault.{DescriptionFault}
 use Rattle.command_answers.specs.declared.status.Status.{Status}
 use Rattle.command_answers.specs.declared.status.Status.TheVariants as status
 use Rattle.change_script.specs.declared.error.ScriptError.{ScriptError}
 use Rattle.change_script.specs.declared.error.ScriptError.TheVariants as script_faults
+use Rattle.report_texts.specs.declared.error.ReportFault.{ReportFault}
+use Rattle.report_texts.specs.declared.error.ReportFault.TheVariants as report_faults
 use Rattle.command_files.specs.declared.answer.Answer.{Answer}
 use Rattle.command_files.specs.declared.answer.Stop.{Stop}
 use Rattle.command_files.specs.declared.answer.Stop.TheVariants as stops
@@ -37,6 +39,12 @@ pub record IsScriptRefusalFor (name : List ℕ) (fault : ScriptError) (answer : 
   pub plain : fault ≢ script_faults.NoMemory
   pub status_is : answer.status ≡ status.Script
   pub text_is : answer.text.items ≡ script_line name (script_words fault)
+
+-- the same of a fault of a report
+pub record IsReportRefusalFor (name : List ℕ) (fault : ReportFault) (answer : Answer) : Type 0 where
+  pub plain : fault ≢ report_faults.NoMemory
+  pub status_is : answer.status ≡ status.Script
+  pub text_is : answer.text.items ≡ script_line name (report_words fault)
 
 -- what a stop shows, where memory sufficed
 abbrev pub Shows : (Status → List ℕ → Type 0) → Stop → Type 0

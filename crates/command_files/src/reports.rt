@@ -1,14 +1,13 @@
 //! Reports.
 
-ghost use Rattle.std.specs.Prelude.{◌≡◌, ◌≢◌, ◌≤◌, ℕ, List, length, IfOk};
-ghost use Rattle.report_texts.specs.Stages.{IsReportFault};
-ghost use Rattle.report_texts.specs.declared.error.ReportFault.TheVariants as faults;
+ghost use Rattle.std.specs.Prelude.{◌≡◌, ◌≤◌, length, IfOk};
 ghost use Rattle.report_writing.specs.Reports as of_reports;
 ghost use Rattle.command_answers.specs.Answers.{run_status};
 ghost use Rattle.command_answers.specs.Summaries as of_runs;
 ghost use Rattle.command_law.specs.Fetches.{FitsFileLimit, report_limit};
 ghost use Rattle.command_law.specs.OneFile.{ReportAnswers};
 ghost use Rattle.command_law.specs.declared.fetched.Fetched.TheVariants.{Held};
+ghost use Rattle.command_files.specs.Refusals.{IsReportRefusalFor};
 
 use crate::answer::{Answer, script_too_long, unreadable};
 use command_answers::{Status, report_line, summary_text};
@@ -68,9 +67,8 @@ pub fn answer_summary(alloc: Global, lanes: u32, report: &Report) -> Result<Answ
 }
 
 /// The line that refuses a report.
-fn refuse_report(alloc: Global, name: &str, fault: &ReportFault) -> Result<Answer, NoMemory>
-    ensures { (bytes : List ℕ) → (fault.now ≢ faults.NoMemory → IsReportFault bytes fault.now)
-        → IfOk result (λ answer. ReportAnswers name.now (Held bytes) answer.status answer.text.items) }
+pub fn refuse_report(alloc: Global, name: &str, fault: &ReportFault) -> Result<Answer, NoMemory>
+    ensures { IfOk result (IsReportRefusalFor name.now fault.now) }
 {
     match fault {
         ReportFault::NoMemory => Err(AllocError),

@@ -20,7 +20,7 @@ use Rattle.command_law.specs.declared.fetched.Fetched.TheVariants.{Held}
 use Rattle.command_law.specs.declared.query.Cut.{Cut}
 use Rattle.command_law.specs.declared.query.Query.{Query}
 use Rattle.command_law.specs.declared.query.Query.TheVariants as queries
-use Rattle.command_law.specs.Commands.{aim_of, calls_of, course_of_query, course_of_script, course_of}
+use Rattle.command_law.specs.Commands.{aim_of, calls_of, course_of_query, course_of_script, course_of, judges, judging}
 use Rattle.command_law.specs.Courses.{FetchCourse, not_fetched, fetched_alone, failed, too_long, leads_on, not_judged, refused, gives, not_made, makes}
 use Rattle.command_law.specs.Descriptions.{IsChecked, IsGraphOfCall, IsDescriptionRefusal, by_text}
 use Rattle.command_law.specs.Descriptions as descriptions
@@ -29,7 +29,7 @@ use Rattle.command_law.specs.Leads.{falls_short, LeadBy, ScriptLeads}
 use Rattle.command_law.specs.Lines.{RunLine, calls, does, GraphUse, draws, starts, changes, Progress, begun, with_description, with_called_graph, with_statement, Allows, by_elaboration, by_deed, CallLeads, Aim, drawing, planning, replaying, running, IsChangeOf, Concludes, behind, FollowsLines, uses}
 use Rattle.command_law.specs.Plans.{Starts, RefusesStart, has_no_graph, is_full, HasChange, RefusesPlan, starts_not, leads_nowhere, gets_full, made_of_graph}
 use Rattle.command_law.specs.Queries.{IsRefused, AnswersQuery, IsTextBy}
-use Rattle.command_law.specs.OneFile.{DescriptionAnswers, cannot_read, is_too_long, answered, EventsAnswers, cannot_read_events, events_file_too_long, events_file_at_fault, ScriptAnswers, cannot_read_script, script_file_too_long, script_file_at_fault, ReportAnswers, cannot_read_report, report_too_long, report_at_fault, upgraded}
+use Rattle.command_law.specs.OneFile.{DescriptionAnswers, cannot_read, is_too_long, answered, EventsAnswers, cannot_read_events, events_file_too_long, events_file_at_fault, ScriptAnswers, cannot_read_script, script_file_too_long, script_file_at_fault, ReportAnswers, cannot_read_report, report_too_long, report_at_fault, upgraded, JudgementAnswers, judges_no_file, judges_no_long_file, judges_no_fault, judged}
 use Rattle.command_law.specs.OneFile as files
 use Rattle.command_law.specs.Schedules.{IsReportBy, Schedule}
 use Rattle.command_law.specs.Scripts.{lines_of_script}
@@ -336,6 +336,39 @@ pub script_ran_short :
 script_ran_short aim name fetches end leads =
     subst (λ fs. course_of_script (behind aim) name fs (refusal no_memory)) (append-nil fetches)
     (script_leads (behind aim) name fetches [] (refusal no_memory) end leads not_made)
+
+-- what is answered of a report that statements judge
+pub judgement :
+    (file : List ℕ) (statements : List Statement) (given : Fetched) (own : Status) (text : List ℕ) → JudgementAnswers statements file given own text
+    → ShowsAnswer (judging file statements (report_fetch file given ∷ [])) own text
+judgement file statements _ _ _ judges_no_file = record { answer = refusal (read_fault file); is = failed; has_status = refl; has_text = refl }
+judgement file statements _ _ _ judges_no_long_file =
+    record { answer = refusal (script file (codes "TooLong" ∷ [])); is = too_long; has_status = refl; has_text = refl }
+judgement file statements _ _ _ (judges_no_fault bytes fault first) =
+    let words = report_words fault in
+    let what = refusal (script file words) in
+    record { answer = what; is = leads_on bytes [] what (refused words (fault, first, refl)); has_status = refl; has_text = refl }
+judgement file statements _ _ _ (judged bytes r answer tells is) =
+    record { answer = answer; is = leads_on bytes [] answer (gives r [] answer tells (makes answer [] answer is (refl, refl))); has_status = refl; has_text = refl }
+
+-- or memory runs out before the fetch, or behind it
+pub judgement_unfetched : (file : List ℕ) (statements : List Statement) → judging file statements [] (refusal no_memory)
+judgement_unfetched file statements = not_fetched
+
+pub judgement_unread : (file : List ℕ) (statements : List Statement) (given : Fetched) → judging file statements (report_fetch file given ∷ []) (refusal no_memory)
+judgement_unread file statements given = fetched_alone given
+
+-- so it comes behind the lines of a script, by the statements to which these lead
+pub script_judges :
+    (file name : List ℕ) (fetches more : List Fetch) (answer : Answer) (end : Progress) (statements : List Statement) → ScriptLeads name fetches end
+    → end.statements ≡ statements → judging file statements more answer → course_of (commands.Check name file) (fetches ++ more) answer
+script_judges file name fetches more answer end statements leads same judges_so =
+    script_leads (judges file) name fetches more answer end leads (subst (λ ss. judging file ss more answer) (sym same) judges_so)
+
+-- and a script that ends early is judged no further
+pub script_unjudged :
+    (file name : List ℕ) (fetches : List Fetch) (answer : Answer) → course_of_script falls_short name fetches answer → course_of (commands.Check name file) fetches answer
+script_unjudged file name fetches answer = script_ends_early (judges file) (λ p. not_fetched) name fetches answer
 
 -- what is answered of a report
 pub upgrades :

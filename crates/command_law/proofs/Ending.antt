@@ -25,8 +25,10 @@ use Rattle.command_law.specs.Fetches.{Fetch, Gave, failed_names, fetch_of, repor
 use Rattle.command_law.specs.OneFile.{DescriptionAnswers, cannot_read, is_too_long, refused, answered, EventsAnswers, cannot_read_events, events_file_too_long, events_file_at_fault, ReportAnswers, cannot_read_report, report_too_long, report_at_fault, upgraded}
 use Rattle.command_law.specs.Runs.{Written, whole, stopped, Run, Runs}
 use Rattle.command_law.specs.Outcomes.{NamesFile, MentionsFile, HoldsFile, Ends, WroteFront}
-use Rattle.command_law.proofs.Inverting.{Answer, of_words, AnswersCommand, no_form, answered_to, no_memory, Ran, from_words, Own, command_status, not_usage, not_write_fault, not_no_memory, not_unlawful}
-use Rattle.command_law.proofs.Statuses.{not_two, ok_read_fault, denied_read_fault, memory_ok, write_fault_ok, usage_unlawful, memory_unlawful, write_fault_unlawful}
+use Rattle.command_law.proofs.Inverting.{Answer, of_words, AnswersCommand, no_form, answered_to, no_memory, Ran, from_words, command_status, any_not, not_usage, not_write_fault, not_no_memory}
+use Rattle.command_law.proofs.Statuses.{not_two, ok_read_fault, denied_read_fault, memory_ok, write_fault_ok, unlawful_usage, unlawful_memory, unlawful_write_fault}
+use Rattle.command_law.proofs.Checking.{check_ends}
+use Rattle.command_law.proofs.Checking as checks
 use Rattle.command_law.proofs.ScriptEnds.{script_ends}
 use Rattle.command_law.proofs.ScriptEnds as scripts
 use Rattle.command_law.proofs.Wanting.{gives_status}
@@ -38,7 +40,7 @@ own_no_write_fault :
     → own ≢ status.WriteFault
 own_no_write_fault knows words _ _ _ (no_form none) is = cc
 own_no_write_fault knows words _ _ _ (answered_to command fetches own text asks to) is =
-    not_write_fault own (command_status command fetches own text to) is
+    any_not status.WriteFault not_write_fault unlawful_write_fault own (command_status command fetches own text to) is
 own_no_write_fault knows words _ _ _ (no_memory fetches) is = cc
 
 -- ---- what a status says of a fetch
@@ -120,6 +122,8 @@ failed_file files (commands.Upgrade file) fetches own text answer told is =
     (file, refl, ap failed_names answer.is ∙ fault.0, fault.1)
 failed_file files (commands.Step name) fetches own text answer told is =
     scripts.failed_file rounds report_text files name fetches own text (script_ends rounds report_text files name fetches own text answer told) is
+failed_file files (commands.Check name file) fetches own text answer told is =
+    checks.failed_file files name file fetches own text (check_ends files name file fetches own text answer told) is
 failed_file files (commands.Big lanes) fetches own text answer told is =
     let show = summary_text lanes in
     let made = Some (made_files lanes) in
@@ -148,6 +152,8 @@ any_failed files (commands.Upgrade file) fetches own text answer told some =
     report_failed file answer.given own text answer.answer (λ none. some (ap failed_names answer.is ∙ none))
 any_failed files (commands.Step name) fetches own text answer told some =
     scripts.any_failed rounds report_text files name fetches own text (script_ends rounds report_text files name fetches own text answer told) some
+any_failed files (commands.Check name file) fetches own text answer told some =
+    checks.any_failed files name file fetches own text (check_ends files name file fetches own text answer told) some
 any_failed files (commands.Big lanes) fetches own text answer told some = absurd (some (ap failed_names answer.is))
 
 -- ---- the clauses
@@ -160,7 +166,7 @@ module _ (knows : Command → Bool) (seen : Run) (run : Ran knows seen) where
           → HasNoForm knows seen.words × (seen.taken' ≡ with_bytes seen.taken (codes "usage" ++ 10 ∷ []))
       own _ _ _ (no_form none) is took = (none, took)
       own _ _ _ (answered_to command fetches s text asks to) is took =
-          absurd (not_usage s (command_status command fetches s text to) is)
+          absurd (any_not status.Usage not_usage unlawful_usage s (command_status command fetches s text to) is)
       own _ _ _ (no_memory fetches) is took = cc
 
       by : Written run.own run.text seen → seen.status ≡ status.Usage → HasNoForm knows seen.words × (seen.taken' ≡ with_bytes seen.taken (codes "usage" ++ 10 ∷ []))
@@ -225,7 +231,7 @@ module _ (knows : Command → Bool) (seen : Run) (run : Ran knows seen) where
           → seen.taken' ≡ with_bytes seen.taken (codes "no memory" ++ 10 ∷ [])
       own _ _ _ (no_form none) is took = cc
       own _ _ _ (answered_to command fetches s text asks to) is took =
-          absurd (not_no_memory s (command_status command fetches s text to) is)
+          absurd (any_not status.NoMemory not_no_memory unlawful_memory s (command_status command fetches s text to) is)
       own _ _ _ (no_memory fetches) is took = took
 
       by : Written run.own run.text seen → seen.status ≡ status.NoMemory → seen.taken' ≡ with_bytes seen.taken (codes "no memory" ++ 10 ∷ [])
@@ -256,22 +262,6 @@ module _ (knows : Command → Bool) (seen : Run) (run : Ran knows seen) where
 
   pub versioned : AsksOf knows seen.words commands.Version → Ends seen.status status.Ok × (seen.status ≡ status.Ok → seen.taken' ≡ with_bytes seen.taken version_text)
   versioned asks = its_text commands.Version version_text asks (λ fetches s text answer. (answer.0, answer.2))
-
-  -- no answer of words has this status, and no failing sink gives it
-  never : (other : Status) → ((s : Status) → Own s → s ≢ other) → status.Usage ≢ other → status.NoMemory ≢ other → status.WriteFault ≢ other → seen.status ≢ other
-  never other plain not_used not_short not_failed = by run.written
-    where
-      own : (fetches : List Fetch) (s : Status) (text : List ℕ) → AnswersCommand knows seen.words fetches s text → s ≢ other
-      own _ _ _ (no_form none) = not_used
-      own _ _ _ (answered_to command fetches s text asks to) = plain s (command_status command fetches s text to)
-      own _ _ _ (no_memory fetches) = not_short
-
-      by : Written run.own run.text seen → seen.status ≢ other
-      by (whole took same ends) is = own run.fetches run.own run.text run.answers (sym ends ∙ is)
-      by (stopped n short took rose ends) is = not_failed (sym ends ∙ is)
-
-  pub no_other : seen.status ≢ status.Unlawful
-  no_other = never status.Unlawful not_unlawful usage_unlawful memory_unlawful write_fault_unlawful
 
 -- what a failing sink took
 pub write_fault : (knows : Command → Bool) (seen : Run) → Runs knows seen → seen.status ≡ status.WriteFault → Rose seen.faults seen.faults' × WroteFront knows seen

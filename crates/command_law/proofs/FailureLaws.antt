@@ -8,7 +8,7 @@ use Rattle.change_script.specs.ScriptFiles.{IsScript}
 use Rattle.std.specs.Prelude.{Contains}
 use Rattle.base.proofs.ContainsLaws.{Contains-here}
 use Rattle.command_words.specs.BigFiles.{made_files, script_name}
-use Rattle.command_answers.specs.Answers.{Answer, Refusal, refusal, description, script, read_fault, no_memory, help, version, graph, plan, parts, denied, replay, report, ran, summary, status_of}
+use Rattle.command_answers.specs.Answers.{Answer, Refusal, refusal, description, script, read_fault, no_memory, help, version, graph, plan, parts, denied, replay, report, consistent, unlawful, ran, summary, status_of}
 use Rattle.command_answers.specs.Summaries.{summary_text}
 use Rattle.command_words.specs.declared.words.Command.{Command}
 use Rattle.command_words.specs.declared.words.Command.TheVariants as commands
@@ -17,8 +17,9 @@ use Rattle.command_law.specs.declared.fetched.Fetched.TheVariants.{Held, TooLong
 use Rattle.command_law.specs.declared.query.Cut.TheVariants as cuts
 use Rattle.command_law.specs.declared.query.Query.{Query}
 use Rattle.command_law.specs.declared.query.Query.TheVariants as queries
-use Rattle.command_law.specs.Commands.{RefusesEvents, RefusesReport, RefusesScript, TellsReport, calls_of, course_of_query, in_summary, OfMadeFiles}
-use Rattle.command_law.specs.Courses.{FetchCourse, SaysAlone, AfterFetch, not_fetched, fetched_alone, failed, too_long, leads_on, After, not_judged, refused, gives, not_made, makes}
+use Rattle.report_types.specs.declared.report.Report.{Report}
+use Rattle.command_law.specs.Commands.{can_be, can_not_be, IsJudged, judges, RefusesEvents, RefusesReport, RefusesScript, TellsReport, calls_of, course_of_query, in_summary, OfMadeFiles}
+use Rattle.command_law.specs.Courses.{Unrefused, FetchCourse, SaysAlone, AfterFetch, not_fetched, fetched_alone, failed, too_long, leads_on, After, not_judged, refused, gives, not_made, makes}
 use Rattle.command_law.specs.Descriptions.{IsTextRefusal, IsChecked}
 use Rattle.command_law.specs.Failures.{Uses, FailsLast}
 use Rattle.command_law.specs.Fetches.{Fetch, WasHeld, failed_names, fetch_of, file_limit, report_limit}
@@ -120,6 +121,23 @@ module _ (Named : List ℕ → Type 0) where
   of_end aim p _ _ not_made = inl (refl, λ file is. cc)
   of_end aim p _ _ (makes what fetches answer concludes says) = of_says what fetches answer (λ file. concludes_well aim p what (read_fault file) concludes) says
 
+  -- a report that is fetched and judged behind lines
+  of_judges : (file : List ℕ) → Named file → (p : Progress) (fetches : List Fetch) (answer : Answer) → judges file p fetches answer → FailsLast Named fetches answer
+  of_judges file named p fetches answer course =
+      let refuse = λ (words : List (List ℕ)). refusal (script file words) in
+      let Then = λ (bytes : List ℕ). After (RefusesReport bytes) refuse (TellsReport bytes) (λ r. Unrefused (IsJudged p.statements r) SaysAlone) in
+      of_fetch file report_limit refuse Then fetches answer named (other_script file)
+      (λ bytes fs a here then_. of_step (RefusesReport bytes) refuse (TellsReport bytes) (λ r. Unrefused (IsJudged p.statements r) SaysAlone) fs a (other_script file)
+      (λ r gs b is rest. judged_last r gs b rest) then_) course
+    where
+      no_refusal : (r : Report) (what : Answer) (why : Refusal) → IsJudged p.statements r what → what ≢ refusal why
+      no_refusal r _ why (can_be is) same = cc
+      no_refusal r _ why (can_not_be is) same = cc
+
+      judged_last : (r : Report) (fs : List Fetch) (a : Answer) → Unrefused (IsJudged p.statements r) SaysAlone fs a → FailsLast Named fs a
+      judged_last r _ _ not_made = inl (refl, λ other is. cc)
+      judged_last r _ _ (makes what fs a is says) = of_says what fs a (λ other. no_refusal r what (read_fault other) is) says
+
   pub of_short : (p : Progress) (fetches : List Fetch) (answer : Answer) → falls_short p fetches answer → FailsLast Named fetches answer
   of_short p fetches answer says = of_says (refusal no_memory) fetches answer (λ file is. cc) says
 
@@ -175,6 +193,8 @@ not_unread lanes answer made file is = by made.made (of_refusal lanes made.made 
     of_refusal n (denied number rule) why same = same
     of_refusal n (replay count s settled) why same = same
     of_refusal n (report r) why same = same
+    of_refusal n consistent why same = same
+    of_refusal n unlawful why same = same
     of_refusal n (ran r) why same = cc
     of_refusal n (summary other r) why same = same
 
@@ -216,6 +236,14 @@ of_words knows words _ _ (asked (commands.Upgrade file) fetches answer asks cour
     of_fetch Named file report_limit refuse Then fetches answer (commands.Upgrade file, asks, refl) (other_script Named file)
     (λ bytes fs a here then_. of_step Named (RefusesReport bytes) refuse (TellsReport bytes) (λ r. SaysAlone (report r)) fs a (other_script Named file)
     (λ r gs b is says. of_says Named (report r) gs b (λ other same. cc) says) then_) course
+of_words knows words _ _ (asked (commands.Check name file) fetches answer asks course) =
+    let Named = NamesFile knows (WasHeld fetches) words in
+    let refuse = λ (ws : List (List ℕ)). refusal (script name ws) in
+    let Then = λ (bytes : List ℕ). After (RefusesScript bytes) refuse (IsScript bytes) (λ lines. FollowsLines (judges file) begun (lines_of_script lines.lines)) in
+    of_fetch Named name file_limit refuse Then fetches answer (commands.Check name file, asks, inr (inl refl)) (other_script Named name)
+    (λ bytes fs a here then_. of_step Named (RefusesScript bytes) refuse (IsScript bytes) (λ lines. FollowsLines (judges file) begun (lines_of_script lines.lines)) fs a (other_script Named name)
+    (λ lines gs b is rest. of_lines Named (judges file) (of_judges Named file (commands.Check name file, asks, inl refl)) begun (lines_of_script lines.lines) gs b
+    (λ used_file used. (commands.Check name file, asks, inr (inr (bytes, lines, held name bytes fetches fs here, is, used)))) rest) then_) course
 of_words knows words _ _ (asked (commands.Big lanes) fetches answer asks course) = inl (ap failed_names course.0, not_unread lanes answer course.1)
 of_words knows words _ _ (asked (commands.Step name) fetches answer asks course) =
     let Named = NamesFile knows (WasHeld fetches) words in

@@ -34,7 +34,7 @@ use Rattle.command_law.specs.declared.query.Query.TheVariants as queries
 use Rattle.command_law.specs.Queries.{IsRefused, AnswersQuery, IsTextBy}
 use Rattle.command_law.specs.declared.fetched.Fetched.{Fetched}
 use Rattle.command_law.specs.declared.fetched.Fetched.TheVariants.{Failed}
-use Rattle.command_law.specs.Fetches.{Fetch, failed_names, fetch_of, file_limit, Gave, report_fetch, report_limit}
+use Rattle.command_law.specs.Fetches.{Fetch, failed_names, fetch_of, file_limit, Gave, report_fetch}
 use Rattle.command_law.specs.OneFile.{DescriptionAnswers, cannot_read, is_too_long, refused, answered, EventsAnswers, cannot_read_events, events_file_too_long, events_file_at_fault, ReportAnswers, cannot_read_report, report_too_long, report_at_fault, upgraded}
 use Rattle.command_law.specs.Runs.{Written, whole, stopped, Run}
 use Rattle.command_law.specs.Outcomes.{ReadFrom, Ends, Wants, Flattened, Parted, Planned, WroteChange, Replayed, DescriptionRefused, too_long, at_fault, EventsRefused, events_too_long, events_at_fault, HoldsFile, MustRefuse, MustRefuseEvents, NothingRefuses, EndsAsGiven, Upgraded, ReportRefused, is_longer, has_fault, RefusesFile, RefusesDescription, MustRefuseReport, NothingRefusesReport}
@@ -43,6 +43,9 @@ use Rattle.change_script.proofs.EventFileLaws as scripts
 use Rattle.command_words.specs.BigFiles.{made_files, script_name}
 use Rattle.report_writing.specs.Reports.{report_text}
 use Rattle.command_answers.specs.Summaries.{summary_text}
+use Rattle.command_law.proofs.Checking.{check_ends}
+use Rattle.command_law.proofs.Checking as checks
+use Rattle.command_law.proofs.Reports.{need_no_fault, no_fault_refuses, not_longer}
 use Rattle.command_law.proofs.ScriptEnds.{big_ends, script_ends}
 use Rattle.command_law.proofs.ScriptEnds as ending
 use Rattle.command_law.proofs.Statuses.{IsGiven, well, with_denial, not_two, memory_not_given, write_fault_not_given, ok_denied, ok_description, ok_script, usage_denied, usage_description, usage_script, memory_denied, memory_description, memory_script, write_fault_denied, write_fault_description, write_fault_script}
@@ -93,30 +96,6 @@ need_no_refusal (Some other) bytes events_file must is within file = by must
     by : (file_limit < length other) ⊎ ((fault : ScriptError) × IsFirstFault other fault) → ⊥
     by (inl long) = omega (arith, long, within, ap length same)
     by (inr first) = scripts.never_both bytes events_file first.0 file (subst (λ b. IsFirstFault b first.0) same first.1)
-
--- a report needn't be refused
-need_no_fault :
-    (never : (bytes : List ℕ) (r : Report) (fault : ReportFault) → TellsReport bytes r → IsReportFault bytes fault → ⊥)
-    (content : Option (List ℕ)) (bytes : List ℕ) (r : Report) → MustRefuseReport content → content ≡ Some bytes → length bytes ≤ report_limit
-    → TellsReport bytes r → ⊥
-need_no_fault never None bytes r must is within tells = must
-need_no_fault never (Some other) bytes r must is within tells = by must
-  where
-    same : other ≡ bytes
-    same = same_Some other bytes is
-
-    by : (report_limit < length other) ⊎ ((fault : ReportFault) × IsReportFault other fault) → ⊥
-    by (inl long) = omega (arith, long, within, ap length same)
-    by (inr first) = never bytes r first.0 tells (subst (λ b. IsReportFault b first.0) same first.1)
-
--- nothing refuses a report that was held
-no_fault_refuses : (content : Option (List ℕ)) (bytes : List ℕ) (fault : ReportFault) → NothingRefusesReport content → content ≡ Some bytes → IsReportFault bytes fault → ⊥
-no_fault_refuses None bytes fault nothing is first = nothing
-no_fault_refuses (Some other) bytes fault nothing is first = nothing.1 fault (subst (λ b. IsReportFault b fault) (sym (same_Some other bytes is)) first)
-
-not_longer : (content : Option (List ℕ)) → NothingRefusesReport content → IsSomeAnd content (λ bytes. report_limit < length bytes) → ⊥
-not_longer None nothing long = nothing
-not_longer (Some bytes) nothing long = omega (arith, nothing.0, long)
 
 -- what was written of a description that gave an answer
 pub record WroteAnswer (files : Option Files) (file : List ℕ) (query : Query) (own : Status) (taken taken' : Option (List ℕ)) : Type 0 where
@@ -360,6 +339,8 @@ module _ (knows : Command → Bool) (seen : Run) (run : Ran knows seen) where
       of (commands.Upgrade file) asks answer is took = absurd (report_not_denied seen.files seen.taken seen.taken' file answer.given run.own run.text answer.answer is)
       of (commands.Step name) asks answer is took =
           absurd (ending.not_denied rounds report_text seen.files name run.fetches run.own run.text (script_ends rounds report_text seen.files name run.fetches run.own run.text answer run.told) is)
+      of (commands.Check name file) asks answer is took =
+          absurd (checks.not_denied seen.files name file run.fetches run.own run.text (check_ends seen.files name file run.fetches run.own run.text answer run.told) is)
       of (commands.Big lanes) asks answer is took =
           absurd (ending.not_denied rounds (summary_text lanes) (Some (made_files lanes)) script_name answer.within run.own run.text (big_ends lanes run.fetches run.own run.text answer) is)
 
@@ -409,8 +390,10 @@ module _ (knows : Command → Bool) (seen : Run) (run : Ran knows seen) where
           absurd (report_not_description seen.files seen.taken seen.taken' file answer.given own text answer.answer is)
       of (commands.Step name) fetches own text asks answer is told took =
           inr (inl (name, asks, ending.line_refused rounds report_text seen.files name fetches seen.taken seen.taken' own text (script_ends rounds report_text seen.files name fetches own text answer told) is took))
+      of (commands.Check name file) fetches own text asks answer is told took =
+          inr (inr (inl (name, file, asks, checks.line_refused seen.files name file fetches seen.taken seen.taken' own text (check_ends seen.files name file fetches own text answer told) is took)))
       of (commands.Big lanes) fetches own text asks answer is told took =
-          inr (inr (lanes, asks, ending.line_refused rounds (summary_text lanes) (Some (made_files lanes)) script_name answer.within seen.taken seen.taken' own text (big_ends lanes fetches own text answer) is took))
+          inr (inr (inr (lanes, asks, ending.line_refused rounds (summary_text lanes) (Some (made_files lanes)) script_name answer.within seen.taken seen.taken' own text (big_ends lanes fetches own text answer) is took)))
 
       own : (fetches : List Fetch) (s : Status) (text : List ℕ) → AnswersCommand knows seen.words fetches s text → s ≡ status.Description → AllByRecursion (Gave seen.files) fetches
           → seen.taken' ≡ with_bytes seen.taken text → RefusesDescription knows seen
@@ -445,8 +428,10 @@ module _ (knows : Command → Bool) (seen : Run) (run : Ran knows seen) where
           inr (inl (file, asks, of_report_refusal seen.files seen.taken seen.taken' file answer.given own text answer.answer is each.0 took))
       of (commands.Step name) fetches own text asks answer is told took =
           inr (inr (inl (name, asks, ending.script_refused rounds report_text seen.files name fetches seen.taken seen.taken' own text (script_ends rounds report_text seen.files name fetches own text answer told) is took)))
+      of (commands.Check name file) fetches own text asks answer is told took =
+          inr (inr (inr (inl (name, file, asks, checks.refused_file seen.files name file fetches seen.taken seen.taken' own text (check_ends seen.files name file fetches own text answer told) is took))))
       of (commands.Big lanes) fetches own text asks answer is told took =
-          inr (inr (inr (lanes, asks, ending.script_refused rounds (summary_text lanes) (Some (made_files lanes)) script_name answer.within seen.taken seen.taken' own text (big_ends lanes fetches own text answer) is took)))
+          inr (inr (inr (inr (lanes, asks, ending.script_refused rounds (summary_text lanes) (Some (made_files lanes)) script_name answer.within seen.taken seen.taken' own text (big_ends lanes fetches own text answer) is took))))
 
       own : (fetches : List Fetch) (s : Status) (text : List ℕ) → AnswersCommand knows seen.words fetches s text → s ≡ status.Script → AllByRecursion (Gave seen.files) fetches
           → seen.taken' ≡ with_bytes seen.taken text → RefusesFile knows seen

@@ -23,7 +23,7 @@ use Rattle.command_words.specs.BigFiles.{made_files, script_name}
 use Rattle.report_writing.specs.Reports.{report_text}
 use Rattle.report_types.specs.declared.report.Report.{Report}
 use Rattle.command_answers.specs.Summaries.{summary_text}
-use Rattle.command_law.specs.Commands.{course_of, course_of_query, course_of_script, in_summary, OfMadeFiles}
+use Rattle.command_law.specs.Commands.{can_be, can_not_be, course_of, course_of_query, course_of_script, in_summary, IsJudged, judges, OfMadeFiles}
 use Rattle.command_law.specs.Courses.{FetchCourse, not_fetched, fetched_alone, failed, too_long, leads_on, not_judged}
 use Rattle.command_law.specs.Courses as courses
 use Rattle.command_law.specs.Fetches.{Fetch, fetch_of, failed_names, Gave, report_fetch}
@@ -62,25 +62,36 @@ run_own_with false false = plain status.Ok well
 run_own : (n : ℕ) → Own (run_status n)
 run_own n = run_own_with (n == 7) (n == 8)
 
+-- a status that a report may come to that is judged
+pub data OfJudgement : Status → Type 0 where
+  before : (s : Status) → Plain s → OfJudgement s
+  against : OfJudgement status.Unlawful
+
+-- any of them
+pub data OfAny : Status → Type 0 where
+  of_run : (s : Status) → Own s → OfAny s
+  of_judgement : (s : Status) → OfJudgement s → OfAny s
+
 -- of lines, behind which a status comes that a command may have, or memory runs out
 module _
+    (May : Status → Type 0) (may : (s : Status) → Plain s → May s)
     (Then : Progress → FetchCourse)
-    (of_end : (p : Progress) (fetches : List Fetch) (answer : values.Answer) → Then p fetches answer → Own (status_of answer) ⊎ (answer ≡ refusal values.no_memory))
+    (of_end : (p : Progress) (fetches : List Fetch) (answer : values.Answer) → Then p fetches answer → May (status_of answer) ⊎ (answer ≡ refusal values.no_memory))
   where
     follows_status :
         (p : Progress) (lines : List RunLine) (fetches : List Fetch) (answer : values.Answer) → FollowsLines Then p lines fetches answer
-        → Own (status_of answer) ⊎ (answer ≡ refusal values.no_memory)
+        → May (status_of answer) ⊎ (answer ≡ refusal values.no_memory)
     follows_status p [] fetches answer then_ = of_end p fetches answer then_
     follows_status p (uses file ∷ lines) _ _ not_fetched = inr refl
     follows_status p (uses file ∷ lines) _ _ (fetched_alone what) = inr refl
-    follows_status p (uses file ∷ lines) _ _ failed = inl (plain status.ReadFault read_fault)
-    follows_status p (uses file ∷ lines) _ _ too_long = inl (plain status.Description description)
+    follows_status p (uses file ∷ lines) _ _ failed = inl (may status.ReadFault read_fault)
+    follows_status p (uses file ∷ lines) _ _ too_long = inl (may status.Description description)
     follows_status p (uses file ∷ lines) _ _ (leads_on bytes _ _ not_judged) = inr refl
-    follows_status p (uses file ∷ lines) _ _ (leads_on bytes _ _ (courses.refused words why)) = inl (plain status.Description description)
+    follows_status p (uses file ∷ lines) _ _ (leads_on bytes _ _ (courses.refused words why)) = inl (may status.Description description)
     follows_status p (uses file ∷ lines) _ _ (leads_on bytes _ _ (courses.gives tree fetches answer checked follows)) =
         follows_status (with_description p file tree) lines fetches answer follows
     follows_status p (calls deed name args ∷ lines) _ _ not_judged = inr refl
-    follows_status p (calls deed name args ∷ lines) _ _ (courses.refused words why) = inl (plain status.Description description)
+    follows_status p (calls deed name args ∷ lines) _ _ (courses.refused words why) = inl (may status.Description description)
     follows_status p (calls deed name args ∷ lines) _ _ (courses.gives next fetches answer leads follows) = follows_status next lines fetches answer follows
     follows_status p (does what ∷ lines) fetches answer follows = follows_status (with_statement p what) lines fetches answer follows
 
@@ -91,6 +102,24 @@ run_status_behind :
 run_status_behind schedule p _ _ courses.not_made = inr refl
 run_status_behind schedule p _ _ (courses.makes what fetches answer concludes says) =
     inl (subst (λ a. Own (status_of a)) (sym (says.1 ∙ concludes.2)) (run_own concludes.0.status))
+
+-- of a report that is judged behind them
+judged_status_behind :
+    (file : List ℕ) (p : Progress) (fetches : List Fetch) (answer : values.Answer) → judges file p fetches answer
+    → OfJudgement (status_of answer) ⊎ (answer ≡ refusal values.no_memory)
+judged_status_behind file p _ _ not_fetched = inr refl
+judged_status_behind file p _ _ (fetched_alone what) = inr refl
+judged_status_behind file p _ _ failed = inl (before status.ReadFault read_fault)
+judged_status_behind file p _ _ too_long = inl (before status.Script script)
+judged_status_behind file p _ _ (leads_on bytes _ _ not_judged) = inr refl
+judged_status_behind file p _ _ (leads_on bytes _ _ (courses.refused words why)) = inl (before status.Script script)
+judged_status_behind file p _ _ (leads_on bytes _ _ (courses.gives r _ _ is courses.not_made)) = inr refl
+judged_status_behind file p _ _ (leads_on bytes _ _ (courses.gives r _ _ is (courses.makes what fetches answer judged says))) =
+    inl (subst (λ a. OfJudgement (status_of a)) (sym says.1) (by what judged))
+  where
+    by : (a : values.Answer) → IsJudged p.statements r a → OfJudgement (status_of a)
+    by _ (can_be is) = before status.Ok well
+    by _ (can_not_be is) = against
 
 -- ---- what is answered, by what was fetched
 
@@ -129,6 +158,8 @@ shown_text show (values.parts old ps) = text_of (values.parts old ps)
 shown_text show (values.denied number rule) = text_of (values.denied number rule)
 shown_text show (values.replay count s settled) = text_of (values.replay count s settled)
 shown_text show (values.report r) = text_of (values.report r)
+shown_text show values.consistent = text_of values.consistent
+shown_text show values.unlawful = text_of values.unlawful
 shown_text show (values.ran r) = show r
 shown_text show (values.summary lanes r) = text_of (values.summary lanes r)
 
@@ -140,6 +171,15 @@ pub data OfStep (schedule : Schedule) (show : Report → List ℕ) (name : List 
       (bytes : List ℕ) (parsed : Script) (fetches : List Fetch) (answer : values.Answer) → IsScript bytes parsed
       → FollowsLines (behind (running schedule)) begun (lines_of_script parsed.lines) fetches answer → Own (status_of answer)
       → OfStep schedule show name (fetch_of name (Held bytes) ∷ fetches) (status_of answer) (shown_text show answer)
+
+-- an answer of a script by which a report is judged
+pub data OfCheck (name file : List ℕ) : List Fetch → Status → List ℕ → Type 0 where
+  of_its_script :
+      (given : Fetched) (own : Status) (text : List ℕ) → ScriptAnswers name given own text → OfCheck name file (fetch_of name given ∷ []) own text
+  of_its_lines :
+      (bytes : List ℕ) (parsed : Script) (fetches : List Fetch) (answer : values.Answer) → IsScript bytes parsed
+      → FollowsLines (judges file) begun (lines_of_script parsed.lines) fetches answer → OfJudgement (status_of answer)
+      → OfCheck name file (fetch_of name (Held bytes) ∷ fetches) (status_of answer) (text_of answer)
 
 -- an answer of a script that was made, by its own fetches
 pub record OfBig (lanes : ℕ) (fetches : List Fetch) (own : Status) (text : List ℕ) : Type 0 where
@@ -159,6 +199,7 @@ Answer (commands.Parts file call target) fetches own text = OfDescription file (
 Answer (commands.Replay file name) fetches own text = OfScript name fetches own text ⊎ OfReplay file name fetches own text
 Answer (commands.Upgrade file) fetches own text = OfReport file fetches own text
 Answer (commands.Step name) fetches own text = OfStep rounds report_text name fetches own text
+Answer (commands.Check name file) fetches own text = OfCheck name file fetches own text
 Answer (commands.Big lanes) fetches own text = OfBig lanes fetches own text
 
 module _ (schedule : Schedule) (show : Report → List ℕ) (name : List ℕ) where
@@ -174,12 +215,31 @@ module _ (schedule : Schedule) (show : Report → List ℕ) (name : List ℕ) wh
       inl (of_script (Held bytes) status.Script (script_line name words)
       (subst (λ w. ScriptAnswers name (Held bytes) status.Script (script_line name w)) (sym is) (script_file_at_fault bytes fault first)))
   from_script _ _ (leads_on bytes _ _ (courses.gives parsed fetches answer is follows)) =
-      by (follows_status (behind (running schedule)) (run_status_behind schedule) begun (lines_of_script parsed.lines) fetches answer follows)
+      by (follows_status Own plain (behind (running schedule)) (run_status_behind schedule) begun (lines_of_script parsed.lines) fetches answer follows)
     where
       by : Own (status_of answer) ⊎ (answer ≡ refusal values.no_memory)
           → OfStep schedule show name (fetch_of name (Held bytes) ∷ fetches) (status_of answer) (shown_text show answer) ⊎ (answer ≡ refusal values.no_memory)
       by (inl own) = inl (of_lines bytes parsed fetches answer is follows own)
       by (inr short) = inr short
+
+from_checked :
+    (name file : List ℕ) (fetches : List Fetch) (answer : values.Answer) → course_of_script (judges file) name fetches answer
+    → OfCheck name file fetches (status_of answer) (text_of answer) ⊎ (answer ≡ refusal values.no_memory)
+from_checked name file _ _ not_fetched = inr refl
+from_checked name file _ _ (fetched_alone what) = inr refl
+from_checked name file _ _ failed = inl (of_its_script Failed status.ReadFault (read_fault_line name) cannot_read_script)
+from_checked name file _ _ too_long = inl (of_its_script TooLong status.Script (script_line name (codes "TooLong" ∷ [])) script_file_too_long)
+from_checked name file _ _ (leads_on bytes _ _ not_judged) = inr refl
+from_checked name file _ _ (leads_on bytes _ _ (courses.refused words (fault, first, is))) =
+    inl (of_its_script (Held bytes) status.Script (script_line name words)
+    (subst (λ w. ScriptAnswers name (Held bytes) status.Script (script_line name w)) (sym is) (script_file_at_fault bytes fault first)))
+from_checked name file _ _ (leads_on bytes _ _ (courses.gives parsed fetches answer is follows)) =
+    by (follows_status OfJudgement before (judges file) (judged_status_behind file) begun (lines_of_script parsed.lines) fetches answer follows)
+  where
+    by : OfJudgement (status_of answer) ⊎ (answer ≡ refusal values.no_memory)
+        → OfCheck name file (fetch_of name (Held bytes) ∷ fetches) (status_of answer) (text_of answer) ⊎ (answer ≡ refusal values.no_memory)
+    by (inl own) = inl (of_its_lines bytes parsed fetches answer is follows own)
+    by (inr short) = inr short
 
 shown_as_is : (answer : values.Answer) → shown_text report_text answer ≡ text_of answer
 shown_as_is (values.refusal why) = refl
@@ -191,6 +251,8 @@ shown_as_is (values.parts old ps) = refl
 shown_as_is (values.denied number rule) = refl
 shown_as_is (values.replay count s settled) = refl
 shown_as_is (values.report r) = refl
+shown_as_is values.consistent = refl
+shown_as_is values.unlawful = refl
 shown_as_is (values.ran r) = refl
 shown_as_is (values.summary lanes r) = refl
 
@@ -206,6 +268,8 @@ summary_shown lanes (values.parts old ps) = (refl, refl)
 summary_shown lanes (values.denied number rule) = (refl, refl)
 summary_shown lanes (values.replay count s settled) = (refl, refl)
 summary_shown lanes (values.report r) = (refl, refl)
+summary_shown lanes values.consistent = (refl, refl)
+summary_shown lanes values.unlawful = (refl, refl)
 summary_shown lanes (values.ran r) = (refl, refl)
 summary_shown lanes (values.summary other r) = (refl, refl)
 
@@ -295,6 +359,7 @@ from_command (commands.Step name) fetches answer course = by (from_script rounds
         → OfStep rounds report_text name fetches (status_of answer) (text_of answer) ⊎ (answer ≡ refusal values.no_memory)
     by (inl of) = inl (subst (λ t. OfStep rounds report_text name fetches (status_of answer) t) (shown_as_is answer) of)
     by (inr short) = inr short
+from_command (commands.Check name file) fetches answer course = from_checked name file fetches answer course
 from_command (commands.Big lanes) fetches answer course = from_made lanes fetches answer course.0 course.1
 
 -- the status and the text of an answer to words
@@ -382,17 +447,22 @@ step_status :
 step_status schedule show name _ _ _ (of_script given own text answer) = plain own (statements_status name given own text answer)
 step_status schedule show name _ _ _ (of_lines bytes parsed fetches answer is follows own) = own
 
-pub command_status : (command : Command) (fetches : List Fetch) (own : Status) (text : List ℕ) → Answer command fetches own text → Own own
-command_status commands.Help fetches own text answer = rw answer.0 (plain status.Ok well)
-command_status commands.Version fetches own text answer = rw answer.0 (plain status.Ok well)
-command_status (commands.Flat file call) fetches own text answer = plain own (description_status file (queries.Graph call) answer.given own text answer.answer)
-command_status (commands.Plan file call target) fetches own text answer = plain own (description_status file (queries.Change cuts.Whole call target) answer.given own text answer.answer)
-command_status (commands.Parts file call target) fetches own text answer = plain own (description_status file (queries.Change cuts.InParts call target) answer.given own text answer.answer)
-command_status (commands.Replay file name) fetches own text (inl answer) = plain own (script_status name answer.given own text answer.answer)
-command_status (commands.Replay file name) fetches own text (inr answer) = plain own (description_status file (queries.Replay answer.events_file) answer.given own text answer.answer)
-command_status (commands.Upgrade file) fetches own text answer = plain own (report_status file answer.given own text answer.answer)
-command_status (commands.Step name) fetches own text answer = step_status rounds report_text name fetches own text answer
-command_status (commands.Big lanes) fetches own text answer = step_status rounds (summary_text lanes) script_name answer.within own text answer.answer
+check_status : (name file : List ℕ) (fetches : List Fetch) (own : Status) (text : List ℕ) → OfCheck name file fetches own text → OfJudgement own
+check_status name file _ _ _ (of_its_script given own text answer) = before own (statements_status name given own text answer)
+check_status name file _ _ _ (of_its_lines bytes parsed fetches answer is follows own) = own
+
+pub command_status : (command : Command) (fetches : List Fetch) (own : Status) (text : List ℕ) → Answer command fetches own text → OfAny own
+command_status commands.Help fetches own text answer = rw answer.0 (of_run status.Ok (plain status.Ok well))
+command_status commands.Version fetches own text answer = rw answer.0 (of_run status.Ok (plain status.Ok well))
+command_status (commands.Flat file call) fetches own text answer = of_run own (plain own (description_status file (queries.Graph call) answer.given own text answer.answer))
+command_status (commands.Plan file call target) fetches own text answer = of_run own (plain own (description_status file (queries.Change cuts.Whole call target) answer.given own text answer.answer))
+command_status (commands.Parts file call target) fetches own text answer = of_run own (plain own (description_status file (queries.Change cuts.InParts call target) answer.given own text answer.answer))
+command_status (commands.Replay file name) fetches own text (inl answer) = of_run own (plain own (script_status name answer.given own text answer.answer))
+command_status (commands.Replay file name) fetches own text (inr answer) = of_run own (plain own (description_status file (queries.Replay answer.events_file) answer.given own text answer.answer))
+command_status (commands.Upgrade file) fetches own text answer = of_run own (plain own (report_status file answer.given own text answer.answer))
+command_status (commands.Step name) fetches own text answer = of_run own (step_status rounds report_text name fetches own text answer)
+command_status (commands.Check name file) fetches own text answer = of_judgement own (check_status name file fetches own text answer)
+command_status (commands.Big lanes) fetches own text answer = of_run own (step_status rounds (summary_text lanes) script_name answer.within own text answer.answer)
 
 pub not_usage : (own : Status) → Own own → own ≢ status.Usage
 not_usage _ (plain _ well) is = cc
@@ -430,6 +500,12 @@ not_unlawful _ (plain _ denied) is = cc
 not_unlawful _ pending is = cc
 not_unlawful _ unfinished is = cc
 
+-- the same of any
+pub any_not : (due : Status) → ((s : Status) → Own s → s ≢ due) → status.Unlawful ≢ due → (own : Status) → OfAny own → own ≢ due
+any_not due differs other own (of_run _ is) = differs own is
+any_not due differs other own (of_judgement _ (before _ is)) = differs own (plain own is)
+any_not due differs other _ (of_judgement _ against) = other
+
 not_pending : (own : Status) → Plain own → own ≢ status.Pending
 not_pending _ well is = cc
 not_pending _ description is = cc
@@ -447,6 +523,11 @@ not_unfinished _ denied is = cc
 not_run : (own : Status) → Plain own → (own ≡ status.Pending) ⊎ (own ≡ status.Unfinished) → ⊥
 not_run own is_plain (inl is) = not_pending own is_plain is
 not_run own is_plain (inr is) = not_unfinished own is_plain is
+
+not_run_judged : (own : Status) → OfJudgement own → (own ≡ status.Pending) ⊎ (own ≡ status.Unfinished) → ⊥
+not_run_judged own (before _ is_plain) is = not_run own is_plain is
+not_run_judged _ against (inl is) = cc
+not_run_judged _ against (inr is) = cc
 
 -- only the run of a script ends so, fetched or made
 pub only_scripts :
@@ -467,4 +548,29 @@ only_scripts (commands.Replay file name) fetches own text (inr answer) is =
     absurd (not_run own (description_status file (queries.Replay answer.events_file) answer.given own text answer.answer) is)
 only_scripts (commands.Upgrade file) fetches own text answer is = absurd (not_run own (report_status file answer.given own text answer.answer) is)
 only_scripts (commands.Step name) fetches own text answer is = inl (name, refl)
+only_scripts (commands.Check name file) fetches own text answer is = absurd (not_run_judged own (check_status name file fetches own text answer) is)
 only_scripts (commands.Big lanes) fetches own text answer is = inr (lanes, refl)
+
+-- only a report is judged so
+pub only_checks :
+    (command : Command) (fetches : List Fetch) (own : Status) (text : List ℕ) → Answer command fetches own text → own ≡ status.Unlawful
+    → (name : List ℕ) × (file : List ℕ) × (command ≡ commands.Check name file)
+only_checks commands.Help fetches own text answer is = absurd (not_unlawful own (rw answer.0 (plain status.Ok well)) is)
+only_checks commands.Version fetches own text answer is = absurd (not_unlawful own (rw answer.0 (plain status.Ok well)) is)
+only_checks (commands.Flat file call) fetches own text answer is =
+    absurd (not_unlawful own (plain own (description_status file (queries.Graph call) answer.given own text answer.answer)) is)
+only_checks (commands.Plan file call target) fetches own text answer is =
+    absurd (not_unlawful own (plain own (description_status file (queries.Change cuts.Whole call target) answer.given own text answer.answer)) is)
+only_checks (commands.Parts file call target) fetches own text answer is =
+    absurd (not_unlawful own (plain own (description_status file (queries.Change cuts.InParts call target) answer.given own text answer.answer)) is)
+only_checks (commands.Replay file name) fetches own text (inl answer) is =
+    absurd (not_unlawful own (plain own (script_status name answer.given own text answer.answer)) is)
+only_checks (commands.Replay file name) fetches own text (inr answer) is =
+    absurd (not_unlawful own (plain own (description_status file (queries.Replay answer.events_file) answer.given own text answer.answer)) is)
+only_checks (commands.Upgrade file) fetches own text answer is =
+    absurd (not_unlawful own (plain own (report_status file answer.given own text answer.answer)) is)
+only_checks (commands.Step name) fetches own text answer is =
+    absurd (not_unlawful own (step_status rounds report_text name fetches own text answer) is)
+only_checks (commands.Check name file) fetches own text answer is = (name, file, refl)
+only_checks (commands.Big lanes) fetches own text answer is =
+    absurd (not_unlawful own (step_status rounds (summary_text lanes) script_name answer.within own text answer.answer) is)

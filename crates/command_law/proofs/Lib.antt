@@ -1,3 +1,4 @@
+pub mod Checking
 pub mod CourseLaws
 pub mod Courses
 pub mod Ending

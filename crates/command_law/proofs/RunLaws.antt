@@ -9,7 +9,7 @@ use Rattle.command_words.specs.declared.words.Command.TheVariants as commands
 use Rattle.command_words.specs.declared.words.TopCall.{TopCall}
 use Rattle.command_words.specs.BigFiles.{made_files, script_name}
 use Rattle.command_law.specs.Outcomes as outcomes
-use Rattle.command_law.specs.Outcomes.{ReadFrom, Flattened, Parted, Planned, Replayed, Upgraded, IsRunStatus, NothingRefuses, EndsAsGiven, NothingRefusesReport, Ends, NothingRefusesLines, EndsAsRun, Wants}
+use Rattle.command_law.specs.Outcomes.{ReadFrom, Flattened, Parted, Planned, Replayed, Upgraded, IsRunStatus, IsVerdict, Judged, NothingRefuses, EndsAsGiven, NothingRefusesReport, Ends, NothingRefusesLines, EndsAsRun, EndsAsJudged, Wants}
 use Rattle.command_law.specs.Runs.{Run, RunsWith, Runs}
 use Rattle.command_law.specs.declared.query.Query.{Query}
 use Rattle.command_law.proofs.Flattening as flattening
@@ -61,6 +61,12 @@ module _ (knows : Command → Bool) (seen : Run) (run : Runs knows seen) where
   pub runs : (name : List ℕ) → AsksOf knows seen.words (commands.Step name) → IsRunStatus seen.status → outcomes.Ran seen.files name seen.status seen.taken seen.taken'
   runs = stepping.runs knows seen (ran knows seen run)
 
+  -- what a report was judged to
+  pub judges :
+      (name file : List ℕ) → AsksOf knows seen.words (commands.Check name file) → IsVerdict seen.status
+      → Judged seen.files name file seen.status seen.taken seen.taken'
+  judges = stepping.judges_so knows seen (ran knows seen run)
+
   -- the summary of a run that was made
   pub sums_up : (lanes : ℕ) → AsksOf knows seen.words (commands.Big lanes) → IsRunStatus seen.status → outcomes.SummedUp lanes seen.status seen.taken seen.taken'
   sums_up = stepping.sums_up knows seen (ran knows seen run)
@@ -83,3 +89,8 @@ module _ (knows : Command → Bool) (seen : Run) (run : Runs knows seen) where
       (told : Files) → ReadFrom seen told → (name : List ℕ) → AsksOf knows seen.words (commands.Step name)
       → NothingRefusesLines told (told name) → EndsAsRun seen.status
   completes_script = stepping.completes knows seen (ran knows seen run)
+
+  pub completes_check :
+      (told : Files) → ReadFrom seen told → (name file : List ℕ) → AsksOf knows seen.words (commands.Check name file)
+      → NothingRefusesLines told (told name) → NothingRefusesReport (told file) → EndsAsJudged seen.status
+  completes_check = stepping.completes_check knows seen (ran knows seen run)

@@ -69,18 +69,28 @@ script_other name _ _ _ (script_file_at_fault bytes fault first) = for_script
 
 -- ---- the ends
 
--- where this is shown of a report
-pub data ScriptEnds (schedule : Schedule) (show : Report → List ℕ) (files : Option Files) (name : List ℕ) (fetches : List Fetch) : Status → List ℕ → Type 0 where
+-- before anything follows behind the lines
+pub data EarlyEnds (files : Option Files) (name : List ℕ) (fetches : List Fetch) : Status → List ℕ → Type 0 where
   is_none :
       (given : Fetched) (own : Status) (text : List ℕ) → failed_names fetches ≡ failed_names (fetch_of name given ∷ []) → Gave files (fetch_of name given)
-      → ScriptAnswers name given own text → ScriptEnds schedule show files name fetches own text
+      → ScriptAnswers name given own text → EarlyEnds files name fetches own text
   unread :
       (script : Script) (file : List ℕ) → IsScriptOf files name script → Uses (lines_of_script script.lines) file → failed_names fetches ≡ file ∷ []
-      → ScriptEnds schedule show files name fetches status.ReadFault (read_fault_line file)
+      → EarlyEnds files name fetches status.ReadFault (read_fault_line file)
   refuses :
       (script : Script) (file : List ℕ) (words : List (List ℕ)) → IsScriptOf files name script
       → AreRefused (HoldsFile files) (TellsTooLong files) (lines_of_script script.lines) begun file words → failed_names fetches ≡ []
-      → ScriptEnds schedule show files name fetches status.Description (description_line file words)
+      → EarlyEnds files name fetches status.Description (description_line file words)
+
+-- no run of a script has the status of one
+pub early_other : (files : Option Files) (name : List ℕ) (fetches : List Fetch) (own : Status) (text : List ℕ) → EarlyEnds files name fetches own text → IsOther own
+early_other files name fetches _ _ (is_none given own text names gave answer) = script_other name given own text answer
+early_other files name fetches _ _ (unread script file script_of used names) = for_fetch
+early_other files name fetches _ _ (refuses script file words script_of are none) = for_line
+
+-- of a run, where this is shown of a report
+pub data ScriptEnds (schedule : Schedule) (show : Report → List ℕ) (files : Option Files) (name : List ℕ) (fetches : List Fetch) : Status → List ℕ → Type 0 where
+  early : {own : Status} {text : List ℕ} → EarlyEnds files name fetches own text → ScriptEnds schedule show files name fetches own text
   reports :
       (script : Script) (end : Progress) (report : Report) → IsScriptOf files name script → LeadTo (HoldsFile files) begun (lines_of_script script.lines) end
       → IsReportBy schedule end.statements report → failed_names fetches ≡ []
@@ -90,7 +100,7 @@ pub script_ends :
     (schedule : Schedule) (show : Report → List ℕ) (files : Option Files) (name : List ℕ) (fetches : List Fetch) (own : Status) (text : List ℕ)
     → OfStep schedule show name fetches own text
     → AllByRecursion (Gave files) fetches → ScriptEnds schedule show files name fetches own text
-script_ends schedule show files name _ _ _ (of_script given own text answer) told = is_none given own text refl told.0 answer
+script_ends schedule show files name _ _ _ (of_script given own text answer) told = early (is_none given own text refl told.0 answer)
 script_ends schedule show files name _ _ _ (of_lines bytes script fetches answer is follows own) told =
     by fetches answer (lines_end files (behind (running schedule)) begun (lines_of_script script.lines) fetches answer follows told.1) own
   where
@@ -108,8 +118,8 @@ script_ends schedule show files name _ _ _ (of_lines bytes script fetches answer
     by : (fs : List Fetch) (a : values.Answer) → LinesEnd files (behind (running schedule)) begun (lines_of_script script.lines) fs a → Own (status_of a)
         → ScriptEnds schedule show files name (fetch_of name (Held bytes) ∷ fs) (status_of a) (shown_text show a)
     by _ _ (short fs) own = absurd (not_no_memory status.NoMemory own refl)
-    by _ _ (lines.unread file fs used names) own = unread script file script_of used names
-    by _ _ (stop file words fs are none) own = refuses script file words script_of are none
+    by _ _ (lines.unread file fs used names) own = early (unread script file script_of used names)
+    by _ _ (stop file words fs are none) own = early (refuses script file words script_of are none)
     by _ _ (follow end fs later a lead none then_ gave) own = run end fs later a lead none then_ own
 
 -- of a script that was made, by its own fetches
@@ -123,61 +133,61 @@ module _ (schedule : Schedule) (show : Report → List ℕ) (files : Option File
   -- ---- what a status says
 
   pub not_denied : (own : Status) (text : List ℕ) → ScriptEnds schedule show files name fetches own text → own ≢ status.Denied
-  not_denied _ _ (is_none _ _ _ names gave cannot_read_script) is = cc
-  not_denied _ _ (is_none _ _ _ names gave script_file_too_long) is = cc
-  not_denied _ _ (is_none _ _ _ names gave (script_file_at_fault bytes fault first)) is = cc
-  not_denied _ _ (unread script file script_of used names) is = cc
-  not_denied _ _ (refuses script file words script_of are none) is = cc
+  not_denied _ _ (early (is_none _ _ _ names gave cannot_read_script)) is = cc
+  not_denied _ _ (early (is_none _ _ _ names gave script_file_too_long)) is = cc
+  not_denied _ _ (early (is_none _ _ _ names gave (script_file_at_fault bytes fault first))) is = cc
+  not_denied _ _ (early (unread script file script_of used names)) is = cc
+  not_denied _ _ (early (refuses script file words script_of are none)) is = cc
   not_denied _ _ (reports script end report script_of lead is_report none) is = not_of_run report.status status.Denied for_event is
 
   pub failed_file :
       (own : Status) (text : List ℕ) → ScriptEnds schedule show files name fetches own text → own ≡ status.ReadFault
       → (file : List ℕ) × MentionsFile (HoldsFile files) (commands.Step name) file × (failed_names fetches ≡ file ∷ []) × (text ≡ read_fault_line file)
-  failed_file _ _ (is_none _ _ _ names gave cannot_read_script) is = (name, inl refl, names, refl)
-  failed_file _ _ (is_none _ _ _ names gave script_file_too_long) is = cc
-  failed_file _ _ (is_none _ _ _ names gave (script_file_at_fault bytes fault first)) is = cc
-  failed_file _ _ (unread script file script_of used names) is =
+  failed_file _ _ (early (is_none _ _ _ names gave cannot_read_script)) is = (name, inl refl, names, refl)
+  failed_file _ _ (early (is_none _ _ _ names gave script_file_too_long)) is = cc
+  failed_file _ _ (early (is_none _ _ _ names gave (script_file_at_fault bytes fault first))) is = cc
+  failed_file _ _ (early (unread script file script_of used names)) is =
       (file, inr (script_of.bytes, script, script_of.told, script_of.is_script, used), names, refl)
-  failed_file _ _ (refuses script file words script_of are none) is = cc
+  failed_file _ _ (early (refuses script file words script_of are none)) is = cc
   failed_file _ _ (reports script end report script_of lead is_report none) is = absurd (not_of_run report.status status.ReadFault for_fetch is)
 
   pub any_failed : (own : Status) (text : List ℕ) → ScriptEnds schedule show files name fetches own text → failed_names fetches ≢ [] → own ≡ status.ReadFault
-  any_failed _ _ (is_none _ _ _ names gave cannot_read_script) some = refl
-  any_failed _ _ (is_none _ _ _ names gave script_file_too_long) some = absurd (some names)
-  any_failed _ _ (is_none _ _ _ names gave (script_file_at_fault bytes fault first)) some = absurd (some names)
-  any_failed _ _ (unread script file script_of used names) some = refl
-  any_failed _ _ (refuses script file words script_of are none) some = absurd (some none)
+  any_failed _ _ (early (is_none _ _ _ names gave cannot_read_script)) some = refl
+  any_failed _ _ (early (is_none _ _ _ names gave script_file_too_long)) some = absurd (some names)
+  any_failed _ _ (early (is_none _ _ _ names gave (script_file_at_fault bytes fault first))) some = absurd (some names)
+  any_failed _ _ (early (unread script file script_of used names)) some = refl
+  any_failed _ _ (early (refuses script file words script_of are none)) some = absurd (some none)
   any_failed _ _ (reports script end report script_of lead is_report none) some = absurd (some none)
 
   module _ (taken taken' : Option (List ℕ)) where
     pub script_refused :
         (own : Status) (text : List ℕ) → ScriptEnds schedule show files name fetches own text → own ≡ status.Script → taken' ≡ with_bytes taken text
         → ScriptRefused files name taken taken'
-    script_refused _ _ (is_none _ _ _ names gave cannot_read_script) is took = cc
-    script_refused _ _ (is_none _ _ _ names gave script_file_too_long) is took = script_too_long (long_told files name gave) took
-    script_refused _ _ (is_none _ _ _ names gave (script_file_at_fault bytes fault first)) is took =
+    script_refused _ _ (early (is_none _ _ _ names gave cannot_read_script)) is took = cc
+    script_refused _ _ (early (is_none _ _ _ names gave script_file_too_long)) is took = script_too_long (long_told files name gave) took
+    script_refused _ _ (early (is_none _ _ _ names gave (script_file_at_fault bytes fault first))) is took =
         script_at_fault bytes fault (held_told files name bytes gave) (held_within files name bytes gave) first took
-    script_refused _ _ (unread script file script_of used names) is took = cc
-    script_refused _ _ (refuses script file words script_of are none) is took = cc
+    script_refused _ _ (early (unread script file script_of used names)) is took = cc
+    script_refused _ _ (early (refuses script file words script_of are none)) is took = cc
     script_refused _ _ (reports script end report script_of lead is_report none) is took = absurd (not_of_run report.status status.Script for_script is)
 
     pub line_refused :
         (own : Status) (text : List ℕ) → ScriptEnds schedule show files name fetches own text → own ≡ status.Description → taken' ≡ with_bytes taken text
         → LineRefused files name taken taken'
-    line_refused _ _ (is_none _ _ _ names gave cannot_read_script) is took = cc
-    line_refused _ _ (is_none _ _ _ names gave script_file_too_long) is took = cc
-    line_refused _ _ (is_none _ _ _ names gave (script_file_at_fault bytes fault first)) is took = cc
-    line_refused _ _ (unread script file script_of used names) is took = cc
-    line_refused _ _ (refuses script file words script_of are none) is took =
+    line_refused _ _ (early (is_none _ _ _ names gave cannot_read_script)) is took = cc
+    line_refused _ _ (early (is_none _ _ _ names gave script_file_too_long)) is took = cc
+    line_refused _ _ (early (is_none _ _ _ names gave (script_file_at_fault bytes fault first))) is took = cc
+    line_refused _ _ (early (unread script file script_of used names)) is took = cc
+    line_refused _ _ (early (refuses script file words script_of are none)) is took =
         record { script = script; is_script = script_of; file = file; words = words; refused = are; written = took }
     line_refused _ _ (reports script end report script_of lead is_report none) is took = absurd (not_of_run report.status status.Description for_line is)
 
     pub reported :
         (own : Status) (text : List ℕ) → ScriptEnds schedule show files name fetches own text → IsRunStatus own → taken' ≡ with_bytes taken text
         → outcomes.RanShowing schedule show files name own taken taken'
-    reported _ _ (is_none given own text names gave answer) is took = absurd (no_run own (script_other name given own text answer) is)
-    reported _ _ (unread script file script_of used names) is took = absurd (no_run status.ReadFault for_fetch is)
-    reported _ _ (refuses script file words script_of are none) is took = absurd (no_run status.Description for_line is)
+    reported _ _ (early (is_none given own text names gave answer)) is took = absurd (no_run own (script_other name given own text answer) is)
+    reported _ _ (early (unread script file script_of used names)) is took = absurd (no_run status.ReadFault for_fetch is)
+    reported _ _ (early (refuses script file words script_of are none)) is took = absurd (no_run status.Description for_line is)
     reported _ _ (reports script end report script_of lead is_report none) is took = record {
       script = script;
       is_script = script_of;

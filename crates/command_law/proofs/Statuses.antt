@@ -78,6 +78,15 @@ write_fault_unfinished is = cc
 pub write_fault_unlawful : status.WriteFault ≢ status.Unlawful
 write_fault_unlawful is = cc
 
+pub unlawful_usage : status.Unlawful ≢ status.Usage
+unlawful_usage is = cc
+
+pub unlawful_memory : status.Unlawful ≢ status.NoMemory
+unlawful_memory is = cc
+
+pub unlawful_write_fault : status.Unlawful ≢ status.WriteFault
+unlawful_write_fault is = cc
+
 -- a status isn't two
 pub not_two : (own x y : Status) → own ≡ x → own ≡ y → x ≢ y → ⊥
 not_two own x y a b differ = differ (sym a ∙ b)

@@ -1,46 +1,48 @@
 -- What a run says of a script, and how it must end, from the one relation of runs.
-use Rattle.std.proofs.Common.{◌≡◌, ◌∙◌, ◌≤◌, ◌<◌, ◌⊎◌, inl, inr, ℕ, ℤ, Bool, true, false, is_some, if◌then◌else◌, List, [], ◌∷◌, Option, Some, None, length, refl, sym, ap, subst, arith}
+use Rattle.std.proofs.Common.{◌≡◌, ◌∙◌, ◌≤◌, ◌<◌, ◌⊎◌, inl, inr, ℕ, Bool, true, false, is_some, if◌then◌else◌, List, [], ◌∷◌, Option, Some, None, length, refl, sym, ap, subst, arith}
 use Rattle.std.specs.Prelude.{◌↔◌}
 use Rattle.std.specs.List.{AllByRecursion, list_any}
 use Rattle.std.proofs.lemmas.Option.{same_Some}
 use Rattle.cfg_io.specs.Shelf.{Files}
 use Rattle.cfg_io.specs.Sink.{with_bytes}
-use Rattle.config_graph.specs.Graph.{Graph}
-use Rattle.config_graph.specs.Sound.{Sound}
-use Rattle.darwin_parser.specs.Tree.{Name, Tree}
-use Rattle.darwin_types.specs.Faults.{NoFault}
-use Rattle.elaborator.specs.Elaboration.{HasNoFault, ElaboratesTo}
-use Rattle.elaborator.specs.Faults.{Faults}
-use Rattle.elaborator.specs.declared.error.ElabError.{ElabError}
+use Rattle.change_law.specs.Consistent.{Consistent}
 use Rattle.change_law.specs.Members.{is_pending}
 use Rattle.change_law.specs.Statements.{Statement}
 use Rattle.change_script.specs.ScriptFiles.{IsScript, IsScriptFault}
 use Rattle.change_script.specs.declared.error.ScriptError.{ScriptError}
 use Rattle.report_types.specs.declared.script.Script.{Script}
 use Rattle.change_script.proofs.ScriptFileLaws as scripts
-use Rattle.command_answers.specs.Answers.{run_status}
+use Rattle.command_answers.specs.Answers as values
+use Rattle.command_answers.specs.Answers.{run_status, status_of}
 use Rattle.command_answers.specs.declared.status.Status.{Status}
 use Rattle.command_answers.specs.declared.status.Status.TheVariants as status
+use Rattle.report_texts.specs.Stages.{IsReportFault}
+use Rattle.report_texts.specs.declared.error.ReportFault.{ReportFault}
 use Rattle.command_words.specs.declared.words.Command.TheVariants as commands
 use Rattle.command_law.specs.Known.{AsksOf}
 use Rattle.command_law.specs.Schedules.{Schedule, rounds, threads, IsReportBy}
-use Rattle.command_law.specs.Fetches.{Fetch, failed_names, file_limit, Gave}
-use Rattle.command_law.specs.Lines.{begun}
-use Rattle.command_law.specs.OneFile.{cannot_read_script, script_file_too_long, script_file_at_fault}
+use Rattle.command_law.specs.declared.fetched.Fetched.{Fetched}
+use Rattle.command_law.specs.Commands.{can_be, can_not_be, IsJudged, TellsReport}
+use Rattle.command_law.specs.Fetches.{Fetch, failed_names, file_limit, Gave, report_fetch}
+use Rattle.command_law.specs.Lines.{begun, Progress}
+use Rattle.command_law.specs.OneFile.{cannot_read_script, script_file_too_long, script_file_at_fault, JudgementAnswers, judges_no_file, judges_no_long_file, judges_no_fault, judged}
 use Rattle.command_law.specs.Outcomes as outcomes
-use Rattle.command_law.specs.Outcomes.{ReadFrom, Ends, HoldsFile, TellsTooLong, IsScriptOf, IsRunStatus, EndsAsRun, MustRefuseScript, MustRefuseLine, NothingRefusesLines}
+use Rattle.command_law.specs.Outcomes.{ReadFrom, Ends, HoldsFile, TellsTooLong, IsScriptOf, IsRunStatus, EndsAsRun, IsVerdict, EndsAsJudged, Judged, MustRefuseScript, MustRefuseLine, MustRefuseReport, NothingRefusesLines, NothingRefusesReport}
 use Rattle.command_law.specs.Runs.{Written, whole, stopped, Run}
 use Rattle.command_law.specs.Scripts.{lines_of_script}
-use Rattle.command_law.specs.Ways.{IsTextIn, AreRefused}
-use Rattle.command_law.proofs.Inverting.{Answer, of_words, AnswersCommand, no_form, answered_to, no_memory, only_scripts, Ran}
+use Rattle.command_law.specs.Ways.{IsTextIn, AreRefused, LeadTo}
+use Rattle.command_law.proofs.Checking.{CheckEnds, too_early, by_report, check_ends, judged_so}
+use Rattle.command_law.proofs.GraphLaws.{GraphOrFault}
+use Rattle.command_law.proofs.Inverting.{Answer, of_words, AnswersCommand, no_form, answered_to, no_memory, only_checks, only_scripts, Ran}
+use Rattle.command_law.proofs.Reports.{need_no_fault, no_fault_refuses, not_longer}
 use Rattle.command_law.proofs.WayLaws as ways
 use Rattle.command_words.specs.BigFiles.{made_files, script_name}
 use Rattle.report_writing.specs.Reports.{report_text}
 use Rattle.report_types.specs.declared.report.Report.{Report}
 use Rattle.command_answers.specs.Summaries.{summary_text}
 use Rattle.command_words.specs.declared.words.Command.{Command}
-use Rattle.command_law.proofs.ScriptEnds.{big_ends, ScriptEnds, is_none, unread, refuses, reports, script_ends, reported, run_is, no_run, for_memory, for_sink}
-use Rattle.command_law.proofs.Statuses.{usage_pending, usage_unfinished, memory_pending, memory_unfinished, write_fault_pending, write_fault_unfinished}
+use Rattle.command_law.proofs.ScriptEnds.{big_ends, early_other, EarlyEnds, ScriptEnds, early, is_none, unread, refuses, reports, script_ends, reported, run_is, no_run, for_memory, for_sink}
+use Rattle.command_law.proofs.Statuses.{usage_pending, usage_unfinished, usage_unlawful, memory_pending, memory_unfinished, memory_unlawful, write_fault_pending, write_fault_unfinished, write_fault_unlawful}
 use Rattle.command_law.proofs.Telling.{none_added, same_content, within_not_long}
 
 -- ---- how a report says that it ended
@@ -65,6 +67,21 @@ pub ends_by_report :
     × ((own ≡ status.Unfinished) ↔ ((list_any is_pending r.report.history ≡ false) × (is_some r.report.unfinished ≡ true)))
 ends_by_report schedule show files name own taken taken' r =
     ends_with own (list_any is_pending r.report.history) (is_some r.report.unfinished) (r.ended ∙ ap run_status (status_by schedule r.statements r.report r.is_report))
+
+-- ---- what a verdict says
+
+judged_to :
+    (statements : List Statement) (report : Report) (a : values.Answer) → IsJudged statements report a
+    → ((status_of a ≡ status.Ok) ↔ Consistent statements report) × ((status_of a ≡ status.Unlawful) ↔ ¬ Consistent statements report)
+judged_to statements report _ (can_be c) = ((λ is. c, λ d. refl), (λ is. cc, λ not. absurd (not c)))
+judged_to statements report _ (can_not_be not) = ((λ is. cc, λ c. absurd (not c)), (λ is. not, λ d. refl))
+
+pub ends_by_verdict :
+    (files : Option Files) (name file : List ℕ) (own : Status) (taken taken' : Option (List ℕ)) (j : Judged files name file own taken taken')
+    → ((own ≡ status.Ok) ↔ Consistent j.statements j.report) × ((own ≡ status.Unlawful) ↔ ¬ Consistent j.statements j.report)
+ends_by_verdict files name file own taken taken' j =
+    subst (λ s. ((s ≡ status.Ok) ↔ Consistent j.statements j.report) × ((s ≡ status.Unlawful) ↔ ¬ Consistent j.statements j.report)) (sym j.ended)
+    (judged_to j.statements j.report j.answer j.is_judged)
 
 -- ---- what a file holds
 
@@ -142,11 +159,11 @@ module _ (schedule : Schedule) (show : Report → List ℕ) (f : Files) (name : 
       not_one script is = need_no_refusal (f name) is.bytes script must is.told is.within is.is_script
 
       of_end : (own : Status) (text : List ℕ) → ScriptEnds schedule show (Some f) name fetches own text → own ≡ status.Script
-      of_end _ _ (is_none _ _ _ names gave cannot_read_script) = absurd (failed_none name names)
-      of_end _ _ (is_none _ _ _ names gave script_file_too_long) = refl
-      of_end _ _ (is_none _ _ _ names gave (script_file_at_fault bytes fault first)) = refl
-      of_end _ _ (unread script file is used names) = absurd (not_one script is)
-      of_end _ _ (refuses script file ws is are none) = absurd (not_one script is)
+      of_end _ _ (early (is_none _ _ _ names gave cannot_read_script)) = absurd (failed_none name names)
+      of_end _ _ (early (is_none _ _ _ names gave script_file_too_long)) = refl
+      of_end _ _ (early (is_none _ _ _ names gave (script_file_at_fault bytes fault first))) = refl
+      of_end _ _ (early (unread script file is used names)) = absurd (not_one script is)
+      of_end _ _ (early (refuses script file ws is are none)) = absurd (not_one script is)
       of_end _ _ (reports script end report is lead is_report none) = absurd (not_one script is)
 
   -- a file that holds one script
@@ -154,28 +171,32 @@ module _ (schedule : Schedule) (show : Report → List ℕ) (f : Files) (name : 
   one_script bytes script other holds is also =
       scripts.one_script bytes other script (subst (λ b. IsScript b other) (same_content (f name) also.bytes bytes also.told holds) also.is_script) is
 
-  -- From a law of the elaborator, as it stands there.
+  -- From a law of the elaborator, as it stands there: a line that must be refused isn't passed.
+  pub line_not_passed :
+      GraphOrFault → MustRefuseLine f (f name) → (script : Script) (end : Progress) → IsScriptOf (Some f) name script
+      → LeadTo (HoldsFile (Some f)) begun (lines_of_script script.lines) end → ⊥
+  line_not_passed graphs must script end is lead =
+      let r = refusing f name must in
+      ways.not_refused graphs (HoldsFile (Some f)) (TellsTooLong (Some f)) (λ file a b x y. same_content (f file) a b x y) (not_long f)
+      (lines_of_script script.lines) end r.used r.words lead
+      (subst (λ (s : Script). AreRefused (HoldsFile (Some f)) (TellsTooLong (Some f)) (lines_of_script s.lines) begun r.used r.words)
+      (sym (one_script r.bytes r.script script r.holds r.is_script is)) r.refused)
+
   pub refused_line :
-      ((tree : Tree) (name : Name) (args : List ℤ) → NoFault tree → ((e : ElabError) × Faults tree name args e)
-      ⊎ ((g : Graph) × HasNoFault tree name args × ElaboratesTo tree name args g × Sound g))
-      → MustRefuseLine f (f name) → (own : Status) (text : List ℕ) → ScriptEnds schedule show (Some f) name fetches own text → own ≡ status.Description
+      GraphOrFault → MustRefuseLine f (f name) → (own : Status) (text : List ℕ) → ScriptEnds schedule show (Some f) name fetches own text → own ≡ status.Description
   refused_line graphs must = of_end
     where
       r : Refusing f name
       r = refusing f name must
 
       of_end : (own : Status) (text : List ℕ) → ScriptEnds schedule show (Some f) name fetches own text → own ≡ status.Description
-      of_end _ _ (is_none _ _ _ names gave cannot_read_script) = absurd (failed_none name names)
-      of_end _ _ (is_none _ _ _ names gave script_file_too_long) = absurd (within_not_long (f name) r.bytes r.holds r.within gave.1)
-      of_end _ _ (is_none _ _ _ names gave (script_file_at_fault bytes fault first)) =
+      of_end _ _ (early (is_none _ _ _ names gave cannot_read_script)) = absurd (failed_none name names)
+      of_end _ _ (early (is_none _ _ _ names gave script_file_too_long)) = absurd (within_not_long (f name) r.bytes r.holds r.within gave.1)
+      of_end _ _ (early (is_none _ _ _ names gave (script_file_at_fault bytes fault first))) =
           absurd (scripts.never_both r.bytes r.script fault r.is_script (subst (λ b. IsScriptFault b fault) (same_content (f name) bytes r.bytes gave.1 r.holds) first))
-      of_end _ _ (unread script file is used names) = absurd (failed_none file names)
-      of_end _ _ (refuses script file ws is are none) = refl
-      of_end _ _ (reports script end report is lead is_report none) =
-          absurd (ways.not_refused graphs (HoldsFile (Some f)) (TellsTooLong (Some f)) (λ file a b x y. same_content (f file) a b x y) (not_long f)
-          (lines_of_script script.lines) end r.used r.words lead
-          (subst (λ (s : Script). AreRefused (HoldsFile (Some f)) (TellsTooLong (Some f)) (lines_of_script s.lines) begun r.used r.words)
-          (sym (one_script r.bytes r.script script r.holds r.is_script is)) r.refused))
+      of_end _ _ (early (unread script file is used names)) = absurd (failed_none file names)
+      of_end _ _ (early (refuses script file ws is are none)) = refl
+      of_end _ _ (reports script end report is lead is_report none) = absurd (line_not_passed graphs must script end is lead)
 
   pub completed : NothingRefusesLines f (f name) → (own : Status) (text : List ℕ) → ScriptEnds schedule show (Some f) name fetches own text → IsRunStatus own
   completed nothing = of_end
@@ -184,12 +205,12 @@ module _ (schedule : Schedule) (show : Report → List ℕ) (f : Files) (name : 
       l = leading f name nothing
 
       of_end : (own : Status) (text : List ℕ) → ScriptEnds schedule show (Some f) name fetches own text → IsRunStatus own
-      of_end _ _ (is_none _ _ _ names gave cannot_read_script) = absurd (failed_none name names)
-      of_end _ _ (is_none _ _ _ names gave script_file_too_long) = absurd (within_not_long (f name) l.bytes l.holds l.within gave.1)
-      of_end _ _ (is_none _ _ _ names gave (script_file_at_fault bytes fault first)) =
+      of_end _ _ (early (is_none _ _ _ names gave cannot_read_script)) = absurd (failed_none name names)
+      of_end _ _ (early (is_none _ _ _ names gave script_file_too_long)) = absurd (within_not_long (f name) l.bytes l.holds l.within gave.1)
+      of_end _ _ (early (is_none _ _ _ names gave (script_file_at_fault bytes fault first))) =
           absurd (l.right fault (subst (λ b. IsScriptFault b fault) (same_content (f name) bytes l.bytes gave.1 l.holds) first))
-      of_end _ _ (unread script file is used names) = absurd (failed_none file names)
-      of_end _ _ (refuses script file ws is are none) =
+      of_end _ _ (early (unread script file is used names)) = absurd (failed_none file names)
+      of_end _ _ (early (refuses script file ws is are none)) =
           absurd (l.none script file ws (subst (λ b. IsScript b script) (same_content (f name) is.bytes l.bytes is.told l.holds) is.is_script) are)
       of_end _ _ (reports script end report is lead is_report none) = run_is report.status
 
@@ -284,8 +305,7 @@ module _ (knows : Command → Bool) (seen : Run) (run : Ran knows seen) where
 
   -- From a law of the elaborator, as it stands there.
   pub must_refuse_made_line :
-      ((tree : Tree) (name : Name) (args : List ℤ) → NoFault tree → ((e : ElabError) × Faults tree name args e)
-      ⊎ ((g : Graph) × HasNoFault tree name args × ElaboratesTo tree name args g × Sound g))
+      GraphOrFault
       → (lanes : ℕ) → AsksOf knows seen.words (commands.Big lanes) → MustRefuseLine (made_files lanes) (made_files lanes script_name) → Ends seen.status status.Description
   must_refuse_made_line graphs lanes asks must =
       of_big lanes (λ s. s ≡ status.Description) asks (λ within none own text. refused_line rounds (summary_text lanes) (made_files lanes) script_name within none graphs must own text)
@@ -315,11 +335,126 @@ module _ (knows : Command → Bool) (seen : Run) (run : Ran knows seen) where
 
     -- From a law of the elaborator, as it stands there.
     pub must_refuse_line :
-        ((tree : Tree) (name : Name) (args : List ℤ) → NoFault tree → ((e : ElabError) × Faults tree name args e)
-        ⊎ ((g : Graph) × HasNoFault tree name args × ElaboratesTo tree name args g × Sound g))
+        GraphOrFault
         → (name : List ℕ) → AsksOf knows seen.words (commands.Step name) → MustRefuseLine f (f name) → Ends seen.status status.Description
     must_refuse_line graphs name asks must =
         of_step name (λ s. s ≡ status.Description) asks (refused_line rounds report_text f name run.fetches none_failed_here graphs must)
 
     pub completes : (name : List ℕ) → AsksOf knows seen.words (commands.Step name) → NothingRefusesLines f (f name) → EndsAsRun seen.status
     completes name asks nothing = of_step name IsRunStatus asks (completed rounds report_text f name run.fetches none_failed_here nothing)
+
+    -- ---- of the check of a report
+
+    of_check :
+        (name file : List ℕ) (Due : Status → Type 0) → AsksOf knows seen.words (commands.Check name file)
+        → ((own : Status) (text : List ℕ) → CheckEnds (Some f) name file run.fetches own text → Due own)
+        → Due seen.status ⊎ (seen.status ≡ status.NoMemory) ⊎ (seen.status ≡ status.WriteFault)
+    of_check name file Due asks of_end =
+        finishes (commands.Check name file) Due asks
+        (λ answer. of_end run.own run.text
+        (check_ends (Some f) name file run.fetches run.own run.text answer (subst (λ fs. AllByRecursion (Gave fs) run.fetches) read.tells run.told)))
+
+    pub must_refuse_its_script : (name file : List ℕ) → AsksOf knows seen.words (commands.Check name file) → MustRefuseScript (f name) → Ends seen.status status.Script
+    must_refuse_its_script name file asks must = of_check name file (λ s. s ≡ status.Script) asks of_end
+      where
+        of_end : (own : Status) (text : List ℕ) → CheckEnds (Some f) name file run.fetches own text → own ≡ status.Script
+        of_end own text (too_early e) = refused_script rounds report_text f name run.fetches none_failed_here must own text (early e)
+        of_end _ _ (by_report script end given own text is lead names gave judgement) =
+            absurd (need_no_refusal (f name) is.bytes script must is.told is.within is.is_script)
+
+    -- From a law of the elaborator, as it stands there.
+    pub must_refuse_its_line :
+        GraphOrFault
+        → (name file : List ℕ) → AsksOf knows seen.words (commands.Check name file) → MustRefuseLine f (f name) → Ends seen.status status.Description
+    must_refuse_its_line graphs name file asks must = of_check name file (λ s. s ≡ status.Description) asks of_end
+      where
+        of_end : (own : Status) (text : List ℕ) → CheckEnds (Some f) name file run.fetches own text → own ≡ status.Description
+        of_end own text (too_early e) = refused_line rounds report_text f name run.fetches none_failed_here graphs must own text (early e)
+        of_end _ _ (by_report script end given own text is lead names gave judgement) = absurd (line_not_passed rounds report_text f name run.fetches none_failed_here graphs must script end is lead)
+
+    -- where nothing refuses its script, it isn't early
+    no_early : (name : List ℕ) → NothingRefusesLines f (f name) → (own : Status) (text : List ℕ) → EarlyEnds (Some f) name run.fetches own text → ⊥
+    no_early name nothing own text e =
+        no_run own (early_other (Some f) name run.fetches own text e) (completed rounds report_text f name run.fetches none_failed_here nothing own text (early e))
+
+    -- where nothing refuses its script, it ends by its report
+    by_its_report :
+        (name file : List ℕ) (Due : Status → Type 0) → AsksOf knows seen.words (commands.Check name file) → NothingRefusesLines f (f name)
+        → ((statements : List Statement) (given : Fetched) (own : Status) (text : List ℕ) → failed_names (report_fetch file given ∷ []) ≡ [] → Gave (Some f) (report_fetch file given)
+        → JudgementAnswers statements file given own text → Due own)
+        → Due seen.status ⊎ (seen.status ≡ status.NoMemory) ⊎ (seen.status ≡ status.WriteFault)
+    by_its_report name file Due asks nothing of_answer = of_check name file Due asks of_end
+      where
+        of_end : (own : Status) (text : List ℕ) → CheckEnds (Some f) name file run.fetches own text → Due own
+        of_end own text (too_early e) = absurd (no_early name nothing own text e)
+        of_end _ _ (by_report script end given own text is lead names gave answer) = of_answer end.statements given own text (sym names ∙ none_failed_here) gave answer
+
+    unread_report : (file : List ℕ) → file ∷ [] ≡ [] → ⊥
+    unread_report file is = cc
+
+    -- From a law of the reader of reports, as it stands there.
+    pub must_refuse_its_report :
+        ((bytes : List ℕ) (r : Report) (fault : ReportFault) → TellsReport bytes r → IsReportFault bytes fault → ⊥)
+        → (name file : List ℕ) → AsksOf knows seen.words (commands.Check name file) → NothingRefusesLines f (f name) → MustRefuseReport (f file)
+        → Ends seen.status status.Script
+    must_refuse_its_report never name file asks nothing must = by_its_report name file (λ s. s ≡ status.Script) asks nothing by
+      where
+        by : (statements : List Statement) (given : Fetched) (s : Status) (t : List ℕ) → failed_names (report_fetch file given ∷ []) ≡ [] → Gave (Some f) (report_fetch file given)
+            → JudgementAnswers statements file given s t → s ≡ status.Script
+        by statements _ _ _ none gave judges_no_file = absurd (unread_report file none)
+        by statements _ _ _ none gave judges_no_long_file = refl
+        by statements _ _ _ none gave (judges_no_fault bytes fault first) = refl
+        by statements _ _ _ none gave (judged bytes r answer tells is) = absurd (need_no_fault never (f file) bytes r must gave.1 gave.0 tells)
+
+    pub completes_check :
+        (name file : List ℕ) → AsksOf knows seen.words (commands.Check name file) → NothingRefusesLines f (f name) → NothingRefusesReport (f file)
+        → EndsAsJudged seen.status
+    completes_check name file asks nothing nothing_here = by_its_report name file IsVerdict asks nothing by
+      where
+        by : (statements : List Statement) (given : Fetched) (s : Status) (t : List ℕ) → failed_names (report_fetch file given ∷ []) ≡ [] → Gave (Some f) (report_fetch file given)
+            → JudgementAnswers statements file given s t → IsVerdict s
+        by statements _ _ _ none gave judges_no_file = absurd (unread_report file none)
+        by statements _ _ _ none gave judges_no_long_file = absurd (not_longer (f file) nothing_here gave.1)
+        by statements _ _ _ none gave (judges_no_fault bytes fault first) = absurd (no_fault_refuses (f file) bytes fault nothing_here gave.1 first)
+        by statements _ _ _ none gave (judged bytes r answer tells is) = of answer is
+          where
+            of : (a : values.Answer) → IsJudged statements r a → IsVerdict (status_of a)
+            of _ (can_be c) = inl refl
+            of _ (can_not_be c) = inr refl
+
+  -- what a judged report was judged to
+  pub judges_so :
+      (name file : List ℕ) → AsksOf knows seen.words (commands.Check name file) → IsVerdict seen.status
+      → Judged seen.files name file seen.status seen.taken seen.taken'
+  judges_so name file asks is = by run.written is
+    where
+      own : Answer (commands.Check name file) run.fetches run.own run.text ⊎ (run.own ≡ status.NoMemory) → IsVerdict run.own
+          → seen.taken' ≡ with_bytes seen.taken run.text → Judged seen.files name file run.own seen.taken seen.taken'
+      own (inl answer) is took =
+          judged_so seen.files name file run.fetches seen.taken seen.taken' run.own run.text (check_ends seen.files name file run.fetches run.own run.text answer run.told) is took
+      own (inr memory) (inl is) took = cc (memory, is)
+      own (inr memory) (inr is) took = cc (memory, is)
+
+      by : Written run.own run.text seen → IsVerdict seen.status → Judged seen.files name file seen.status seen.taken seen.taken'
+      by (whole took same ends) is =
+          subst (λ s. Judged seen.files name file s seen.taken seen.taken') (sym ends)
+          (own (of_words knows seen.words (commands.Check name file) run.fetches run.own run.text asks run.answers)
+          (subst IsVerdict ends is) took)
+      by (stopped n short took rose ends) (inl is) = cc (ends, is)
+      by (stopped n short took rose ends) (inr is) = cc (ends, is)
+
+  -- only a check ends so
+  pub asked_to_check : seen.status ≡ status.Unlawful → (name : List ℕ) × (file : List ℕ) × AsksOf knows seen.words (commands.Check name file)
+  asked_to_check is = by run.written is
+    where
+      own : (fetches : List Fetch) (s : Status) (text : List ℕ) → AnswersCommand knows seen.words fetches s text → s ≡ status.Unlawful
+          → (name : List ℕ) × (file : List ℕ) × AsksOf knows seen.words (commands.Check name file)
+      own _ _ _ (no_form none) is = absurd (usage_unlawful is)
+      own _ _ _ (answered_to command fetches s text asks to) is =
+          let only = only_checks command fetches s text to is in
+          (only.0, only.1, subst (λ c. AsksOf knows seen.words c) only.2 asks)
+      own _ _ _ (no_memory fetches) is = absurd (memory_unlawful is)
+
+      by : Written run.own run.text seen → seen.status ≡ status.Unlawful → (name : List ℕ) × (file : List ℕ) × AsksOf knows seen.words (commands.Check name file)
+      by (whole took same ends) is = own run.fetches run.own run.text run.answers (sym ends ∙ is)
+      by (stopped n short took rose ends) is = absurd (write_fault_unlawful (sym ends ∙ is))

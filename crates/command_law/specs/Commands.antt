@@ -12,14 +12,16 @@ use Rattle.report_texts.specs.ReportTexts.{IsReportText}
 use Rattle.report_texts.specs.Stages.{IsReportFault}
 use Rattle.report_texts.specs.declared.error.ReportFault.{ReportFault}
 use Rattle.report_texts.specs.declared.version.Version.{Version}
-use Rattle.command_answers.specs.Answers.{Answer, refusal, script, help, version, report, ran, summary}
+use Rattle.change_law.specs.Consistent.{Consistent}
+use Rattle.change_law.specs.Statements.{Statement}
+use Rattle.command_answers.specs.Answers.{Answer, refusal, script, help, version, report, ran, summary, consistent, unlawful}
 use Rattle.command_answers.specs.RefusalLines.{report_words, script_words}
 use Rattle.command_words.specs.declared.words.Command.{Command}
 use Rattle.command_words.specs.declared.words.Command.TheVariants as commands
 use Rattle.command_law.specs.declared.query.Cut.TheVariants as cuts
 use Rattle.command_law.specs.declared.query.Query.{Query}
 use Rattle.command_law.specs.declared.query.Query.TheVariants as queries
-use Rattle.command_law.specs.Courses.{FetchCourse, SaysAlone, AfterFetch, After}
+use Rattle.command_law.specs.Courses.{FetchCourse, SaysAlone, AfterFetch, After, Unrefused}
 use Rattle.command_law.specs.Fetches.{Fetch, Gave, failed_names, file_limit, report_limit}
 use Rattle.command_law.specs.Lines.{RunLine, uses, calls, draws, starts, changes, Aim, drawing, planning, replaying, running, Progress, begun, behind, FollowsLines}
 use Rattle.command_law.specs.Schedules.{rounds}
@@ -66,6 +68,22 @@ course_of_script Then name =
     (λ bytes. After (RefusesScript bytes) refuse (IsScript bytes)
     (λ lines. FollowsLines Then begun (lines_of_script lines.lines)))
 
+-- whether a report can be one of this machine for these statements
+pub data IsJudged (statements : List Statement) (r : Report) : Answer → Type 0 where
+  can_be : Consistent statements r → IsJudged statements r consistent
+  can_not_be : ¬ Consistent statements r → IsJudged statements r unlawful
+
+-- a report is fetched, and judged by these statements
+abbrev pub judging : List ℕ → List Statement → FetchCourse
+judging file statements =
+    let refuse = λ (words : List (List ℕ)). refusal (script file words) in
+    AfterFetch file report_limit refuse
+    (λ bytes. After (RefusesReport bytes) refuse (TellsReport bytes) (λ r. Unrefused (IsJudged statements r) SaysAlone))
+
+-- behind the lines of a script, by the statements that they say
+abbrev pub judges : List ℕ → Progress → FetchCourse
+judges file p = judging file p.statements
+
 -- the answer with the summary of a run in place of its report
 abbrev pub in_summary : ℕ → Answer → Answer
 in_summary lanes (ran r) = summary lanes r
@@ -101,4 +119,5 @@ course_of (commands.Upgrade file) =
     AfterFetch file report_limit refuse
     (λ bytes. After (RefusesReport bytes) refuse (TellsReport bytes) (λ r. SaysAlone (report r)))
 course_of (commands.Step name) = course_of_script (behind (running rounds)) name
+course_of (commands.Check name file) = course_of_script (judges file) name
 course_of (commands.Big lanes) = SumsUp lanes

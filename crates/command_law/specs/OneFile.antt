@@ -7,13 +7,15 @@ use Rattle.report_writing.specs.Reports.{report_text}
 use Rattle.report_types.specs.declared.report.Report.{Report}
 use Rattle.report_texts.specs.Stages.{IsReportFault}
 use Rattle.report_texts.specs.declared.error.ReportFault.{ReportFault}
+use Rattle.change_law.specs.Statements.{Statement}
+use Rattle.command_answers.specs.Answers.{Answer, status_of, text_of}
 use Rattle.command_answers.specs.RefusalLines.{read_fault_line, description_line, report_words, script_line, script_words}
 use Rattle.command_answers.specs.declared.status.Status.{Status}
 use Rattle.command_answers.specs.declared.status.Status.TheVariants as status
 use Rattle.command_law.specs.declared.fetched.Fetched.{Fetched}
 use Rattle.command_law.specs.declared.fetched.Fetched.TheVariants.{Held, TooLong, Failed}
 use Rattle.command_law.specs.declared.query.Query.{Query}
-use Rattle.command_law.specs.Commands.{TellsReport}
+use Rattle.command_law.specs.Commands.{IsJudged, TellsReport}
 use Rattle.command_law.specs.Queries.{IsRefused, AnswersQuery}
 
 -- of a description
@@ -42,6 +44,17 @@ pub data ScriptAnswers (name : List ℕ) : Fetched → Status → List ℕ → T
   script_file_at_fault :
       (bytes : List ℕ) (fault : ScriptError) → IsScriptFault bytes fault
       → ScriptAnswers name (Held bytes) status.Script (script_line name (script_words fault))
+
+-- of a report that is judged by these statements
+pub data JudgementAnswers (statements : List Statement) (name : List ℕ) : Fetched → Status → List ℕ → Type 0 where
+  judges_no_file : JudgementAnswers statements name Failed status.ReadFault (read_fault_line name)
+  judges_no_long_file : JudgementAnswers statements name TooLong status.Script (script_line name (codes "TooLong" ∷ []))
+  judges_no_fault :
+      (bytes : List ℕ) (fault : ReportFault) → IsReportFault bytes fault
+      → JudgementAnswers statements name (Held bytes) status.Script (script_line name (report_words fault))
+  judged :
+      (bytes : List ℕ) (r : Report) (answer : Answer) → TellsReport bytes r → IsJudged statements r answer
+      → JudgementAnswers statements name (Held bytes) (status_of answer) (text_of answer)
 
 -- of a report
 pub data ReportAnswers (name : List ℕ) : Fetched → Status → List ℕ → Type 0 where

@@ -24,7 +24,7 @@ use Rattle.change_law.specs.Statements.{Statement}
 use Rattle.report_texts.specs.Stages.{IsReportFault}
 use Rattle.report_texts.specs.declared.error.ReportFault.{ReportFault}
 use Rattle.command_answers.specs.RefusalLines.{description_line, report_words, script_line, script_words}
-use Rattle.command_law.specs.Commands.{TellsReport}
+use Rattle.command_law.specs.Commands.{IsJudged, TellsReport}
 use Rattle.command_law.specs.Descriptions.{HasGraph}
 use Rattle.command_law.specs.Plans.{HasChange, IsPartsText, IsPlanText}
 use Rattle.command_law.specs.Replays.{HasReplay}
@@ -55,6 +55,9 @@ MentionsFile Holds (commands.Replay file events) name = (name ≡ file) ⊎ (nam
 MentionsFile Holds (commands.Upgrade file) name = name ≡ file
 MentionsFile Holds (commands.Step script) name =
     (name ≡ script) ⊎ ((bytes : List ℕ) × (lines : Script) × Holds script bytes × IsScript bytes lines
+    × Uses (lines_of_script lines.lines) name)
+MentionsFile Holds (commands.Check script report) name =
+    (name ≡ report) ⊎ (name ≡ script) ⊎ ((bytes : List ℕ) × (lines : Script) × Holds script bytes × IsScript bytes lines
     × Uses (lines_of_script lines.lines) name)
 MentionsFile Holds (commands.Big lanes) name = ⊥
 
@@ -125,6 +128,31 @@ Ran = RanShowing rounds report_text
 -- the script of so many lanes was run, with the files that were made, and the summary of its report was written
 abbrev pub SummedUp : ℕ → Status → Option (List ℕ) → Option (List ℕ) → Type 0
 SummedUp lanes = RanShowing rounds (summary_text lanes) (Some (made_files lanes)) script_name
+
+-- The script has statements as the run of one has them, and the file holds a report. By its answer the report can be one
+-- of this machine for them, or can't, and so its line was written.
+pub record Judged (files : Option Files) (name file : List ℕ) (own : Status) (taken taken' : Option (List ℕ)) : Type 0 where
+  pub script : Script
+  pub is_script : IsScriptOf files name script
+  pub statements : List Statement
+  pub have_graphs : StatementsOf (Elaborates (HoldsFile files)) script statements
+  pub bytes : List ℕ
+  pub told : HoldsFile files file bytes
+  pub within : length bytes ≤ report_limit
+  pub report : Report
+  pub is_report : TellsReport bytes report
+  pub answer : Answer
+  pub is_judged : IsJudged statements report answer
+  pub ended : own ≡ status_of answer
+  pub written : taken' ≡ with_bytes taken (text_of answer)
+
+-- a check may end with the status, by what a report was judged to
+abbrev pub IsVerdict : Status → Type 0
+IsVerdict own = (own ≡ status.Ok) ⊎ (own ≡ status.Unlawful)
+
+-- the same, unless memory ran out or the sink failed
+abbrev pub EndsAsJudged : Status → Type 0
+EndsAsJudged result = IsVerdict result ⊎ (result ≡ status.NoMemory) ⊎ (result ≡ status.WriteFault)
 
 -- A line of the script is refused, the first that leads nowhere, and the line that says so was written.
 pub record LineRefused (files : Option Files) (name : List ℕ) (taken taken' : Option (List ℕ)) : Type 0 where
@@ -285,6 +313,8 @@ RefusesFile knows r =
     ((file events : List ℕ) × AsksOf knows r.words (commands.Replay file events) × EventsRefused r.files events r.taken r.taken')
     ⊎ ((file : List ℕ) × AsksOf knows r.words (commands.Upgrade file) × ReportRefused r.files file r.taken r.taken')
     ⊎ ((name : List ℕ) × AsksOf knows r.words (commands.Step name) × ScriptRefused r.files name r.taken r.taken')
+    ⊎ ((name file : List ℕ) × AsksOf knows r.words (commands.Check name file)
+    × (ScriptRefused r.files name r.taken r.taken' ⊎ ReportRefused r.files file r.taken r.taken'))
     ⊎ ((lanes : ℕ) × AsksOf knows r.words (commands.Big lanes)
     × ScriptRefused (Some (made_files lanes)) script_name r.taken r.taken')
 
@@ -295,6 +325,7 @@ RefusesDescription knows r =
     ((file : List ℕ) × (query : Query) × Wants knows r.files r.words file query
     × DescriptionRefused r.files file query r.taken r.taken')
     ⊎ ((name : List ℕ) × AsksOf knows r.words (commands.Step name) × LineRefused r.files name r.taken r.taken')
+    ⊎ ((name file : List ℕ) × AsksOf knows r.words (commands.Check name file) × LineRefused r.files name r.taken r.taken')
     ⊎ ((lanes : ℕ) × AsksOf knows r.words (commands.Big lanes) × LineRefused (Some (made_files lanes)) script_name r.taken r.taken')
 
 -- the file has more bytes than a report may have, or isn't one

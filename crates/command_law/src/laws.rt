@@ -17,6 +17,7 @@ ghost use Rattle.change_plan.specs.declared.plan_data.Plan.{Plan};
 ghost use Rattle.change_script.specs.EventFiles.{IsEventFile};
 ghost use Rattle.change_script.specs.ScriptFiles.{IsScript};
 ghost use Rattle.report_types.specs.declared.script.Script.{Script as ScriptOf};
+ghost use Rattle.change_law.specs.Consistent.{Consistent};
 ghost use Rattle.change_law.specs.Members.{is_pending};
 ghost use Rattle.change_law.specs.Scripts.{StatementsOf};
 ghost use Rattle.command_answers.specs.Answers.{Answer, ShowsAnswer, no_memory, refusal, status_of, text_of, usage_line, no_memory_line, help_text, version_text};
@@ -39,7 +40,7 @@ ghost use Rattle.command_law.specs.Leads.{LeadBy, ScriptLeads, falls_short};
 ghost use Rattle.command_law.specs.OneFile.{DescriptionAnswers, EventsAnswers, ReportAnswers, ScriptAnswers};
 ghost use Rattle.command_law.specs.declared.fetched.Fetched.{Fetched};
 ghost use Rattle.command_law.specs.declared.fetched.Fetched.TheVariants.{Held};
-ghost use Rattle.command_law.specs.Outcomes.{HoldsFile, NamesFile, Ends, WroteFront, Flattened, Parted, Planned, Replayed, RefusesDescription, RefusesFile, MustRefuse, MustRefuseEvents, EndsAsRun, IsRunStatus, MustRefuseLine, MustRefuseScript, NothingRefuses, NothingRefusesLines, Ran, RanShowing, SummedUp, EndsAsGiven, MustRefuseReport, NothingRefusesReport, ReadFrom, Upgraded, Wants};
+ghost use Rattle.command_law.specs.Outcomes.{HoldsFile, NamesFile, Ends, WroteFront, Flattened, Parted, Planned, Replayed, RefusesDescription, RefusesFile, MustRefuse, MustRefuseEvents, EndsAsRun, IsRunStatus, EndsAsJudged, IsVerdict, Judged, MustRefuseLine, MustRefuseScript, NothingRefuses, NothingRefusesLines, Ran, RanShowing, SummedUp, EndsAsGiven, MustRefuseReport, NothingRefusesReport, ReadFrom, Upgraded, Wants};
 ghost use Rattle.command_words.specs.BigFiles.{made_files, script};
 ghost use Rattle.command_law.specs.Plans.{RefusesStart, Starts};
 ghost use Rattle.command_law.specs.Queries.{AnswersQuery, IsRefused};
@@ -83,12 +84,10 @@ pub fn write_faults_are_failed_puts()
         → r.status ≢ WriteFault → r.faults' ≡ r.faults }
 {}
 
-/// A law of runs: with NoMemory goes its line, and no status of a command that is not here comes.
+/// A law of runs: with NoMemory goes its line.
 pub fn want_of_memory_has_its_line()
     ensures line { (knows : Command → Bool) (r : Run) → Runs knows r
         → r.status ≡ NoMemory → r.taken' ≡ with_bytes r.taken no_memory_line }
-    ensures no_other { (knows : Command → Bool) (r : Run) → Runs knows r
-        → r.status ≢ Unlawful }
 {}
 
 /// A law of runs: the run of a script ends with Ok, Pending or Unfinished, and comes with the text of its report, or
@@ -114,6 +113,23 @@ pub fn runs_end_by_their_reports()
         (r : RanShowing schedule show files name own taken taken')
         → (own ≡ Unfinished)
         ↔ ((list_any is_pending r.report.history ≡ false) × (is_some r.report.unfinished ≡ true)) }
+{}
+
+/// A law of runs: a check that judges a report ends with Ok exactly where the report can be one of this machine for the
+/// statements of the script, and with Unlawful exactly where it can't; the line says so. Unlawful comes for no other
+/// command.
+pub fn checks_end_by_what_is_lawful()
+    ensures judged { (knows : Command → Bool) (r : Run) → Runs knows r
+        → (name file : List ℕ) → AsksOf knows r.words (commands.Check name file) → IsVerdict r.status
+        → Judged r.files name file r.status r.taken r.taken' }
+    ensures only { (knows : Command → Bool) (r : Run) → Runs knows r
+        → r.status ≡ Unlawful → (name : List ℕ) × (file : List ℕ) × AsksOf knows r.words (commands.Check name file) }
+    ensures consistent { (files : Option Files) (name file : List ℕ) (own : Status) (taken taken' : Option (List ℕ))
+        (j : Judged files name file own taken taken')
+        → (own ≡ Status.Ok) ↔ Consistent j.statements j.report }
+    ensures unlawful { (files : Option Files) (name file : List ℕ) (own : Status) (taken taken' : Option (List ℕ))
+        (j : Judged files name file own taken taken')
+        → (own ≡ Unlawful) ↔ ¬ Consistent j.statements j.report }
 {}
 
 /// A law: the lines of a script that lead on say its statements, each start and change with the graph to which its
@@ -183,6 +199,13 @@ pub fn scripts_are_refused_for_their_first_fault()
     ensures always_script { (knows : Command → Bool) (r : Run) (files : Files) → Runs knows r → ReadFrom r files
         → (name : List ℕ) → AsksOf knows r.words (commands.Step name) → MustRefuseScript (files name)
         → Ends r.status Script }
+    ensures always_its_script { (knows : Command → Bool) (r : Run) (files : Files) → Runs knows r → ReadFrom r files
+        → (name file : List ℕ) → AsksOf knows r.words (commands.Check name file) → MustRefuseScript (files name)
+        → Ends r.status Script }
+    ensures always_its_report { (knows : Command → Bool) (r : Run) (files : Files) → Runs knows r → ReadFrom r files
+        → (name file : List ℕ) → AsksOf knows r.words (commands.Check name file)
+        → NothingRefusesLines files (files name) → MustRefuseReport (files file)
+        → Ends r.status Script }
     ensures always_made { (knows : Command → Bool) (r : Run) → Runs knows r
         → (lanes : ℕ) → AsksOf knows r.words (commands.Big lanes) → MustRefuseScript (Some (script lanes))
         → Ends r.status Script }
@@ -202,6 +225,9 @@ pub fn descriptions_are_refused_for_faults_that_hold()
     ensures always_line { (knows : Command → Bool) (r : Run) (files : Files) → Runs knows r → ReadFrom r files
         → (name : List ℕ) → AsksOf knows r.words (commands.Step name) → MustRefuseLine files (files name)
         → Ends r.status Description }
+    ensures always_its_line { (knows : Command → Bool) (r : Run) (files : Files) → Runs knows r → ReadFrom r files
+        → (name file : List ℕ) → AsksOf knows r.words (commands.Check name file) → MustRefuseLine files (files name)
+        → Ends r.status Description }
     ensures always_made_line { (knows : Command → Bool) (r : Run) → Runs knows r
         → (lanes : ℕ) → AsksOf knows r.words (commands.Big lanes)
         → MustRefuseLine (made_files lanes) (Some (script lanes))
@@ -211,7 +237,8 @@ pub fn descriptions_are_refused_for_faults_that_hold()
 }
 
 /// A law of runs: where nothing refuses the description, the run ends with what its bytes give; where no line of a
-/// report is at fault, with its text; and where nothing refuses a script and its lines, with the report of its run.
+/// report is at fault, with its text; where nothing refuses a script and its lines, with the report of its run; and where
+/// nothing refuses a report either, with what it is judged to.
 pub fn what_is_not_refused_is_answered()
     ensures complete { (knows : Command → Bool) (r : Run) (files : Files) → Runs knows r → ReadFrom r files
         → (file : List ℕ) (query : Query) → Wants knows (Some files) r.words file query
@@ -234,6 +261,10 @@ pub fn what_is_not_refused_is_answered()
         → (name : List ℕ) → AsksOf knows r.words (commands.Step name)
         → NothingRefusesLines files (files name)
         → EndsAsRun r.status }
+    ensures complete_check { (knows : Command → Bool) (r : Run) (files : Files) → Runs knows r → ReadFrom r files
+        → (name file : List ℕ) → AsksOf knows r.words (commands.Check name file)
+        → NothingRefusesLines files (files name) → NothingRefusesReport (files file)
+        → EndsAsJudged r.status }
     ensures complete_big { (knows : Command → Bool) (r : Run) → Runs knows r
         → (lanes : ℕ) → AsksOf knows r.words (commands.Big lanes)
         → NothingRefusesLines (made_files lanes) (Some (script lanes))

@@ -1,10 +1,3 @@
-pub mod Draining
-pub mod Leading
-pub mod OneRun
-pub mod Premises
-pub mod Reports
-pub mod MadeScripts
-mod TextLemmas
 mod FewCreated
 mod LaneLemmas
 mod LineLemmas
@@ -16,3 +9,11 @@ mod TellingReports
 mod TellingRuns
 mod TellingScripts
 mod TellingTexts
+mod TextLemmas
+pub mod CheckedRuns
+pub mod Draining
+pub mod Leading
+pub mod MadeScripts
+pub mod OneRun
+pub mod Premises
+pub mod Reports

@@ -76,6 +76,9 @@ never_refused knows seen lanes asks refuses = by refuses
     step_or_big : (name : List ℕ) → commands.Step name ≢ commands.Big lanes
     step_or_big name is = cc
 
+    check_or_big : (name file : List ℕ) → commands.Check name file ≢ commands.Big lanes
+    check_or_big name file is = cc
+
     -- words that ask for a command ask for no other
     is_big : (other : Command) → AsksOf knows seen.words other → other ≡ commands.Big lanes
     is_big other also = one_command seen.words other (commands.Big lanes) also.1 asks.1
@@ -89,4 +92,5 @@ never_refused knows seen lanes asks refuses = by refuses
     by (inl (file, events, other, why)) = replay_or_big file events (is_big (commands.Replay file events) other)
     by (inr (inl (file, other, why))) = upgrade_or_big file (is_big (commands.Upgrade file) other)
     by (inr (inr (inl (name, other, why)))) = step_or_big name (is_big (commands.Step name) other)
-    by (inr (inr (inr (n, other, why)))) = not_refused n (of_words seen.words n other.1) seen.taken seen.taken' why
+    by (inr (inr (inr (inl (name, file, other, why))))) = check_or_big name file (is_big (commands.Check name file) other)
+    by (inr (inr (inr (inr (n, other, why))))) = not_refused n (of_words seen.words n other.1) seen.taken seen.taken' why

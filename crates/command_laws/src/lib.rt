@@ -15,4 +15,4 @@ pub use scripts::{
     lines_lead_or_are_refused, made_scripts_are_not_refused, made_scripts_are_scripts,
     three_things_are_asked_of_a_script,
 };
-pub use telling::runs_tell_their_reports;
+pub use telling::{a_check_of_what_was_run_is_consistent, runs_tell_their_reports};

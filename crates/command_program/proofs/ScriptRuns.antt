@@ -1,6 +1,8 @@
 -- The run of a script, from what was prepared for it.
-use Rattle.std.proofs.Common.{◌≡◌, ◌∙◌, ℕ, Bool, true, false, if◌then◌else◌, List, [], Option, Some, Result, Ok, Err, IfOk, refl, sym, ap}
+use Rattle.std.proofs.Common.{◌≡◌, ◌∙◌, ℕ, Bool, true, false, if◌then◌else◌, List, [], ◌∷◌, ◌++◌, Option, Some, Result, Ok, Err, IfOk, append_assoc, refl, sym, ap, subst}
 use Rattle.std.specs.Prelude.{◌==◌}
+use Rattle.std.specs.List.{AllByRecursion}
+use Rattle.std.proofs.lemmas.Grind.{flat_map-append}
 use Rattle.cfg_io.specs.Shelf.{Files}
 use Rattle.change_law.specs.Lawful.{LawfulInRounds}
 use Rattle.change_law.specs.Serial.{Serial}
@@ -12,13 +14,15 @@ use Rattle.command_words.specs.BigFiles.{made_files, script_name}
 use Rattle.command_answers.specs.Answers.{ShowsAnswer, ran, refusal, run_status, status_of, summary}
 use Rattle.command_answers.specs.Statuses.{is_of_run}
 use Rattle.command_answers.specs.Summaries.{summary_text}
+use Rattle.command_answers.specs.declared.status.Status.{Status}
 use Rattle.command_answers.specs.declared.status.Status.TheVariants as status
-use Rattle.command_law.specs.Commands.{course_of, in_summary, SumsUp}
+use Rattle.command_law.specs.Commands.{course_of, in_summary, judging, SumsUp}
 use Rattle.command_law.specs.Courses.{not_fetched}
+use Rattle.command_law.specs.Fetches.{failed_name, failed_names, Gave}
 use Rattle.command_law.specs.Lines.{behind, running}
 use Rattle.command_law.specs.RunReports.{IsReportOf}
 use Rattle.command_law.specs.Schedules.{rounds}
-use Rattle.command_law.proofs.CourseLaws.{behind_short, script_ends_early, script_ran, script_ran_short}
+use Rattle.command_law.proofs.CourseLaws.{behind_short, script_ends_early, script_judges, script_ran, script_ran_short, script_unjudged}
 use Rattle.command_words.specs.declared.words.Command.TheVariants as commands
 use Rattle.command_files.specs.declared.answer.Answer.{Answer}
 use Rattle.command_files.specs.declared.answer.Stop.{Stop}
@@ -97,6 +101,61 @@ module _ (files : Option Files) (name : List ℕ) (failures failures' : List (Li
     ends = script_ends_early (behind (running rounds)) (behind_short (running rounds)) name p.fetches (refusal values.no_memory) p.lead;
   }
 
+-- ---- a report that is judged
+
+all_append : {A : Type 0} (P : A → Type 0) (xs ys : List A) → AllByRecursion P xs → AllByRecursion P ys → AllByRecursion P (xs ++ ys)
+all_append P [] ys these those = those
+all_append P (x ∷ xs) ys these those = (these.0, all_append P xs ys these.1 those)
+
+-- by what a script asks for, from a shelf with the same files
+pub judged_by :
+    (files files' : Option Files) (name file : List ℕ) (failures before failures' : List (List ℕ)) (asked : Prepared) (r : Result Answer Stop)
+    → Prepares files name failures before (Ok asked) → files' ≡ files → ComesBy files' (judging file (statements_in asked)) before failures' r
+    → ComesBy files (course_of (commands.Check name file)) failures failures' r
+judged_by files files' name file failures before failures' asked r p same by = record {
+  fetches = p.fetches ++ by.fetches;
+  noted =
+      by.noted ∙ ap (λ names. names ++ failed_names by.fetches) p.noted ∙ append_assoc failures (failed_names p.fetches) (failed_names by.fetches)
+      ∙ ap (λ names. failures ++ names) (sym (flat_map-append failed_name p.fetches by.fetches));
+  told = all_append (Gave files) p.fetches by.fetches p.told (subst (λ fs. AllByRecursion (Gave fs) by.fetches) same by.told);
+  ends = of r by.ends;
+}
+  where
+    leads : (answer : values.Answer) → judging file (statements_in asked) by.fetches answer → course_of (commands.Check name file) (p.fetches ++ by.fetches) answer
+    leads answer = script_judges file name p.fetches by.fetches answer p.lead.0 (statements_in asked) p.lead.1 p.lead.2
+
+    shown_so :
+        (own : Status) (text : List ℕ) → ShowsAnswer (judging file (statements_in asked) by.fetches) own text
+        → ShowsAnswer (course_of (commands.Check name file) (p.fetches ++ by.fetches)) own text
+    shown_so own text ends = record { answer = ends.answer; is = leads ends.answer ends.is; has_status = ends.has_status; has_text = ends.has_text }
+
+    of : (r : Result Answer Stop) → EndsBy (judging file (statements_in asked)) by.fetches r → EndsBy (course_of (commands.Check name file)) (p.fetches ++ by.fetches) r
+    of (Ok answer) ends = shown_so answer.status answer.text.items ends
+    of (Err (stops.Refused answer)) ends = shown_so answer.status answer.text.items ends
+    of (Err stops.NoMemory) ends = leads (refusal values.no_memory) ends
+
+-- and where the script is refused
+pub unjudged_by :
+    (files : Option Files) (name file : List ℕ) (failures failures' : List (List ℕ)) (stop : Stop) → Prepares files name failures failures' (Err stop)
+    → ComesBy files (course_of (commands.Check name file)) failures failures' (Err stop)
+unjudged_by files name file failures failures' (stops.Refused answer) p = record {
+  fetches = p.fetches;
+  noted = p.noted;
+  told = p.told;
+  ends = record {
+    answer = p.lead.answer;
+    is = script_unjudged file name p.fetches p.lead.answer p.lead.is;
+    has_status = p.lead.has_status;
+    has_text = p.lead.has_text;
+  };
+}
+unjudged_by files name file failures failures' stops.NoMemory p = record {
+  fetches = p.fetches;
+  noted = p.noted;
+  told = p.told;
+  ends = script_unjudged file name p.fetches (refusal values.no_memory) p.lead;
+}
+
 -- ---- a script that was made
 
 -- the status of a report is that of a run
@@ -122,6 +181,8 @@ as_it_is lanes (values.parts old ps) none = refl
 as_it_is lanes (values.denied number rule) none = refl
 as_it_is lanes (values.replay count s settled) none = refl
 as_it_is lanes (values.report r) none = refl
+as_it_is lanes values.consistent none = refl
+as_it_is lanes values.unlawful none = refl
 as_it_is lanes (ran r) none = absurd (false_true (sym none ∙ of_run r.status))
 as_it_is lanes (summary other r) none = refl
 

@@ -15,6 +15,7 @@ NamesNoFile (commands.Parts file call target) = ⊥
 NamesNoFile (commands.Replay file events) = ⊥
 NamesNoFile (commands.Upgrade file) = ⊥
 NamesNoFile (commands.Step script) = ⊥
+NamesNoFile (commands.Check script report) = ⊥
 NamesNoFile (commands.Big lanes) = ⊤
 
 -- they ask for nothing, or for such a command

@@ -6,7 +6,7 @@ ghost use Rattle.command_answers.specs.Answers.{ShowsAnswer};
 ghost use Rattle.command_words.specs.CommandLine.{Asks};
 ghost use Rattle.command_law.specs.Known.{on_one_thread};
 ghost use Rattle.command_words.specs.declared.words.Command.TheVariants as commands;
-ghost use Rattle.command_law.specs.Commands.{SumsUp, course_of, course_of_query};
+ghost use Rattle.command_law.specs.Commands.{SumsUp, course_of, course_of_query, judging};
 ghost use Rattle.command_law.specs.RunReports.{IsReportOf};
 ghost use Rattle.command_law.specs.Runs.{Runs, run_of};
 ghost use Rattle.command_files.specs.Preparing.{CanRun, statements_in};
@@ -20,7 +20,7 @@ use change_round_laws::reports_of_rounds_are_lawful;
 use command_answers::Status;
 use command_files::{
     Answer, FILE_LIMIT, Prepared, REPORT_LIMIT, Stop, answer_run, answer_summary, describe,
-    fetch_file, prepare, read_events, upgrade,
+    fetch_file, judge, prepare, read_events, upgrade,
 };
 use command_law::{Cut, Query};
 use command_words::{Command, MadeFiles, SCRIPT_NAME, read_words};
@@ -94,6 +94,10 @@ fn run_command<H: Shelf, K: Sink>(
         ),
         Command::Upgrade { file } => finish(out, answer_report(alloc, shelf, file.as_str())),
         Command::Step { script } => finish(out, answer_script(alloc, shelf, script.as_str())),
+        Command::Check { script, report } => finish(
+            out,
+            answer_check(alloc, shelf, script.as_str(), report.as_str()),
+        ),
         Command::Big { lanes } => finish(out, answer_big(alloc, lanes)),
     }
 }
@@ -147,6 +151,37 @@ fn answer_script<H: Shelf>(alloc: Global, shelf: &mut H, name: &str) -> Result<A
 {
     let asked = prepare(alloc, shelf, name)?;
     Ok(run_script(alloc, asked)?)
+}
+
+/// Fetches a script and what it uses, and then a report, and answers whether this can be one of this machine.
+fn answer_check<H: Shelf>(
+    alloc: Global,
+    shelf: &mut H,
+    name: &str,
+    file: &str,
+) -> Result<Answer, Stop>
+    ensures answers { ComesBy (H.files shelf.old) (course_of (commands.Check name.now file.now))
+        (H.failed shelf.old) (H.failed shelf.new) result }
+    ensures kept { H.files shelf.new ≡ H.files shelf.old }
+{
+    let asked = prepare(alloc, shelf, name)?;
+    answer_judgement(alloc, shelf, &asked, file)
+}
+
+/// Fetches a report, and answers whether it can be one of this machine for what a script asks for.
+fn answer_judgement<H: Shelf>(
+    alloc: Global,
+    shelf: &mut H,
+    asked: &Prepared,
+    file: &str,
+) -> Result<Answer, Stop>
+    requires { CanRun asked.now }
+    ensures answers { ComesBy (H.files shelf.old) (judging file.now (statements_in asked.now))
+        (H.failed shelf.old) (H.failed shelf.new) result }
+    ensures kept { H.files shelf.new ≡ H.files shelf.old }
+{
+    let fetched = fetch_file(shelf, file, REPORT_LIMIT)?;
+    Ok(judge(alloc, asked, file, fetched)?)
 }
 
 /// Makes a system of so many lanes and a script, runs it, and answers the summary.

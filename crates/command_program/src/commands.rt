@@ -8,7 +8,7 @@ ghost use Rattle.command_words.specs.CommandLine.{Asks};
 ghost use Rattle.command_law.specs.Known.{on_one_thread};
 ghost use Rattle.command_words.specs.declared.words.Command.TheVariants as commands;
 ghost use Rattle.command_words.specs.declared.words.TopCall.{TopCall};
-ghost use Rattle.command_law.specs.Outcomes.{Flattened, Parted, Planned, Replayed, Upgraded, NothingRefuses, EndsAsGiven, Wants, Ends, EndsAsRun, IsRunStatus, NothingRefusesLines, Ran, SummedUp, NothingRefusesReport};
+ghost use Rattle.command_law.specs.Outcomes.{Flattened, Parted, Planned, Replayed, Upgraded, NothingRefuses, EndsAsGiven, Wants, Ends, EndsAsJudged, EndsAsRun, IsRunStatus, IsVerdict, Judged, NothingRefusesLines, Ran, SummedUp, NothingRefusesReport};
 ghost use Rattle.command_law.specs.Runs.{Runs, run_of};
 ghost use Rattle.command_law.specs.declared.query.Query.{Query};
 ghost use Rattle.command_program.specs.Naming.{AskForNoFile};
@@ -55,6 +55,10 @@ pub fn still<H: Shelf, K: Sink>(
     // nowhere.
     ensures summed { (lanes : ℕ) → Asks (map string_bytes words.now) (commands.Big lanes) → IsRunStatus result
         → SummedUp lanes result (K.taken out.old) (K.taken out.new) }
+    // Of `check` the line that says whether the report can be one of this machine for the statements of the script, by
+    // which the run ends too.
+    ensures judged { (name file : List ℕ) → Asks (map string_bytes words.now) (commands.Check name file)
+        → IsVerdict result → Judged (H.files shelf.old) name file result (K.taken out.old) (K.taken out.new) }
     // The first event that is no step is denied, with its first failing rule.
     ensures denied { result ≡ Denied → (file events : List ℕ)
         × Asks (map string_bytes words.now) (commands.Replay file events)
@@ -76,6 +80,12 @@ pub fn still<H: Shelf, K: Sink>(
         → EndsAsRun result }
     // And so is the script that is made, of which nothing is refused.
     ensures complete_big { (lanes : ℕ) → Asks (map string_bytes words.now) (commands.Big lanes) → EndsAsRun result }
+    // Where nothing refuses the script of a check and its lines, nor the report, this is judged.
+    ensures complete_check { (name file : List ℕ) (files : Files)
+        → Asks (map string_bytes words.now) (commands.Check name file)
+        → H.files shelf.old ≡ Some files → H.failed shelf.new ≡ H.failed shelf.old
+        → NothingRefusesLines files (files name) → NothingRefusesReport (files file)
+        → EndsAsJudged result }
     // Words that name no file, as those of `big`, fetch none: the shelf is as it was.
     ensures untouched { AskForNoFile (map string_bytes words.now) → shelf.new ≡ shelf.old }
 {

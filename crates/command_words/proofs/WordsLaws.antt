@@ -18,6 +18,7 @@ pub data Form : Type 0 where
   replay : Form
   upgrade : Form
   step : Form
+  check : Form
   big : Form
 
 abbrev pub form : Command → Form
@@ -29,6 +30,7 @@ form (commands.Parts file call target) = parts
 form (commands.Replay file events) = replay
 form (commands.Upgrade file) = upgrade
 form (commands.Step script) = step
+form (commands.Check script report) = check
 form (commands.Big lanes) = big
 
 abbrev pub Carried : Form → Type 0
@@ -40,6 +42,7 @@ Carried parts = List ℕ × TopCall × TopCall
 Carried replay = List ℕ × List ℕ
 Carried upgrade = List ℕ
 Carried step = List ℕ
+Carried check = List ℕ × List ℕ
 Carried big = ℕ
 
 abbrev pub command : (f : Form) → Carried f → Command
@@ -51,6 +54,7 @@ command parts p = commands.Parts p.0 p.1 p.2
 command replay p = commands.Replay p.0 p.1
 command upgrade p = commands.Upgrade p
 command step p = commands.Step p
+command check p = commands.Check p.0 p.1
 command big p = commands.Big p
 
 abbrev pub carried : (c : Command) → Carried (form c)
@@ -62,6 +66,7 @@ carried (commands.Parts file call target) = (file, call, target)
 carried (commands.Replay file events) = (file, events)
 carried (commands.Upgrade file) = file
 carried (commands.Step script) = script
+carried (commands.Check script report) = (script, report)
 carried (commands.Big lanes) = lanes
 
 is_command : (c : Command) → c ≡ command (form c) (carried c)
@@ -73,6 +78,7 @@ is_command (commands.Parts file call target) = refl
 is_command (commands.Replay file events) = refl
 is_command (commands.Upgrade file) = refl
 is_command (commands.Step script) = refl
+is_command (commands.Check script report) = refl
 is_command (commands.Big lanes) = refl
 
 -- the form that a first word tells
@@ -86,6 +92,7 @@ form_of word =
     if bytes_eq word (codes "replay") then Some replay else
     if bytes_eq word (codes "upgrade") then Some upgrade else
     if bytes_eq word (codes "step") then Some step else
+    if bytes_eq word (codes "check") then Some check else
     if bytes_eq word (codes "big") then Some big else None
 
 pub form_is : (c : Command) → form_of (keyword c) ≡ Some (form c)
@@ -98,6 +105,7 @@ form_is (commands.Parts file call target) = refl
 form_is (commands.Replay file events) = refl
 form_is (commands.Upgrade file) = refl
 form_is (commands.Step script) = refl
+form_is (commands.Check script report) = refl
 form_is (commands.Big lanes) = refl
 
 pub flat_word : form_of (codes "flat") ≡ Some flat
@@ -164,6 +172,12 @@ one_body step f g body x y = same (head_is f g [] [] (sym x.0 ∙ y.0))
   where
     same : f ≡ g → commands.Step f ≡ commands.Step g
     same script = rw script refl
+one_body check (f, e) (g, h) body x y =
+    let is = sym x.0 ∙ y.0 in
+    same (head_is f g (e ∷ []) (h ∷ []) is) (head_is e h [] [] (tail_is f g (e ∷ []) (h ∷ []) is))
+  where
+    same : f ≡ g → e ≡ h → commands.Check f e ≡ commands.Check g h
+    same script report = rw (script, report) refl
 one_body big p q body x y = same (x.3 ∙ ap (digits_value 10) (head_is x.0 y.0 [] [] (sym x.1 ∙ y.1)) ∙ sym y.3)
   where
     same : p ≡ q → commands.Big p ≡ commands.Big q

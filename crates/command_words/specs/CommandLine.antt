@@ -44,6 +44,7 @@ keyword (commands.Parts file call target) = codes "parts"
 keyword (commands.Replay file events) = codes "replay"
 keyword (commands.Upgrade file) = codes "upgrade"
 keyword (commands.Step script) = codes "step"
+keyword (commands.Check script report) = codes "check"
 keyword (commands.Big lanes) = codes "big"
 
 -- the words behind it
@@ -59,6 +60,7 @@ IsBody (commands.Parts file call target) body =
 IsBody (commands.Replay file events) body = (body ≡ file ∷ events ∷ []) × (file ≢ []) × (events ≢ [])
 IsBody (commands.Upgrade file) body = (body ≡ file ∷ []) × (file ≢ [])
 IsBody (commands.Step script) body = (body ≡ script ∷ []) × (script ≢ [])
+IsBody (commands.Check script report) body = (body ≡ script ∷ report ∷ []) × (script ≢ []) × (report ≢ [])
 IsBody (commands.Big lanes) body = (count : List ℕ) × (body ≡ count ∷ []) × IsLaneCount count × (lanes ≡ digits_value 10 count)
 
 -- the words ask for the command

@@ -90,6 +90,11 @@ pub enum Command<'a> {
     Step {
         script: Word<'a>,
     },
+    /// Whether a report can be one of this machine for the script of a file.
+    Check {
+        script: Word<'a>,
+        report: Word<'a>,
+    },
     /// A summary of the run of a system of so many lanes, from 1 to [`MAX_LANES`], which the program makes itself.
     Big {
         lanes: u32,
@@ -125,6 +130,7 @@ fn read_command<'a>(
     }
     match first {
         "big" => Ok(read_big(file, &words[1..])),
+        "check" => Ok(read_check(file, &words[1..])),
         "flat" => read_flat(alloc, file, &words[1..]),
         "parts" => read_parts(alloc, file, &words[1..]),
         "plan" => read_plan(alloc, file, &words[1..]),
@@ -288,6 +294,34 @@ fn read_step<'a>(script: &'a str, words: &[String]) -> Option<Command<'a>>
         }),
         [_, ..] => None,
     }
+}
+
+/// What the word `check` asks for with a script and these words behind it.
+fn read_check<'a>(script: &'a str, words: &'a [String]) -> Option<Command<'a>>
+    requires { script.now ≢ [] }
+    ensures found { IfSome result (λ command. Asks (codes "check" ∷ script.now ∷ map string_bytes words.now) command) }
+    ensures none { IfNone result (HasNoForm (codes "check" ∷ script.now ∷ map string_bytes words.now)) }
+{
+    match words {
+        [] => None,
+        [report] => read_report_name(script, report.as_str()),
+        [_, _, ..] => None,
+    }
+}
+
+/// What the word `check` asks for with a script and a word behind it.
+fn read_report_name<'a>(script: &'a str, report: &'a str) -> Option<Command<'a>>
+    requires { script.now ≢ [] }
+    ensures found { IfSome result (λ command. Asks (codes "check" ∷ script.now ∷ report.now ∷ []) command) }
+    ensures none { IfNone result (HasNoForm (codes "check" ∷ script.now ∷ report.now ∷ [])) }
+{
+    if report.is_empty() {
+        return None;
+    }
+    Some(Command::Check {
+        script: Word::of(script),
+        report: Word::of(report),
+    })
 }
 
 /// What the word `big` asks for with a number and these words behind it.

@@ -10,5 +10,6 @@ returns c =
       only = λ knows seen run. flattening.refuses knows seen (ran knows seen run);
       always_made_line = λ knows seen run. stepping.must_refuse_made_line knows seen (ran knows seen run) graphs;
       always = λ knows seen files run read. flattening.must_refuse knows seen (ran knows seen run) files read;
+      always_its_line = λ knows seen files run read. stepping.must_refuse_its_line knows seen (ran knows seen run) files read graphs;
       always_line = λ knows seen files run read. stepping.must_refuse_line knows seen (ran knows seen run) files read graphs;
     }

@@ -11,6 +11,8 @@ returns c =
       only = λ knows seen run. flattening.script knows seen (ran knows seen run);
       always_report = λ knows seen files run read. flattening.must_refuse_report knows seen (ran knows seen run) files read never_both;
       always_script = λ knows seen files run read. stepping.must_refuse_script knows seen (ran knows seen run) files read;
+      always_its_script = λ knows seen files run read. stepping.must_refuse_its_script knows seen (ran knows seen run) files read;
+      always_its_report = λ knows seen files run read. stepping.must_refuse_its_report knows seen (ran knows seen run) files read never_both;
       always_made = λ knows seen run. stepping.must_refuse_made_script knows seen (ran knows seen run);
       always = λ knows seen files run read. flattening.every_script knows seen (ran knows seen run) files read;
     }

@@ -3,7 +3,4 @@ use Rattle.command_law.proofs.Inverting.{ran}
 use Rattle.command_law.proofs.laws.want_of_memory_has_its_line.Goals as goal
 
 pub returns : goal.returns
-returns c = record {
-  line = λ knows seen run. ending.no_memory_written knows seen (ran knows seen run);
-  no_other = λ knows seen run. ending.no_other knows seen (ran knows seen run);
-}
+returns c = record { line = λ knows seen run. ending.no_memory_written knows seen (ran knows seen run) }

@@ -9,6 +9,7 @@ returns c = record {
   every_answer = λ knows seen files run read. flattening.answers_as knows seen (ran knows seen run) files read;
   complete_report = λ knows seen files run read. flattening.completes_report knows seen (ran knows seen run) files read;
   complete_script = λ knows seen files run read. stepping.completes knows seen (ran knows seen run) files read;
+  complete_check = λ knows seen files run read. stepping.completes_check knows seen (ran knows seen run) files read;
   complete_big = λ knows seen run. stepping.completes_big knows seen (ran knows seen run);
   every_graph = λ knows seen files run read. flattening.every_graph knows seen (ran knows seen run) files read;
 }

@@ -55,6 +55,12 @@ returns-in-Step-clause-runs g c words asks =
     runs_by on_one_thread seen (commands.Step c.in-Step.script) c.answer_script.result (refl, rw c.in-Step.is at asks)
     (rw c.as_str-in-Step.ensures at c.answer_script.ensures.answers) (c.finish-in-Step.ensures seen)
 
+pub returns-in-Check-clause-runs : goal.returns-in-Check-clause-runs
+returns-in-Check-clause-runs g c words asks =
+    let seen = run_of g.H.Shelf g.K.Sink words c.args.shelf.now c.answer_check.new.shelf c.args.out.now c.finish-in-Check.new.out c.finish-in-Check.result in
+    runs_by on_one_thread seen (commands.Check c.in-Check.script c.in-Check.report) c.answer_check.result (refl, rw c.in-Check.is at asks)
+    (rw (c.as_str-in-Check.ensures, c.as_str-in-Check-2.ensures) at c.answer_check.ensures.answers) (c.finish-in-Check.ensures seen)
+
 pub returns-in-Big-clause-runs : goal.returns-in-Big-clause-runs
 returns-in-Big-clause-runs g c words asks =
     let seen = run_of g.H.Shelf g.K.Sink words c.args.shelf.now c.args.shelf.now c.args.out.now c.finish-in-Big.new.out c.finish-in-Big.result in

@@ -17,10 +17,12 @@ returns g c =
       upgraded = λ file asks. laws.upgrades on_one_thread _ run file (refl, asks);
       ran = λ name asks. laws.runs on_one_thread _ run name (refl, asks);
       summed = λ lanes asks. laws.sums_up on_one_thread _ run lanes (refl, asks);
+      judged = λ name file asks. laws.judges on_one_thread _ run name file (refl, asks);
       denied = λ is. let d = laws.denies on_one_thread _ run is in (d.0, d.1, d.2.1, d.3);
       complete = λ file query files wants tells steady. laws.completes on_one_thread _ run files (record { tells = tells; steady = steady }) file query wants;
       complete_report = λ file files asks tells steady. laws.completes_report on_one_thread _ run files (record { tells = tells; steady = steady }) file (refl, asks);
       complete_script = λ name files asks tells steady. laws.completes_script on_one_thread _ run files (record { tells = tells; steady = steady }) name (refl, asks);
+      complete_check = λ name file files asks tells steady. laws.completes_check on_one_thread _ run files (record { tells = tells; steady = steady }) name file (refl, asks);
       complete_big = λ lanes asks. c.made_runs_are_not_refused.ensures on_one_thread _ run lanes (refl, asks);
       untouched = c.run_words.ensures.untouched;
     }
