@@ -186,6 +186,25 @@ def read_plan(lines):
     return plan
 
 
+def read_parts(lines):
+    """The plans of which these lines are the text, each behind a line `part I`."""
+    starts = [at for at, line in enumerate(lines) if line.split(" ")[0] == "part"]
+    if lines and starts[:1] != [0]:
+        raise bad_line(1, lines[0], "change in parts")
+    return [read_plan(lines[start + 1 : end]) for start, end in zip(starts, starts[1:] + [len(lines)])]
+
+
+def carried_out(graph, plan):
+    """The graph that a plan makes of a graph."""
+    after = Graph()
+    after.nodes = {path: node for path, node in graph.nodes.items() if path not in plan.removed}
+    after.nodes.update((node.path, node) for node in plan.created)
+    after.links = {port: None if port in plan.unlinked else target for port, target in graph.links.items() if port[0] not in plan.removed}
+    after.links.update(((node.path, name), None) for node in plan.created for name in KINDS[node.kind].requires)
+    after.links.update(plan.linked)
+    return after
+
+
 def two_components(words):
     """The words of a component and of another, which `--` parts."""
     if words.count("--") != 1 or words[0] == "--" or words[-1] == "--":
@@ -199,6 +218,16 @@ def planned(program, file, words):
     old, new = two_components(words)
     graphs = [read_graph(written(program, "flat", file, *component)) for component in (old, new)]
     return (*graphs, read_plan(written(program, "plan", file, *words)))
+
+
+def parted(program, file, words):
+    """The plan of each part of the change between two components, with the graphs before and behind it, as the program tells them."""
+    old, _ = two_components(words)
+    before, found = read_graph(written(program, "flat", file, *old)), []
+    for plan in read_parts(written(program, "parts", file, *words)):
+        found.append((before, carried_out(before, plan), plan))
+        before = found[-1][1]
+    return found
 
 
 # ---- reports
