@@ -2,6 +2,8 @@
 #![tactic(auto)]
 
 #[cfg(test)]
+mod check_rows;
+#[cfg(test)]
 mod merge_rows;
 #[cfg(test)]
 mod parser_rows;
