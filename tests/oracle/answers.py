@@ -3,6 +3,7 @@
 Where several faults of a description hold, any of them may be named; all else has one answer."""
 import functools
 import os
+import random
 
 import consistent
 import graphs
@@ -11,11 +12,16 @@ import parts
 import plans
 import reports
 import runs
+import scattered
 import scripts
+import threads
 from language import GREATEST, LEAST, Description
 
 LIMIT = 1 << 20
 CONSISTENT, UNLAWFUL = (0, b"consistent\n"), (10, b"unlawful\n")
+MOST_WORKERS = 8
+# how many cuts a search for the list of a report of threads may come to
+MOST_CUTS = 50000
 LATER = {"OutOfRange", "ZeroDivisor", "BadIndex", "TwoInstances", "BoundTwice", "BadBinding", "Annotation", "TooDeep", "TooMany"}
 
 
@@ -205,6 +211,31 @@ def step(words, files):
     return runs.report(script_of(words[1], files))
 
 
+def live_of(words, files):
+    """The statements of `live SCRIPT`, with so many workers or without a word of them."""
+    usage(len(words) in (2, 4) and words[1])
+    usage(len(words) == 2 or words[2] == b"--workers" and scripts.is_number(words[3]) and 1 <= scripts.integer(words[3]) <= MOST_WORKERS)
+    return script_of(words[1], files)
+
+
+def live(words, files):
+    """`live SCRIPT [--workers W]`, by turns in any order: one of the reports that may come"""
+    return scattered.report(live_of(words, files), random.Random())
+
+
+def unlike_threads(statements, came):
+    """Why a run on threads can't end so with these statements, or None; and whether that was decided."""
+    if came.fault():
+        return came.fault(), True
+    report, fault = reports.parse(came.text) if came.status in (0, 7, 8) else (None, "no status of a report")
+    if fault or report[3][-1] != b"status %d" % came.status:
+        return "a report of threads was wanted, %s; came status %s, %r" % (fault or "which has its own status", came.status, came.text[:80]), True
+    try:
+        return threads.why_not(statements, report, MOST_CUTS), True
+    except consistent.Undecided:
+        return None, False
+
+
 LANES = b"""component source(int n) { require out; }
 component map(int k) { provide in; require next; }
 component buffer(int cap) { provide in; require next; }
@@ -264,7 +295,7 @@ def check(words, files):
     return CONSISTENT if is_one else UNLAWFUL
 
 
-COMMANDS = {b"flat": flat, b"plan": plan, b"parts": parts_of, b"roll": roll, b"replay": replay, b"step": step, b"big": big, b"upgrade": upgrade, b"check": check}
+COMMANDS = {b"flat": flat, b"plan": plan, b"parts": parts_of, b"roll": roll, b"replay": replay, b"step": step, b"live": live, b"big": big, b"upgrade": upgrade, b"check": check}
 
 
 def is_text(word):
@@ -276,7 +307,8 @@ def is_text(word):
 
 
 def may_come(words, files):
-    """What the program may answer to words and files, as (status, text), and whether any other fault of an elaboration may be named in its place."""
+    """What the program may answer to words and files, as (status, text), and whether any other fault of an elaboration may be named in its place.
+    Of the reports that `live` may write it is one."""
     try:
         usage(words and all(map(is_text, words)) and words[0] in COMMANDS)
         answer = COMMANDS[words[0]](words, files)
@@ -290,7 +322,13 @@ def judged(words, files, came):
     words = [os.fsencode(word) for word in words]
     if words in ([b"--help"], [b"--version"]):
         return came.unlike((0, came.text)), True
-    wanted, is_open = may_come(words, files)
+    if words[:1] == [b"live"] and all(map(is_text, words)):
+        try:
+            return unlike_threads(live_of(words, files), came)
+        except Refusal as refusal:
+            wanted, is_open = refusal.answers, refusal.is_open
+    else:
+        wanted, is_open = may_come(words, files)
     named = came.text.rsplit(b": ", 1)[-1].split()
     if is_open and not came.fault() and came.status == 2 and named and named[0].decode(errors="replace") in LATER:
         return None, True
