@@ -9,10 +9,13 @@ _darwin_run() {
   local IFS=$'\n'
   case $COMP_CWORD:$command in
     1:*) COMPREPLY=($(compgen -W "$("${COMP_WORDS[0]}" --help 2>/dev/null | awk '$1 == "darwin_run" { print $2 }')" -- "$word")) ;;
-    2:flat | 2:plan | 2:parts | 2:replay) COMPREPLY=($(compgen -f -X '!*.dar' -- "$word") $(compgen -d -S / -- "$word")) ;;
+    2:flat | 2:plan | 2:parts | 2:roll | 2:replay) COMPREPLY=($(compgen -f -X '!*.dar' -- "$word") $(compgen -d -S / -- "$word")) ;;
     3:flat) COMPREPLY=($(compgen -W "$(_darwin_run_components "$file")" -- "$word")) ;;
     *:flat | *:big) COMPREPLY=() ;;
-    *:plan | *:parts) COMPREPLY=($(compgen -W "$(_darwin_run_components "$file")"$'\n--' -- "$word")) ;;
+    3:roll | 4:roll) COMPREPLY=() ;;
+    3:live) COMPREPLY=($(compgen -W --workers -- "$word")) ;;
+    4:live) COMPREPLY=($(compgen -W $'1\n2\n4\n8' -- "$word")) ;;
+    *:plan | *:parts | *:roll) COMPREPLY=($(compgen -W "$(_darwin_run_components "$file")"$'\n--' -- "$word")) ;;
     *) COMPREPLY=($(compgen -f -- "$word")) ;;
   esac
 }
