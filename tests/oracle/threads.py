@@ -16,18 +16,25 @@ NUMBERED = (b"run", b"finish")
 
 
 class Course:
-    """What a node has come to behind each of its events, from none to all of them: whether it is done, which of its ports are busy, and how
-    many of its transactions have ended."""
+    """What a node has come to at each place of its log, from before its first event to behind its last: at which place up to there it was done
+    last, at which each of its ports was idle last, and how many of its transactions have ended."""
 
-    def __init__(self, node, events):
-        self.done, self.busy, self.ended = [node.node.is_done()], [frozenset()], [0]
-        for event in events:
+    def __init__(self, node, ports, events):
+        self.done, self.idle, self.ended = [0 if node.node.is_done() else -1], {port: [0] for port in ports}, [0]
+        busy = set()
+        for place, event in enumerate(events, 1):
             node.do(event)
-            busy = self.busy[-1] | {event[1]} if event[0] in ("begin", "call") else self.busy[-1]
-            self.done.append(node.node.is_done())
-            self.busy.append(busy - {event[1]} if event[0] == "end" else busy)
+            busy |= {event[1]} if event[0] in ("begin", "call") else set()
+            busy -= {event[1]} if event[0] == "end" else set()
+            self.done.append(place if node.node.is_done() else self.done[-1])
             self.ended.append(self.ended[-1] + (event[0] == "end"))
+            for port, places in self.idle.items():
+                places.append(places[-1] if port in busy else place)
         self.state = node.node.state
+
+    def came_to_rest(self, entry, place):
+        """Whether from one place to another it was done at some, and each port idle at some."""
+        return self.done[place] >= entry and all(places[place] >= entry for places in self.idle.values())
 
 
 def courses(reading, logs):
@@ -35,7 +42,7 @@ def courses(reading, logs):
     found = []
     for slot, (made, log) in enumerate(zip(reading.machine.nodes, logs)):
         state = found[sources[slot]].state if slot in sources else None
-        found.append(Course(Folded(made.kind, int(made.arg or 0), state, made.ports[0] if made.ports else 0), log.events))
+        found.append(Course(Folded(made.kind, int(made.arg or 0), state, made.ports[0] if made.ports else 0), made.ports, log.events))
     return found
 
 
@@ -51,13 +58,7 @@ class Threads(Search):
 
     def is_at_rest(self, machine, entry, cut):
         """Whether, from one cut to the other, each live node is done at some place, and each live port idle."""
-        for slot, node in enumerate(machine.nodes):
-            places, course = range(entry[slot + 1], cut[slot + 1] + 1), self.courses[slot]
-            if node.live and not any(course.done[place] for place in places):
-                return False
-            if node.live and not all(any(port not in course.busy[place] for place in places) for port in node.ports):
-                return False
-        return True
+        return all(self.courses[slot].came_to_rest(entry[slot + 1], cut[slot + 1]) for slot, node in enumerate(machine.nodes) if node.live)
 
     def fits(self, machine, entry, cut):
         """Whether the number of the next line fits a place of it here."""
@@ -112,15 +113,26 @@ class Threads(Search):
     def onward(self, machine, entry, cut):
         """The chains whose next member may come: those that seem right first, of these a line before the logs that it waits for, and these before
         the others. The order is a thought of what leads to the end soon; all of them are tried."""
-        order = [0] + self.needed(machine, entry, cut)
-        order += [chain for chain in range(1, len(self.lengths)) if chain not in order]
-        may = [chain for chain in order if self.may_come(machine, entry, cut, chain)]
-        return sorted(may, key=lambda chain: not self.seems_right(machine, cut, chain))
+        later = []
+        for chain in self.in_order(machine, entry, cut):
+            if self.may_come(machine, entry, cut, chain):
+                if self.seems_right(machine, cut, chain):
+                    yield chain
+                else:
+                    later.append(chain)
+        yield from later
+
+    def in_order(self, machine, entry, cut):
+        """All chains: that of the lines, the logs that they wait for, and the others."""
+        yield 0
+        needed = self.needed(machine, entry, cut)
+        yield from needed
+        yield from (chain for chain in range(1, len(self.lengths)) if chain not in needed)
 
     def finds(self, most=MOST):
         """Whether some list has all lines and events, with numbers that fit."""
         first, machine = (0,) * len(self.lengths), Machine(EMPTY)
-        work, seen = [(first, first, machine, iter(self.onward(machine, first, first)))], set()
+        work, seen = [(first, first, machine, self.onward(machine, first, first))], set()
         while work:
             entry, cut, machine, ways = work[-1]
             if list(cut) == self.lengths and all(port.phase == "idle" for port in machine.ports):
@@ -138,7 +150,7 @@ class Threads(Search):
             if len(seen) > most:
                 raise Undecided()
             behind = after(machine, self.event(cut, chain))
-            work.append((passed, onward, behind, iter(self.onward(behind, passed, onward))))
+            work.append((passed, onward, behind, self.onward(behind, passed, onward)))
         return False
 
 
