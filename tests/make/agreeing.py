@@ -7,12 +7,36 @@ Of these it holds, as long as the change is committed and all comes to rest:
 - a bank with one teller, whose accounts and teller hand over: its requests come one after the other;
 - askers, whose own two values decide each sum; and philosophers, who eat as often as they are to.
 
-`case(rng)` gives the texts of a description and of a script.
+`case(rng)` gives the texts of a description and of a script, and `LARGE` has some of many nodes.
 """
 from changes import component, script
 from evolving import declarations
 
 ENOUGH = 1000000
+MANY = """
+component Chain(int n, int items) {
+  array m[n]:map(1); inst s:source(items); t:sink; bind s.out -- m[0].in; m[n-1].next -- t.in;
+  forall i:0..n-1 { inst m[i]; when i < n-1 bind m[i].next -- m[i+1].in; }
+}
+component Lanes(int n, int k, int j, int items) {
+  array s[n]:source(items); m[n]:map(k); w[n]:map(j); t[n]:sink;
+  forall i:0..n-1 { inst s[i]; m[i]; w[i]; t[i]; bind s[i].out -- m[i].in; m[i].next -- w[i].in; w[i].next -- t[i].in; }
+}
+component Table(int n, int meals, int lefts) {
+  array ph[n]:philosopher(meals); pl[n]:place(0); f[n]:fork;
+  forall i:0..n-1 {
+    inst ph[i]; pl[i](i < lefts); f[i];
+    bind ph[i].dine -- pl[i].dine; pl[i].left -- f[i].hold; pl[(i+n-1) % n].right -- f[i].hold;
+  }
+}
+"""
+# a start of each, how many transactions end before the change, and to what it changes
+LARGE = [
+    ("Chain(1000,3)", 1500, "Chain(1000,3)"),
+    ("Lanes(100,1,7,5)", 500, "Lanes(100,7,1,5)"),
+    ("Lanes(2,1,7,400)", 500, "Lanes(2,7,1,400)"),
+    ("Table(100,3,1)", 400, "Table(100,3,50)"),
+]
 
 
 def text(old, new):
@@ -66,3 +90,9 @@ def case(rng):
     change = "change to New within %d moving %s" % (ENOUGH, ", ".join(moves))
     lines = ["run %d" % rng.choice([0, 1, 2, 3, 5, 8, 13]), change, "run %d" % rng.randrange(4), "finish within %d" % ENOUGH]
     return text(old, new), script(*lines)
+
+
+def large(start, count, changed):
+    """The texts of a description and of a script of many nodes."""
+    lines = ["use a.dar", "start " + start, "run %d" % count, "change to %s within %d" % (changed, ENOUGH), "finish within %d" % ENOUGH, "end", ""]
+    return ("\n".join(declarations()) + MANY).encode(), "\n".join(lines).encode()
