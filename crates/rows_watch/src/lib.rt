@@ -1,0 +1,6 @@
+//! Worked rows of observers beside a writer. They end by themselves, and come out alike in every order of the threads'
+//! steps.
+#![tactic(auto)]
+
+#[cfg(test)]
+mod view_rows;

@@ -1,0 +1,4 @@
+pub mod Counts
+pub mod Observers
+pub mod Sightings
+pub mod WatchText
