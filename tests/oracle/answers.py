@@ -223,13 +223,16 @@ def live(words, files):
     return scattered.report(live_of(words, files), random.Random())
 
 
-def unlike_threads(statements, came):
-    """Why a run on threads can't end so with these statements, or None; and whether that was decided."""
+def unlike_threads(statements, came, longest=None):
+    """Why a run on threads can't end so with these statements, or None; and whether that was decided. Of a report of more bytes than `longest`
+    the form alone is asked."""
     if came.fault():
         return came.fault(), True
     report, fault = reports.parse(came.text) if came.status in (0, 7, 8) else (None, "no status of a report")
     if fault or report[3][-1] != b"status %d" % came.status:
         return "a report of threads was wanted, %s; came status %s, %r" % (fault or "which has its own status", came.status, came.text[:80]), True
+    if longest is not None and len(came.text) > longest:
+        return None, False
     try:
         return threads.why_not(statements, report, MOST_CUTS), True
     except consistent.Undecided:
