@@ -21,7 +21,7 @@ LIMIT = 1 << 20
 CONSISTENT, UNLAWFUL = (0, b"consistent\n"), (10, b"unlawful\n")
 MOST_WORKERS = 8
 # how many cuts a search for the list of a report of threads may come to
-MOST_CUTS = 50000
+MOST_CUTS = 20000
 LATER = {"OutOfRange", "ZeroDivisor", "BadIndex", "TwoInstances", "BoundTwice", "BadBinding", "Annotation", "TooDeep", "TooMany"}
 
 
