@@ -1,11 +1,11 @@
 -- Looks at ports, one more at a time.
-use Rattle.std.proofs.Common.{◌≡◌, ◌∙◌, ℕ, ◌+◌, ◌-◌, Bool, true, false, cond, ◌&&◌, List, [], ◌∷◌, ◌++◌, append_assoc, map, refl, sym, ap, arith}
-use Rattle.std.specs.List.{list_all, range_with_len}
+use Rattle.std.proofs.Common.{◌≡◌, ◌∙◌, ℕ, ◌+◌, ◌-◌, Bool, true, false, cond, ◌&&◌, List, [], ◌∷◌, ◌++◌, append_assoc, map, refl, sym, ap}
+use Rattle.std.specs.List.{list_all}
 use Rattle.std.proofs.Math.Bool.{and-true}
 use Rattle.std.proofs.lemmas.List.{append-nil, map-append}
 use Rattle.std.proofs.lemmas.List.Folds.{list_all-append}
-use Rattle.std.proofs.lemmas.List.FromFn.{map-range_with_len_more}
 use Rattle.std.proofs.lemmas.List.Sums.{sum_by_push}
+use Rattle.base.proofs.RisingLaws.{places_more}
 use Rattle.change_board.specs.Scans.{Found, is_idle_if_live, look_entry}
 use Rattle.quiesce_core.specs.State.{Configuration}
 use Rattle.quiesce_word.specs.Phases.{is_idle}
@@ -64,17 +64,10 @@ saw_port c r r1 r2 k idle idle' ended ended' word h is idle_is ended_is =
       found = h.found ++ f ∷ [];
       adds = is ∙ ap (λ (q : List Entry). q ++ look_entry f ∷ []) h.adds ∙ append_assoc r (map look_entry h.found) (look_entry f ∷ [])
           ∙ ap (λ (q : List Entry). r ++ q) (sym (map-append look_entry h.found (f ∷ [])));
-      at_ports = map-append (λ (x : Found). x.port) h.found (f ∷ []) ∙ ap (λ (ps : List ℕ). ps ++ k ∷ []) h.at_ports ∙ sym (more_ k);
+      at_ports = map-append (λ (x : Found). x.port) h.found (f ∷ []) ∙ ap (λ (ps : List ℕ). ps ++ k ∷ []) h.at_ports ∙ sym (places_more k);
       idle_is = idle_is ∙ ap (λ b. b && is_idle_if_live c f) h.idle_is ∙ sym (list_all-append (is_idle_if_live c) h.found (f ∷ []) ∙ ap (λ b. list_all (is_idle_if_live c) h.found && b) (and-true (is_idle_if_live c f)));
       ended_is = ended_is ∙ ap (λ n. n + ended_in_word word) h.ended_is ∙ sym (sum_by_push (λ (x : Found). ended_in_word x.word) h.found f);
     }
-  where
-    same : (xs : List ℕ) → map (λ i. i) xs ≡ xs
-    same [] = refl
-    same (x ∷ xs) = ap (λ l. x ∷ l) (same xs)
-
-    more_ : (k : ℕ) → range_with_len 0 (k + 1) ≡ range_with_len 0 k ++ k ∷ []
-    more_ k = sym (same (range_with_len 0 (k + 1))) ∙ map-range_with_len_more (λ i. i) 0 k k (omega arith) ∙ ap (λ l. l ++ k ∷ []) (same (range_with_len 0 k))
 
 pub saw_no_port : (c : Configuration) (r : List Entry) → SawPorts c r r 0 true 0
 saw_no_port c r = record { found = []; adds = sym (append-nil r); at_ports = refl; idle_is = refl; ended_is = refl }

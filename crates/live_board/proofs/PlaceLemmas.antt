@@ -4,7 +4,6 @@ use Rattle.std.specs.Prelude.{slice_get, filter, find}
 use Rattle.std.specs.List.{range_with_len}
 use Rattle.std.proofs.lemmas.Bool.{cases_Bool, cases_eq}
 use Rattle.std.proofs.lemmas.List.{take_more}
-use Rattle.std.proofs.lemmas.List.FromFn.{map-range_with_len_more}
 use Rattle.std.proofs.lemmas.Option.{get_or_from_slice_get, slice_get-get_or}
 use Rattle.base.proofs.PlaceLaws.{slice_get-below, slice_get-map_at}
 
@@ -78,13 +77,6 @@ module _ (live p : ℕ → Bool) where
 pub taken_more : (xs ys : List ℕ) (i x : ℕ) → slice_get xs i ≡ Some x → ys ≡ take i xs → ys ++ x ∷ [] ≡ take (i + 1) xs
 taken_more xs ys i x there so_far =
     ap (λ zs. zs ++ x ∷ []) so_far ∙ ap (λ y. take i xs ++ y ∷ []) (sym (get_or_from_slice_get xs i x x there)) ∙ sym (take_more xs i x (slice_get-below xs i x there))
-
-pub numbers_then : (n : ℕ) → range_with_len 0 (n + 1) ≡ range_with_len 0 n ++ n ∷ []
-numbers_then n = sym (same (range_with_len 0 (n + 1))) ∙ map-range_with_len_more (λ i. i) 0 n n (omega arith) ∙ ap (λ l. l ++ n ∷ []) (same (range_with_len 0 n))
-  where
-    same : (xs : List ℕ) → map (λ i. i) xs ≡ xs
-    same [] = refl
-    same (x ∷ xs) = ap (λ l. x ∷ l) (same xs)
 
 -- what stands in a place, whatever would stand past the end
 pub at_default : {A : Type 0} (xs : List A) (k : ℕ) (x d : A) → k < length xs → x ≡ get_or xs k x → get_or xs k d ≡ x

@@ -5,12 +5,12 @@ use Rattle.std.specs.List.{AllByRecursion, range_with_len}
 use Rattle.std.proofs.lemmas.List.{map-append}
 use Rattle.std.proofs.lemmas.Option.{get_or_from_slice_get}
 use Rattle.base.proofs.PlaceLaws.{slice_get-front, slice_get-last, slice_get-snoc, slice_get-there}
+use Rattle.base.proofs.RisingLaws.{places_more}
 use Rattle.component_trait.specs.Moves as moves
 use Rattle.component_trait.specs.States.{NodeState}
 use Rattle.live_board.specs.Collecting.{AreTold, TellsEnd}
 use Rattle.live_board.specs.declared.ends.End.{End}
 use Rattle.live_board.specs.Lengths.{length_at}
-use Rattle.live_board.proofs.PlaceLemmas.{numbers_then}
 use Rattle.live_hall.specs.declared.guest.Guest.{Guest}
 use Rattle.report_types.specs.declared.report.Last.{Last}
 use Rattle.report_types.specs.declared.report.Last.TheVariants.{State, Moved}
@@ -48,7 +48,7 @@ module _ (S : AnyNode → NodeState) where
   told_more heirs n guests guests' more_ logs logs' dones dones' l done t guests_are end slot logs_are dones_are = record {
     count = ap length logs_are ∙ length-append logs (l ∷ []) ∙ ap (λ k. k + 1) t.count;
     flags = ap length dones_are ∙ length-append dones (done ∷ []) ∙ ap (λ k. k + 1) t.flags;
-    slots_are = ap (map (λ (x : NodeLog). x.slot)) logs_are ∙ map-append (λ (x : NodeLog). x.slot) logs (l ∷ []) ∙ ap (λ xs. xs ++ l.slot ∷ []) t.slots_are ∙ ap (λ k. range_with_len 0 n ++ k ∷ []) slot ∙ sym (numbers_then n);
+    slots_are = ap (map (λ (x : NodeLog). x.slot)) logs_are ∙ map-append (λ (x : NodeLog). x.slot) logs (l ∷ []) ∙ ap (λ xs. xs ++ l.slot ∷ []) t.slots_are ∙ ap (λ k. range_with_len 0 n ++ k ∷ []) slot ∙ sym (places_more n);
     told = λ i x at. ⊎_elim
         (λ (old : (i < length logs) × (slice_get logs i ≡ Some x)).
         subst (λ d. TellsEnd S (length_at heirs i) i guests' x.last d) (flag_was i old.0)

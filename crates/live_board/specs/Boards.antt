@@ -1,5 +1,5 @@
 -- What contracts see of a board over the gates, and for which records it stands.
-use Rattle.std.specs.Prelude.{◌≡◌, ℕ, ◌≤◌, List, [], length, Option, if◌then◌else◌}
+use Rattle.std.specs.Prelude.{◌≡◌, ℕ, ◌≤◌, Bool, List, [], length, Option, if◌then◌else◌}
 use Rattle.std.specs.List.{list_all, range_with_len}
 use Rattle.change_board.specs.Steps.{Room}
 use Rattle.live_board.specs.Behind.{IsShallow}
@@ -15,14 +15,15 @@ use Rattle.txn_records.specs.Records.{IsRecord}
 use Rattle.txn_records.specs.declared.entry.Entry.{Entry}
 
 -- the record of its change's seat; the nodes whose seats that took in for good; for what there is room; how many
--- earlier nodes a line may have; which node took over the state of each; how often its door found each cell empty; and
--- what it keeps of its last scan
+-- earlier nodes a line may have; which node took over the state of each; in which places, by slot, a removed node lies;
+-- how often its door found each cell empty; and what it keeps of its last scan
 pub record BoardSeen : Type 0 where
   pub entries : List Entry
   pub nodes : List NodeView
   pub room : Room
   pub lines : ℕ
   pub heirs : List (Option ℕ)
+  pub stored : List Bool
   pub missed : List ℕ
   pub last : Option (List (Option ℕ))
 

@@ -1,5 +1,5 @@
 -- What a board keeps: removed nodes, by slot, and empty lists for the pasts of nodes to be made.
-use Rattle.std.specs.Prelude.{◌≡◌, ℕ, ◌≤◌, List, length, slice_get, Option, Some}
+use Rattle.std.specs.Prelude.{◌≡◌, ℕ, ◌≤◌, Bool, false, List, map, length, slice_get, slice_index_or, slice_set, Option, Some, None, is_some}
 use Rattle.atomic_table.specs.Seated.{TableId}
 use Rattle.live_board.specs.declared.blank.Blank.{Blank}
 use Rattle.live_hall.specs.Houses.{FitsCell}
@@ -8,6 +8,18 @@ use Rattle.live_hall.specs.declared.guest.Guest.{Guest}
 -- each node that lies there has its slot, and it and its line are of these gates
 abbrev pub AreKept : TableId → List (Option Guest) → Type 0
 AreKept gates kept = (n : ℕ) (x : Guest) → slice_get kept n ≡ Some (Some x) → FitsCell gates n x
+
+-- in which places one lies, by slot
+abbrev pub stored : List (Option Guest) → List Bool
+stored kept = map is_some kept
+
+abbrev pub is_stored : List Bool → ℕ → Bool
+is_stored places n = slice_index_or places n false
+
+-- and none in the place of the slot, if there is one
+abbrev pub without : List Bool → Option ℕ → List Bool
+without places None = places
+without places (Some n) = slice_set places n false
 
 -- there are enough lists, each with room for so many nodes
 pub record HaveRoom (blanks : List Blank) (nodes lines : ℕ) : Type 0 where

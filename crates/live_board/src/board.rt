@@ -1,17 +1,23 @@
 //! The board over the gates and the hall.
 
-ghost use Rattle.std.specs.Prelude.{◌≡◌, ℕ, ◌<◌, ◌++◌, [], List, false, length, IfOk, IsTrue, OnErr, OnOk};
+ghost use Rattle.std.specs.Prelude.{◌≡◌, ℕ, ◌+◌, ◌<◌, ◌≤◌, ◌∷◌, ◌++◌, [], List, false, true, length, slice_set, IfOk, IsTrue, OnErr, OnOk};
 ghost use Rattle.change_board.specs.Collecting.{Collects};
+ghost use Rattle.change_board.specs.Making.{Makes};
 ghost use Rattle.change_board.specs.Scans.{AddsScan, Found, scan_entries};
 ghost use Rattle.change_board.specs.Sights.{Sight};
+ghost use Rattle.change_board.specs.Steps.{HasRoomToMake, less_one};
+ghost use Rattle.config_graph.specs.declared.TheConstants.{MAX_NODES};
 ghost use Rattle.live_board.specs.Boards.{StandsLive, taken_in};
+ghost use Rattle.live_board.specs.Keeping.{is_stored, without};
 ghost use Rattle.live_board.specs.Standing as standing;
 ghost use Rattle.live_board.specs.Turning.{Reached};
+ghost use Rattle.quiesce_core.specs.declared.event.Event.TheVariants as event;
 ghost use Rattle.txn_gate.specs.Seats.{IsChangeSeatOf, change_in, collected_in, record_of, table_of_change};
 ghost use Rattle.txn_law.specs.Views.{is_among, nothing_done};
 ghost use Rattle.txn_records.specs.Entries.{config_of};
-ghost use Rattle.txn_records.specs.Records.{AreAllNoted, IsRecordCut};
+ghost use Rattle.txn_records.specs.Records.{Adds, AreAllNoted, IsRecordCut, May};
 ghost use Rattle.txn_records.specs.declared.entry.Entry.{Entry};
+ghost use Rattle.txn_records.specs.declared.entry.Entry.TheVariants.{Did};
 
 use crate::blank::Blank;
 use crate::collecting::collect;
@@ -63,7 +69,7 @@ pub struct LiveBoard<'g, J: Named, R: Wait + Copy, T: Turnstile> {
 impl<'g, J: Named, R: Wait + Copy, T: Turnstile> Model for LiveBoard<'g, J, R, T> {
     ghost use Rattle.std.specs.Prelude.{◌≡◌, option_map};
     ghost use Rattle.live_board.specs.Boards.{BoardSeen};
-    ghost use Rattle.live_board.specs.Keeping.{AreKept, HaveRoom};
+    ghost use Rattle.live_board.specs.Keeping.{AreKept, HaveRoom, stored};
     ghost use Rattle.txn_gate.specs.Seats.{IsChangeSeatOf, collected_in, record_of};
 
     ghost Value = { BoardSeen };
@@ -74,6 +80,7 @@ impl<'g, J: Named, R: Wait + Copy, T: Turnstile> Model for LiveBoard<'g, J, R, T
       room = record { nodes = b.seat.spare; sources = b.sources };
       lines = b.lines;
       heirs = b.heirs.items;
+      stored = stored b.kept.items;
       missed = b.door;
       last = option_map (λ v. v.items) b.last;
     } };
@@ -98,7 +105,8 @@ impl<'g, J: Named, R: Wait + Copy, T: Turnstile> LiveBoard<'g, J, R, T> {
         requires here { IsChangeSeatOf seat gates.now }
         requires named { J.gates ≡ gates.now.words.shared.table_id }
         requires fresh { (change_in seat ≡ nothing_done) × (collected_in seat ≡ []) × (seat.spare ≡ 0) }
-        ensures { ⟦<LiveBoard<'g, J, R, T> as Board>⟧.stands_for result [] }
+        ensures record { ⟦<LiveBoard<'g, J, R, T> as Board>⟧.stands_for result [] }
+        ensures missed { result.missed ≡ door }
     {
         LiveBoard {
             rt,
@@ -168,14 +176,32 @@ impl<'g, J: Named, R: Wait + Copy, T: Turnstile> Board for LiveBoard<'g, J, R, T
         self.last = None;
     }
 
-    fn remove(&mut self, slot: u32) {
+    /// The node is kept from then on, where there is a place for it, and lies in the hall no longer.
+    fn remove(&mut self, slot: u32)
+        requires may { (r : List Entry) × StandsLive self.old r × May r (event.Remove slot) }
+        ensures board { Adds StandsLive self.old self.new (Did (event.Remove slot) ∷ []) }
+        ensures room { self.new.room ≡ self.old.room }
+        ensures stored { self.new.stored ≡ slice_set self.old.stored slot true }
+    {
         self.gates.remove(&mut self.seat, slot);
         let guest = await_guest(&self.rt, &mut self.door, slot);
         put_away(&mut self.kept, &mut self.door, slot, guest);
         self.last = None;
     }
 
-    fn reserve(&mut self, nodes: u32) -> Result<(), NoMemory> {
+    /// Each node made so far, and each of these, has a place then in which it is kept once it is removed.
+    fn reserve(&mut self, nodes: u32) -> Result<(), NoMemory>
+        requires few { (r : List Entry) × StandsLive self.old r × (length (config_of r).slots + nodes ≤ MAX_NODES) }
+        ensures nodes { OnOk result (nodes ≤ self.new.room.nodes) }
+        ensures sources { OnOk result
+            ((r : List Entry) → StandsLive self.old r → length (config_of r).slots ≤ self.new.room.sources) }
+        ensures board { Adds StandsLive self.old self.new [] }
+        ensures kept_nodes { self.old.room.nodes ≤ self.new.room.nodes }
+        ensures kept_sources { self.old.room.sources ≤ self.new.room.sources }
+        ensures places { OnOk result
+            ((r : List Entry) → StandsLive self.old r → length (config_of r).slots + nodes ≤ length self.new.stored) }
+        ensures stored { (n : ℕ) → is_stored self.new.stored n ≡ is_stored self.old.stored n }
+    {
         let made = self.seat.made().nodes;
         // the nodes that were made since may be the next of a line too
         let more = made > self.sources;
@@ -195,7 +221,15 @@ impl<'g, J: Named, R: Wait + Copy, T: Turnstile> Board for LiveBoard<'g, J, R, T
         self.gates.reserve(&mut self.seat, nodes)
     }
 
-    fn make(&mut self, node: Node, from: Option<u32>) {
+    /// The node in slot `from` is taken from its place, if it lies there, or else from the hall.
+    fn make(&mut self, node: Node, from: Option<u32>)
+        requires may { (r : List Entry) × StandsLive self.old r
+            × May r (event.Make (length (config_of r).slots) node from) }
+        requires room { HasRoomToMake self.old.room from }
+        ensures board { Makes StandsLive self.old self.new node from }
+        ensures room { self.new.room ≡ less_one self.old.room }
+        ensures stored { self.new.stored ≡ without self.old.stored from }
+    {
         let made = self.seat.made();
         let guest = make_guest(
             &self.rt,
@@ -223,6 +257,7 @@ impl<'g, J: Named, R: Wait + Copy, T: Turnstile> Board for LiveBoard<'g, J, R, T
             × (self.new.entries ≡ self.old.entries ++ scan_entries begins s.moved sights found)
             × Reached ⟦<AnyNode as Component>⟧.state J.gates (config_of self.old.entries) begins s.moved sights
             self.old.missed self.new.missed) }
+        ensures stored { self.new.stored ≡ self.old.stored }
     {
         if self.short.load(Ordering::SeqCst) {
             return Err(AllocError);

@@ -1,8 +1,8 @@
 //! What a board keeps: removed nodes, by slot, and empty lists for the pasts of nodes to be made.
 
-ghost use Rattle.std.specs.Prelude.{◌≡◌, ℕ, ◌+◌, ◌<◌, ◌≤◌, IfOk, IfSome, OnOk, length};
+ghost use Rattle.std.specs.Prelude.{◌≡◌, ℕ, ◌+◌, ◌<◌, ◌≤◌, Some, true, IfOk, IfSome, OnOk, length, slice_set};
 ghost use Rattle.config_graph.specs.declared.TheConstants.{MAX_NODES};
-ghost use Rattle.live_board.specs.Keeping.{AreKept, HaveRoom};
+ghost use Rattle.live_board.specs.Keeping.{AreKept, HaveRoom, is_stored, stored, without};
 ghost use Rattle.live_hall.specs.Houses.{FitsCell};
 
 use crate::blank::Blank;
@@ -29,7 +29,9 @@ pub fn await_guest<J: Named, R: Wait>(rt: &R, door: &mut Door<J, R>, slot: u32) 
 /// Makes a place for the removed node of each slot below this.
 pub fn make_places<J: Named>(kept: &mut Vec<Option<Guest>>, slots: u32) -> Result<(), NoMemory>
     requires { AreKept J.gates kept.old.items }
-    ensures { AreKept J.gates kept.new.items }
+    ensures kept { AreKept J.gates kept.new.items }
+    ensures stored { (n : ℕ) → is_stored (stored kept.new.items) n ≡ is_stored (stored kept.old.items) n }
+    ensures enough { OnOk result (slots ≤ length kept.new.items) }
 {
     for _ in kept.len()..slots as usize {
         kept.push(None)?;
@@ -48,6 +50,7 @@ pub fn put_away<J: Named, R: Wait>(
     requires fits { FitsCell J.gates slot guest }
     requires kept { AreKept J.gates kept.old.items }
     ensures kept { AreKept J.gates kept.new.items }
+    ensures stored { stored kept.new.items ≡ slice_set (stored kept.old.items) slot true }
     ensures door { door.new ≡ door.old }
 {
     let at = slot as usize;
@@ -63,6 +66,7 @@ fn taken_out<J: Named>(kept: &mut Vec<Option<Guest>>, slot: u32) -> Option<Guest
     requires { AreKept J.gates kept.old.items }
     ensures fits { IfSome result (FitsCell J.gates slot) }
     ensures kept { AreKept J.gates kept.new.items }
+    ensures stored { stored kept.new.items ≡ without (stored kept.old.items) (Some slot) }
 {
     let at = slot as usize;
     if at < kept.len() {
@@ -83,6 +87,7 @@ pub fn take_back<J: Named, R: Wait>(
     requires kept { AreKept J.gates kept.old.items }
     ensures fits { FitsCell J.gates slot result }
     ensures kept { AreKept J.gates kept.new.items }
+    ensures stored { stored kept.new.items ≡ without (stored kept.old.items) (Some slot) }
 {
     match taken_out::<J>(kept, slot) {
         Some(guest) => guest,

@@ -3,7 +3,7 @@
 ghost use Rattle.std.specs.Prelude.{◌≡◌, ℕ, ◌<◌, ◌≤◌, List, None, Option, Some, [], length};
 ghost use Rattle.change_board.specs.Sights.{Sight};
 ghost use Rattle.live_board.specs.Behind.{IsShallow};
-ghost use Rattle.live_board.specs.Keeping.{AreKept, HaveRoom};
+ghost use Rattle.live_board.specs.Keeping.{AreKept, HaveRoom, stored, without};
 ghost use Rattle.live_board.specs.Making.{Made};
 ghost use Rattle.live_hall.specs.Houses.{FitsCell};
 ghost use Rattle.quiesce_core.specs.Legal.{CanMake};
@@ -78,6 +78,7 @@ pub fn make_guest<J: Named, R: Wait>(
         × IsShallow (config_of (record_of seat.old)) sources lines × ((k : ℕ) → from ≡ Some k → k < sources)
         × (sources ≤ length (config_of (record_of seat.old)).slots) }
     ensures kept { AreKept J.gates kept.new.items }
+    ensures stored { stored kept.new.items ≡ without (stored kept.old.items) from }
     ensures room { (lines : ℕ) → HaveRoom blanks.old.items seat.old.spare lines
         → HaveRoom blanks.new.items seat.new.spare lines }
     ensures made { (sights : List Sight) × Made gates.now seat.old seat.new node.now from sights result }

@@ -2,7 +2,7 @@
 
 ghost use Rattle.std.specs.Prelude.{◌≡◌, ℕ, ◌+◌, ◌≤◌, IfOk, OnOk, length};
 ghost use Rattle.config_graph.specs.declared.TheConstants.{MAX_NODES};
-ghost use Rattle.live_board.specs.Keeping.{AreKept, HaveRoom};
+ghost use Rattle.live_board.specs.Keeping.{AreKept, HaveRoom, is_stored, stored};
 ghost use Rattle.live_board.specs.Lengths.{length_at};
 
 use crate::blank::Blank;
@@ -26,6 +26,8 @@ pub fn make_room<J: Named>(
     requires few { made + nodes ≤ MAX_NODES }
     requires kept { AreKept J.gates kept.old.items }
     ensures kept { AreKept J.gates kept.new.items }
+    ensures stored { (n : ℕ) → is_stored (stored kept.new.items) n ≡ is_stored (stored kept.old.items) n }
+    ensures places { OnOk result (made + nodes ≤ length kept.new.items) }
     ensures heirs { (n : ℕ) → length_at heirs.new.items n ≡ length_at heirs.old.items n }
     ensures longer { length heirs.old.items ≤ length heirs.new.items }
     ensures enough { OnOk result (made ≤ length heirs.new.items) }
