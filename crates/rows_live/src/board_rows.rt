@@ -25,7 +25,7 @@ use std::test::Fail;
 use txn_gate::{ChangeSeat, Gates};
 
 /// A teller that moves between two accounts, and a source whose items go through a buffer.
-const SYSTEM: &str = "component teller(int n) { require move; }
+pub(crate) const SYSTEM: &str = "component teller(int n) { require move; }
 component branch { provide move; require from, to; }
 component account(int b) { provide post; }
 component source(int n) { require out; }

@@ -9,5 +9,7 @@ mod door_rows;
 mod guests;
 #[cfg(test)]
 mod hand_rows;
+#[cfg(test)]
+mod scan_rows;
 
 pub use guests::sink;
