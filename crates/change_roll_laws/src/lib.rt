@@ -4,4 +4,4 @@
 
 mod laws;
 
-pub use laws::there_is_one_roll;
+pub use laws::{there_is_a_roll, there_is_one_roll};
