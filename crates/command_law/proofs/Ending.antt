@@ -14,7 +14,7 @@ use Rattle.report_writing.specs.Reports.{report_text}
 use Rattle.command_words.specs.declared.words.Command.{Command}
 use Rattle.command_words.specs.declared.words.Command.TheVariants as commands
 use Rattle.command_law.specs.Known.{AsksOf, HasNoForm}
-use Rattle.command_law.specs.Schedules.{rounds}
+use Rattle.command_law.specs.Schedules.{rounds, threads, IsReportBy}
 use Rattle.command_law.specs.declared.query.Query.{Query}
 use Rattle.command_law.specs.declared.query.Cut.TheVariants as cuts
 use Rattle.command_law.specs.declared.query.Query.TheVariants as queries
@@ -111,6 +111,7 @@ failed_file files (commands.Plan file call target) fetches own text answer told 
 failed_file files (commands.Parts file call target) fetches own text answer told is =
     let fault = description_fault file (queries.Change cuts.InParts call target) answer.given own text answer.answer is in
     (file, refl, ap failed_names answer.is ∙ fault.0, fault.1)
+failed_file files (commands.Roll file run rounds_of_part call target) fetches own text answer told is = absurd answer
 failed_file files (commands.Replay file name) fetches own text (inl answer) told is =
     let fault = script_fault name answer.given own text answer.answer is in
     (name, inr refl, ap failed_names answer.is ∙ fault.0, fault.1)
@@ -121,13 +122,15 @@ failed_file files (commands.Upgrade file) fetches own text answer told is =
     let fault = report_fault file answer.given own text answer.answer is in
     (file, refl, ap failed_names answer.is ∙ fault.0, fault.1)
 failed_file files (commands.Step name) fetches own text answer told is =
-    scripts.failed_file rounds report_text files name fetches own text (script_ends rounds report_text files name fetches own text answer told) is
+    scripts.failed_file (IsReportBy rounds) report_text files name fetches own text (script_ends (IsReportBy rounds) report_text files name fetches own text answer told) is
+failed_file files (commands.Live name workers) fetches own text answer told is =
+    scripts.failed_file (IsReportBy threads) report_text files name fetches own text (script_ends (IsReportBy threads) report_text files name fetches own text answer told) is
 failed_file files (commands.Check name file) fetches own text answer told is =
     checks.failed_file files name file fetches own text (check_ends files name file fetches own text answer told) is
 failed_file files (commands.Big lanes) fetches own text answer told is =
     let show = summary_text lanes in
     let made = Some (made_files lanes) in
-    let found = scripts.failed_file rounds show made script_name answer.within own text (script_ends rounds show made script_name answer.within own text answer.answer answer.told) is in
+    let found = scripts.failed_file (IsReportBy rounds) show made script_name answer.within own text (script_ends (IsReportBy rounds) show made script_name answer.within own text answer.answer answer.told) is in
     absurd (no_name found.0 (sym answer.none_failed ∙ found.2))
   where
     no_name : (name : List ℕ) → [] ≡ name ∷ [] → ⊥
@@ -144,6 +147,7 @@ any_failed files (commands.Plan file call target) fetches own text answer told s
     description_failed file (queries.Change cuts.Whole call target) answer.given own text answer.answer (λ none. some (ap failed_names answer.is ∙ none))
 any_failed files (commands.Parts file call target) fetches own text answer told some =
     description_failed file (queries.Change cuts.InParts call target) answer.given own text answer.answer (λ none. some (ap failed_names answer.is ∙ none))
+any_failed files (commands.Roll file run rounds_of_part call target) fetches own text answer told some = absurd answer
 any_failed files (commands.Replay file name) fetches own text (inl answer) told some =
     events_failed name answer.given own text answer.answer (λ none. some (ap failed_names answer.is ∙ none))
 any_failed files (commands.Replay file name) fetches own text (inr answer) told some =
@@ -151,7 +155,9 @@ any_failed files (commands.Replay file name) fetches own text (inr answer) told 
 any_failed files (commands.Upgrade file) fetches own text answer told some =
     report_failed file answer.given own text answer.answer (λ none. some (ap failed_names answer.is ∙ none))
 any_failed files (commands.Step name) fetches own text answer told some =
-    scripts.any_failed rounds report_text files name fetches own text (script_ends rounds report_text files name fetches own text answer told) some
+    scripts.any_failed (IsReportBy rounds) report_text files name fetches own text (script_ends (IsReportBy rounds) report_text files name fetches own text answer told) some
+any_failed files (commands.Live name workers) fetches own text answer told some =
+    scripts.any_failed (IsReportBy threads) report_text files name fetches own text (script_ends (IsReportBy threads) report_text files name fetches own text answer told) some
 any_failed files (commands.Check name file) fetches own text answer told some =
     checks.any_failed files name file fetches own text (check_ends files name file fetches own text answer told) some
 any_failed files (commands.Big lanes) fetches own text answer told some = absurd (some (ap failed_names answer.is))

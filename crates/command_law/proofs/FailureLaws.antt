@@ -12,7 +12,7 @@ use Rattle.command_answers.specs.Answers.{Answer, Refusal, refusal, description,
 use Rattle.command_answers.specs.Summaries.{summary_text}
 use Rattle.command_words.specs.declared.words.Command.{Command}
 use Rattle.command_words.specs.declared.words.Command.TheVariants as commands
-use Rattle.command_law.specs.Schedules.{rounds}
+use Rattle.command_law.specs.Schedules.{rounds, threads, IsReportBy}
 use Rattle.command_law.specs.declared.fetched.Fetched.TheVariants.{Held, TooLong, Failed}
 use Rattle.command_law.specs.declared.query.Cut.TheVariants as cuts
 use Rattle.command_law.specs.declared.query.Query.{Query}
@@ -181,7 +181,7 @@ held name bytes fetches later here = subst (λ fs. Contains fs (fetch_of name (H
 
 -- no fetch of a made file failed
 not_unread : (lanes : ℕ) (answer : Answer) → OfMadeFiles lanes answer → (file : List ℕ) → answer ≢ refusal (read_fault file)
-not_unread lanes answer made file is = by made.made (of_refusal lanes made.made (read_fault file) (sym made.is ∙ is)) (from_script rounds (summary_text lanes) script_name made.own made.made made.course)
+not_unread lanes answer made file is = by made.made (of_refusal lanes made.made (read_fault file) (sym made.is ∙ is)) (from_script (IsReportBy rounds) (summary_text lanes) script_name made.own made.made made.course)
   where
     of_refusal : (n : ℕ) (a : Answer) (why : Refusal) → in_summary n a ≡ refusal why → a ≡ refusal why
     of_refusal n (refusal other) why same = same
@@ -202,10 +202,10 @@ not_unread lanes answer made file is = by made.made (of_refusal lanes made.made 
     clash other none one = cc
 
     by : (a : Answer) → a ≡ refusal (read_fault file)
-        → OfStep rounds (summary_text lanes) script_name made.own (status_of a) (shown_text (summary_text lanes) a) ⊎ (a ≡ refusal no_memory) → ⊥
+        → OfStep (IsReportBy rounds) (summary_text lanes) script_name made.own (status_of a) (shown_text (summary_text lanes) a) ⊎ (a ≡ refusal no_memory) → ⊥
     by a same (inl of) =
-        let unread = failed_file rounds (summary_text lanes) (Some (made_files lanes)) script_name made.own (status_of a) (shown_text (summary_text lanes) a)
-        (script_ends rounds (summary_text lanes) (Some (made_files lanes)) script_name made.own (status_of a) (shown_text (summary_text lanes) a) of made.told) (ap status_of same) in
+        let unread = failed_file (IsReportBy rounds) (summary_text lanes) (Some (made_files lanes)) script_name made.own (status_of a) (shown_text (summary_text lanes) a)
+        (script_ends (IsReportBy rounds) (summary_text lanes) (Some (made_files lanes)) script_name made.own (status_of a) (shown_text (summary_text lanes) a) of made.told) (ap status_of same) in
         clash unread.0 made.none_failed unread.2
     by a same (inr short) = cc (same, short)
 
@@ -222,6 +222,7 @@ of_words knows words _ _ (asked (commands.Plan file call target) fetches answer 
     of_query (NamesFile knows (WasHeld fetches) words) file (queries.Change cuts.Whole call target) fetches answer (commands.Plan file call target, asks, refl) course
 of_words knows words _ _ (asked (commands.Parts file call target) fetches answer asks course) =
     of_query (NamesFile knows (WasHeld fetches) words) file (queries.Change cuts.InParts call target) fetches answer (commands.Parts file call target, asks, refl) course
+of_words knows words _ _ (asked (commands.Roll file run rounds_of_part call target) fetches answer asks course) = absurd course
 of_words knows words _ _ (asked (commands.Replay file name) fetches answer asks course) =
     let Named = NamesFile knows (WasHeld fetches) words in
     let refuse = λ (ws : List (List ℕ)). refusal (script name ws) in
@@ -253,3 +254,11 @@ of_words knows words _ _ (asked (commands.Step name) fetches answer asks course)
     (λ bytes fs a here then_. of_step Named (RefusesScript bytes) refuse (IsScript bytes) (λ lines. FollowsLines (behind (running rounds)) begun (lines_of_script lines.lines)) fs a (other_script Named name)
     (λ lines gs b is rest. of_aim Named (running rounds) begun (lines_of_script lines.lines) gs b
     (λ file used. (commands.Step name, asks, inr (bytes, lines, held name bytes fetches fs here, is, used))) rest) then_) course
+of_words knows words _ _ (asked (commands.Live name workers) fetches answer asks course) =
+    let Named = NamesFile knows (WasHeld fetches) words in
+    let refuse = λ (ws : List (List ℕ)). refusal (script name ws) in
+    let Then = λ (bytes : List ℕ). After (RefusesScript bytes) refuse (IsScript bytes) (λ lines. FollowsLines (behind (running threads)) begun (lines_of_script lines.lines)) in
+    of_fetch Named name file_limit refuse Then fetches answer (commands.Live name workers, asks, inl refl) (other_script Named name)
+    (λ bytes fs a here then_. of_step Named (RefusesScript bytes) refuse (IsScript bytes) (λ lines. FollowsLines (behind (running threads)) begun (lines_of_script lines.lines)) fs a (other_script Named name)
+    (λ lines gs b is rest. of_aim Named (running threads) begun (lines_of_script lines.lines) gs b
+    (λ file used. (commands.Live name workers, asks, inr (bytes, lines, held name bytes fetches fs here, is, used))) rest) then_) course

@@ -14,7 +14,7 @@ use Rattle.change_script.specs.EventFiles.{IsEventFile, IsFirstFault}
 use Rattle.report_types.specs.declared.report.Report.{Report}
 use Rattle.report_texts.specs.Stages.{IsReportFault}
 use Rattle.report_texts.specs.declared.error.ReportFault.{ReportFault}
-use Rattle.command_law.specs.Schedules.{rounds}
+use Rattle.command_law.specs.Schedules.{rounds, threads, IsReportBy}
 use Rattle.command_law.specs.Commands.{TellsReport}
 use Rattle.command_words.specs.declared.words.TopCall.{TopCall}
 use Rattle.command_answers.specs.declared.status.Status.{Status}
@@ -333,16 +333,19 @@ module _ (knows : Command → Bool) (seen : Run) (run : Ran knows seen) where
           absurd (ok_denied (sym ((of_one seen.files seen.taken seen.taken' file (queries.Change cuts.Whole call target) run.fetches run.own run.text status.Denied with_denial answer is run.told took).gives.0)))
       of (commands.Parts file call target) asks answer is took =
           absurd (ok_denied (sym ((of_one seen.files seen.taken seen.taken' file (queries.Change cuts.InParts call target) run.fetches run.own run.text status.Denied with_denial answer is run.told took).gives.0)))
+      of (commands.Roll file run_first rounds_of_part call target) asks answer is took = absurd answer
       of (commands.Replay file name) asks (inl s) is took = absurd (script_not_given seen.files seen.taken seen.taken' name s.given run.own run.text status.Denied with_denial s.answer is)
       of (commands.Replay file name) asks (inr r) is took =
           (file, name, asks, of_replay seen.files seen.taken seen.taken' file name run.fetches run.own run.text status.Denied with_denial r is run.told took)
       of (commands.Upgrade file) asks answer is took = absurd (report_not_denied seen.files seen.taken seen.taken' file answer.given run.own run.text answer.answer is)
       of (commands.Step name) asks answer is took =
-          absurd (ending.not_denied rounds report_text seen.files name run.fetches run.own run.text (script_ends rounds report_text seen.files name run.fetches run.own run.text answer run.told) is)
+          absurd (ending.not_denied (IsReportBy rounds) report_text seen.files name run.fetches run.own run.text (script_ends (IsReportBy rounds) report_text seen.files name run.fetches run.own run.text answer run.told) is)
+      of (commands.Live name workers) asks answer is took =
+          absurd (ending.not_denied (IsReportBy threads) report_text seen.files name run.fetches run.own run.text (script_ends (IsReportBy threads) report_text seen.files name run.fetches run.own run.text answer run.told) is)
       of (commands.Check name file) asks answer is took =
           absurd (checks.not_denied seen.files name file run.fetches run.own run.text (check_ends seen.files name file run.fetches run.own run.text answer run.told) is)
       of (commands.Big lanes) asks answer is took =
-          absurd (ending.not_denied rounds (summary_text lanes) (Some (made_files lanes)) script_name answer.within run.own run.text (big_ends lanes run.fetches run.own run.text answer) is)
+          absurd (ending.not_denied (IsReportBy rounds) (summary_text lanes) (Some (made_files lanes)) script_name answer.within run.own run.text (big_ends lanes run.fetches run.own run.text answer) is)
 
       own : (fetches : List Fetch) (s : Status) (text : List ℕ) → AnswersCommand knows seen.words fetches s text → s ≡ status.Denied
           → ((command : Command) → AsksOf knows seen.words command → Answer command fetches s text → s ≡ status.Denied
@@ -377,6 +380,7 @@ module _ (knows : Command → Bool) (seen : Run) (run : Ran knows seen) where
           let each = subst (AllByRecursion (Gave seen.files)) answer.is told in
           let query = queries.Change cuts.InParts call target in
           inl (file, query, asks, of_refusal seen.files seen.taken seen.taken' file query answer.given own text answer.answer is each.0 took)
+      of (commands.Roll file run_first rounds_of_part call target) fetches own text asks answer is told took = absurd answer
       of (commands.Replay file name) fetches own text asks (inl s) is told took = absurd (script_not_description seen.files seen.taken seen.taken' name s.given own text s.answer is)
       of (commands.Replay file name) fetches own text asks (inr r) is told took =
           let each = subst (AllByRecursion (Gave seen.files)) r.is told in
@@ -389,11 +393,13 @@ module _ (knows : Command → Bool) (seen : Run) (run : Ran knows seen) where
       of (commands.Upgrade file) fetches own text asks answer is told took =
           absurd (report_not_description seen.files seen.taken seen.taken' file answer.given own text answer.answer is)
       of (commands.Step name) fetches own text asks answer is told took =
-          inr (inl (name, asks, ending.line_refused rounds report_text seen.files name fetches seen.taken seen.taken' own text (script_ends rounds report_text seen.files name fetches own text answer told) is took))
+          inr (inl (rounds, name, asks, ending.line_refused (IsReportBy rounds) report_text seen.files name fetches seen.taken seen.taken' own text (script_ends (IsReportBy rounds) report_text seen.files name fetches own text answer told) is took))
+      of (commands.Live name workers) fetches own text asks answer is told took =
+          inr (inl (threads, name, (workers, asks), ending.line_refused (IsReportBy threads) report_text seen.files name fetches seen.taken seen.taken' own text (script_ends (IsReportBy threads) report_text seen.files name fetches own text answer told) is took))
       of (commands.Check name file) fetches own text asks answer is told took =
           inr (inr (inl (name, file, asks, checks.line_refused seen.files name file fetches seen.taken seen.taken' own text (check_ends seen.files name file fetches own text answer told) is took)))
       of (commands.Big lanes) fetches own text asks answer is told took =
-          inr (inr (inr (lanes, asks, ending.line_refused rounds (summary_text lanes) (Some (made_files lanes)) script_name answer.within seen.taken seen.taken' own text (big_ends lanes fetches own text answer) is took)))
+          inr (inr (inr (lanes, asks, ending.line_refused (IsReportBy rounds) (summary_text lanes) (Some (made_files lanes)) script_name answer.within seen.taken seen.taken' own text (big_ends lanes fetches own text answer) is took)))
 
       own : (fetches : List Fetch) (s : Status) (text : List ℕ) → AnswersCommand knows seen.words fetches s text → s ≡ status.Description → AllByRecursion (Gave seen.files) fetches
           → seen.taken' ≡ with_bytes seen.taken text → RefusesDescription knows seen
@@ -418,6 +424,7 @@ module _ (knows : Command → Bool) (seen : Run) (run : Ran knows seen) where
           absurd (no_script_status seen.files seen.taken seen.taken' file (queries.Change cuts.Whole call target) answer.given own text answer.answer is)
       of (commands.Parts file call target) fetches own text asks answer is told took =
           absurd (no_script_status seen.files seen.taken seen.taken' file (queries.Change cuts.InParts call target) answer.given own text answer.answer is)
+      of (commands.Roll file run_first rounds_of_part call target) fetches own text asks answer is told took = absurd answer
       of (commands.Replay file name) fetches own text asks (inl s) is told took =
           let each = subst (AllByRecursion (Gave seen.files)) s.is told in
           inl (file, name, asks, of_script_refusal seen.files seen.taken seen.taken' name s.given own text s.answer is each.0 took)
@@ -427,11 +434,13 @@ module _ (knows : Command → Bool) (seen : Run) (run : Ran knows seen) where
           let each = subst (AllByRecursion (Gave seen.files)) answer.is told in
           inr (inl (file, asks, of_report_refusal seen.files seen.taken seen.taken' file answer.given own text answer.answer is each.0 took))
       of (commands.Step name) fetches own text asks answer is told took =
-          inr (inr (inl (name, asks, ending.script_refused rounds report_text seen.files name fetches seen.taken seen.taken' own text (script_ends rounds report_text seen.files name fetches own text answer told) is took)))
+          inr (inr (inl (rounds, name, asks, ending.script_refused (IsReportBy rounds) report_text seen.files name fetches seen.taken seen.taken' own text (script_ends (IsReportBy rounds) report_text seen.files name fetches own text answer told) is took)))
+      of (commands.Live name workers) fetches own text asks answer is told took =
+          inr (inr (inl (threads, name, (workers, asks), ending.script_refused (IsReportBy threads) report_text seen.files name fetches seen.taken seen.taken' own text (script_ends (IsReportBy threads) report_text seen.files name fetches own text answer told) is took)))
       of (commands.Check name file) fetches own text asks answer is told took =
           inr (inr (inr (inl (name, file, asks, checks.refused_file seen.files name file fetches seen.taken seen.taken' own text (check_ends seen.files name file fetches own text answer told) is took))))
       of (commands.Big lanes) fetches own text asks answer is told took =
-          inr (inr (inr (inr (lanes, asks, ending.script_refused rounds (summary_text lanes) (Some (made_files lanes)) script_name answer.within seen.taken seen.taken' own text (big_ends lanes fetches own text answer) is took))))
+          inr (inr (inr (inr (lanes, asks, ending.script_refused (IsReportBy rounds) (summary_text lanes) (Some (made_files lanes)) script_name answer.within seen.taken seen.taken' own text (big_ends lanes fetches own text answer) is took))))
 
       own : (fetches : List Fetch) (s : Status) (text : List ℕ) → AnswersCommand knows seen.words fetches s text → s ≡ status.Script → AllByRecursion (Gave seen.files) fetches
           → seen.taken' ≡ with_bytes seen.taken text → RefusesFile knows seen

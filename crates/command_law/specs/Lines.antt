@@ -128,6 +128,10 @@ abbrev pub IsChangeOf : Cut → Graph → Graph → Answer → Type 0
 IsChangeOf cuts.Whole old new answer = (steps : Plan) × IsPlanOf old new [] steps × (answer ≡ plan old new steps)
 IsChangeOf cuts.InParts old new answer = (ps : List Part) × AreParts old new [] ps × (answer ≡ parts old ps)
 
+-- the answer that is the report of a run of these statements, where this must be so of them and of it
+abbrev pub IsRunAnswer : (List Statement → Report → Type 0) → List Statement → Answer → Type 0
+IsRunAnswer IsReport statements answer = (r : Report) × IsReport statements r × (answer ≡ ran r)
+
 -- the answer to what is wanted, from where the lines lead
 abbrev pub Concludes : Aim → Progress → Answer → Type 0
 Concludes drawing p answer = (g : Graph) × (earlier : List Graph) × (p.graphs ≡ g ∷ earlier) × (answer ≡ graph g)
@@ -135,11 +139,15 @@ Concludes (planning cut) p answer =
     (old new : Graph) × (earlier : List Graph) × (p.graphs ≡ new ∷ old ∷ earlier) × IsChangeOf cut old new answer
 Concludes (replaying events) p answer =
     (g : Graph) × (earlier : List Graph) × (p.graphs ≡ g ∷ earlier) × IsReplayed (started g) events answer
-Concludes (running schedule) p answer = (r : Report) × IsReportBy schedule p.statements r × (answer ≡ ran r)
+Concludes (running schedule) p answer = IsRunAnswer (IsReportBy schedule) p.statements answer
 
 -- what follows behind the lines: nothing of what is wanted is refused, and nothing more is fetched for it
 abbrev pub behind : Aim → Progress → FetchCourse
 behind aim p = Unrefused (Concludes aim p) SaysAlone
+
+-- Of a run it is a report of what is to be done; `behind (running schedule)` is `reporting (IsReportBy schedule)`.
+abbrev pub reporting : (List Statement → Report → Type 0) → Progress → FetchCourse
+reporting IsReport p = Unrefused (IsRunAnswer IsReport p.statements) SaysAlone
 
 -- The course of lines, and behind them of what follows from where they lead. A line that uses a file fetches it, and no
 -- other line fetches anything.

@@ -30,6 +30,7 @@ ghost use Rattle.command_words.specs.declared.words.Command.TheVariants as comma
 ghost use Rattle.command_words.specs.declared.words.TopCall.{TopCall};
 ghost use Rattle.command_law.specs.Descriptions.{HasGraph, IsDescriptionRefusal};
 ghost use Rattle.report_types.specs.declared.report.Report.{Report};
+ghost use Rattle.report_writing.specs.Reports.{report_text};
 ghost use Rattle.report_texts.specs.Stages.{IsReportFault};
 ghost use Rattle.report_texts.specs.declared.error.ReportFault.{ReportFault};
 ghost use Rattle.command_law.specs.Commands.{TellsReport, course_of, course_of_query, course_of_script};
@@ -40,7 +41,7 @@ ghost use Rattle.command_law.specs.Leads.{LeadBy, ScriptLeads, falls_short};
 ghost use Rattle.command_law.specs.OneFile.{DescriptionAnswers, EventsAnswers, ReportAnswers, ScriptAnswers};
 ghost use Rattle.command_law.specs.declared.fetched.Fetched.{Fetched};
 ghost use Rattle.command_law.specs.declared.fetched.Fetched.TheVariants.{Held};
-ghost use Rattle.command_law.specs.Outcomes.{HoldsFile, NamesFile, Ends, WroteFront, Flattened, Parted, Planned, Replayed, RefusesDescription, RefusesFile, MustRefuse, MustRefuseEvents, EndsAsRun, IsRunStatus, EndsAsJudged, IsVerdict, Judged, MustRefuseLine, MustRefuseScript, NothingRefuses, NothingRefusesLines, Ran, RanShowing, SummedUp, EndsAsGiven, MustRefuseReport, NothingRefusesReport, ReadFrom, Upgraded, Wants};
+ghost use Rattle.command_law.specs.Outcomes.{AsksToRun, HoldsFile, NamesFile, Ends, WroteFront, Flattened, Parted, Planned, Replayed, RefusesDescription, RefusesFile, MustRefuse, MustRefuseEvents, EndsAsRun, IsRunStatus, EndsAsJudged, IsVerdict, Judged, MustRefuseLine, MustRefuseScript, NothingRefuses, NothingRefusesLines, RanShowing, SummedUp, EndsAsGiven, MustRefuseReport, NothingRefusesReport, ReadFrom, Upgraded, Wants};
 ghost use Rattle.command_words.specs.BigFiles.{made_files, script};
 ghost use Rattle.command_law.specs.Plans.{RefusesStart, Starts};
 ghost use Rattle.command_law.specs.Queries.{AnswersQuery, IsRefused};
@@ -95,14 +96,14 @@ pub fn want_of_memory_has_its_line()
 /// Unfinished exactly where it names a node that wasn't done and no such change. The two come for no other command.
 pub fn runs_end_by_their_reports()
     ensures ran { (knows : Command → Bool) (r : Run) → Runs knows r
-        → (name : List ℕ) → AsksOf knows r.words (commands.Step name) → IsRunStatus r.status
-        → Ran r.files name r.status r.taken r.taken' }
+        → (schedule : Schedule) (name : List ℕ) → AsksToRun knows r.words schedule name → IsRunStatus r.status
+        → RanShowing schedule report_text r.files name r.status r.taken r.taken' }
     ensures summed { (knows : Command → Bool) (r : Run) → Runs knows r
         → (lanes : ℕ) → AsksOf knows r.words (commands.Big lanes) → IsRunStatus r.status
         → SummedUp lanes r.status r.taken r.taken' }
     ensures only { (knows : Command → Bool) (r : Run) → Runs knows r
         → (r.status ≡ Pending) ⊎ (r.status ≡ Unfinished)
-        → ((name : List ℕ) × AsksOf knows r.words (commands.Step name))
+        → ((schedule : Schedule) × (name : List ℕ) × AsksToRun knows r.words schedule name)
         ⊎ ((lanes : ℕ) × AsksOf knows r.words (commands.Big lanes)) }
     ensures pending { (schedule : Schedule) (show : Report → List ℕ) (files : Option Files) (name : List ℕ)
         (own : Status) (taken taken' : Option (List ℕ))
@@ -197,7 +198,8 @@ pub fn scripts_are_refused_for_their_first_fault()
         → (file : List ℕ) → AsksOf knows r.words (commands.Upgrade file) → MustRefuseReport (files file)
         → Ends r.status Script }
     ensures always_script { (knows : Command → Bool) (r : Run) (files : Files) → Runs knows r → ReadFrom r files
-        → (name : List ℕ) → AsksOf knows r.words (commands.Step name) → MustRefuseScript (files name)
+        → (schedule : Schedule) (name : List ℕ) → AsksToRun knows r.words schedule name
+        → MustRefuseScript (files name)
         → Ends r.status Script }
     ensures always_its_script { (knows : Command → Bool) (r : Run) (files : Files) → Runs knows r → ReadFrom r files
         → (name file : List ℕ) → AsksOf knows r.words (commands.Check name file) → MustRefuseScript (files name)
@@ -223,7 +225,8 @@ pub fn descriptions_are_refused_for_faults_that_hold()
         → MustRefuse query (files file)
         → Ends r.status Description }
     ensures always_line { (knows : Command → Bool) (r : Run) (files : Files) → Runs knows r → ReadFrom r files
-        → (name : List ℕ) → AsksOf knows r.words (commands.Step name) → MustRefuseLine files (files name)
+        → (schedule : Schedule) (name : List ℕ) → AsksToRun knows r.words schedule name
+        → MustRefuseLine files (files name)
         → Ends r.status Description }
     ensures always_its_line { (knows : Command → Bool) (r : Run) (files : Files) → Runs knows r → ReadFrom r files
         → (name file : List ℕ) → AsksOf knows r.words (commands.Check name file) → MustRefuseLine files (files name)
@@ -258,7 +261,7 @@ pub fn what_is_not_refused_is_answered()
         → NothingRefusesReport (files file)
         → Ends r.status Status.Ok }
     ensures complete_script { (knows : Command → Bool) (r : Run) (files : Files) → Runs knows r → ReadFrom r files
-        → (name : List ℕ) → AsksOf knows r.words (commands.Step name)
+        → (schedule : Schedule) (name : List ℕ) → AsksToRun knows r.words schedule name
         → NothingRefusesLines files (files name)
         → EndsAsRun r.status }
     ensures complete_check { (knows : Command → Bool) (r : Run) (files : Files) → Runs knows r → ReadFrom r files
