@@ -1,6 +1,6 @@
 -- Courses from what the parts of the program say: of a description that was fetched, of a file of events, of a script, and where
 -- memory ran out.
-use Rattle.std.proofs.Common.{◌≡◌, ◌∙◌, ℕ, ℤ, List, [], ◌∷◌, ◌++◌, Some, append-nil, codes, refl, sym, ap, subst}
+use Rattle.std.proofs.Common.{◌≡◌, ℕ, ℤ, List, [], ◌∷◌, ◌++◌, Some, append-nil, codes, refl, sym, ap, subst}
 use Rattle.config_graph.specs.Graph.{Graph}
 use Rattle.config_graph.specs.declared.node.Made.{Made}
 use Rattle.darwin_parser.specs.Tree.{Tree}
@@ -93,7 +93,7 @@ module _ (file text : List ℕ) where
   plan_refused :
       (cut : Cut) (call target : TopCall) (words : List (List ℕ)) → RefusesPlan text call target words
       → course_of_query file (queries.Change cut call target) (fetch_of file (Held text) ∷ []) (refusal (description file words))
-  plan_refused cut call target _ (starts_not words is) = start_refused (planning cut) call.top call.args (calls (changes 0 []) target.top target.args ∷ []) words is
+  plan_refused cut call target _ (starts_not words is) = start_refused (planning cut call target) call.top call.args (calls (changes 0 []) target.top target.args ∷ []) words is
   plan_refused cut call target _ (leads_nowhere old _ start (by_text words is)) =
       absurd (readings.never_both text call.top call.args old words start.has_graph (by_text words is))
   plan_refused cut call target _ (leads_nowhere old _ start (descriptions.by_elaboration tree e checked faults)) =
@@ -118,9 +118,9 @@ module _ (file text : List ℕ) where
   query_refused (queries.Replay events) words is = start_refused (replaying events.events) events.name events.args [] words is
 
   plan_given :
-      (cut : Cut) (call target : TopCall) (written : List ℕ) (has : HasChange (IsTextBy cut) text call target written) (what : Answer)
-      → IsChangeOf cut has.old has.new what → course_of_query file (queries.Change cut call target) (fetch_of file (Held text) ∷ []) what
-  plan_given cut call target written has what is =
+      (cut : Cut) (call target : TopCall) (own : Status) (written : List ℕ) (has : HasChange (IsTextBy cut call target own) text call target written) (what : Answer)
+      → IsChangeOf cut call target has.old has.new what → course_of_query file (queries.Change cut call target) (fetch_of file (Held text) ∷ []) what
+  plan_given cut call target own written has what is =
       let tree = has.has_graph.tree in
       let checked = has.has_graph.checked in
       let can = has.has_steps.has_room in
@@ -129,7 +129,7 @@ module _ (file text : List ℕ) where
       read (queries.Change cut call target) tree what checked
       (gives p [] what (start_leads tree call.top call.args has.old has.starts checked)
       (gives (with_called_graph p (changes 0 []) target.top target.args has.new made) [] what (leads_to p tree (changes 0 []) target.top target.args has.new made refl has.has_graph.is (has.old, [], refl, (can, refl)))
-      (concluded (planning cut) (with_called_graph p (changes 0 []) target.top target.args has.new made) what (has.old, has.new, [], refl, is))))
+      (concluded (planning cut call target) (with_called_graph p (changes 0 []) target.top target.args has.new made) what (has.old, has.new, [], refl, is))))
 
   pub query_given :
       (query : Query) (own : Status) (written : List ℕ) → AnswersQuery query text own written
@@ -147,11 +147,11 @@ module _ (file text : List ℕ) where
         has_text = is.1.2;
       }
   query_given (queries.Change cut call target) own written is =
-      let shows = answer_with cut is.1.old is.1.new written is.1.has_steps.is_text in
+      let shows = answer_with cut call target is.old is.new own written is.has_steps.is_text in
       record {
         answer = shows.answer;
-        is = plan_given cut call target written is.1 shows.answer shows.is;
-        has_status = is.0 ∙ shows.has_status;
+        is = plan_given cut call target own written is shows.answer shows.is;
+        has_status = shows.has_status;
         has_text = shows.has_text;
       }
   query_given (queries.Replay events) own written is =

@@ -8,7 +8,7 @@ use Rattle.change_script.specs.ScriptFiles.{IsScript}
 use Rattle.std.specs.Prelude.{Contains}
 use Rattle.base.proofs.ContainsLaws.{Contains-here}
 use Rattle.command_words.specs.BigFiles.{made_files, script_name}
-use Rattle.command_answers.specs.Answers.{Answer, Refusal, refusal, description, script, read_fault, no_memory, help, version, graph, plan, parts, denied, replay, report, consistent, unlawful, ran, summary, status_of}
+use Rattle.command_answers.specs.Answers.{Answer, Refusal, refusal, description, script, read_fault, no_memory, help, version, graph, plan, parts, rolled, denied, replay, report, consistent, unlawful, ran, summary, status_of}
 use Rattle.command_answers.specs.Summaries.{summary_text}
 use Rattle.command_words.specs.declared.words.Command.{Command}
 use Rattle.command_words.specs.declared.words.Command.TheVariants as commands
@@ -41,8 +41,9 @@ no_refusal_of s events _ why (all_steps t settled leads are) same = cc
 
 concludes_well : (aim : Aim) (p : Progress) (answer : Answer) (why : Refusal) → Concludes aim p answer → answer ≢ refusal why
 concludes_well drawing p answer why (g, earlier, graphs, what) same = cc (what, same)
-concludes_well (planning cuts.Whole) p answer why (old, new, earlier, graphs, (steps, is, what)) same = cc (what, same)
-concludes_well (planning cuts.InParts) p answer why (old, new, earlier, graphs, (ps, are, what)) same = cc (what, same)
+concludes_well (planning cuts.Whole call target) p answer why (old, new, earlier, graphs, (steps, is, what)) same = cc (what, same)
+concludes_well (planning cuts.InParts call target) p answer why (old, new, earlier, graphs, (ps, are, what)) same = cc (what, same)
+concludes_well (planning (cuts.Rolled run within) call target) p answer why (old, new, earlier, graphs, (ps, are, given_up, is, what)) same = cc (what, same)
 concludes_well (replaying events) p answer why (g, earlier, graphs, what) same = no_refusal_of (started g) events answer why what same
 concludes_well (running schedule) p answer why (r, is, what) same = cc (what, same)
 
@@ -155,7 +156,7 @@ module _ (Named : List ℕ → Type 0) where
       alone other (inl is) = subst Named (sym is) named
       alone other (inr never) = absurd never
   of_query file (queries.Change cut call target) fetches answer named course =
-      of_aim (planning cut) begun (uses file ∷ calls_of (queries.Change cut call target)) fetches answer (λ other is. alone other is) course
+      of_aim (planning cut call target) begun (uses file ∷ calls_of (queries.Change cut call target)) fetches answer (λ other is. alone other is) course
     where
       alone : (other : List ℕ) → (other ≡ file) ⊎ ⊥ → Named other
       alone other (inl is) = subst Named (sym is) named
@@ -190,6 +191,7 @@ not_unread lanes answer made file is = by made.made (of_refusal lanes made.made 
     of_refusal n (graph g) why same = same
     of_refusal n (plan old new steps) why same = same
     of_refusal n (parts old ps) why same = same
+    of_refusal n (rolled old ps given_up left) why same = same
     of_refusal n (denied number rule) why same = same
     of_refusal n (replay count s settled) why same = same
     of_refusal n (report r) why same = same
@@ -222,7 +224,8 @@ of_words knows words _ _ (asked (commands.Plan file call target) fetches answer 
     of_query (NamesFile knows (WasHeld fetches) words) file (queries.Change cuts.Whole call target) fetches answer (commands.Plan file call target, asks, refl) course
 of_words knows words _ _ (asked (commands.Parts file call target) fetches answer asks course) =
     of_query (NamesFile knows (WasHeld fetches) words) file (queries.Change cuts.InParts call target) fetches answer (commands.Parts file call target, asks, refl) course
-of_words knows words _ _ (asked (commands.Roll file run rounds_of_part call target) fetches answer asks course) = absurd course
+of_words knows words _ _ (asked (commands.Roll file run within call target) fetches answer asks course) =
+    of_query (NamesFile knows (WasHeld fetches) words) file (queries.Change (cuts.Rolled run within) call target) fetches answer (commands.Roll file run within call target, asks, refl) course
 of_words knows words _ _ (asked (commands.Replay file name) fetches answer asks course) =
     let Named = NamesFile knows (WasHeld fetches) words in
     let refuse = λ (ws : List (List ℕ)). refusal (script name ws) in

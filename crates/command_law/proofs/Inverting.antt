@@ -32,12 +32,12 @@ use Rattle.command_law.specs.Lines.{RunLine, uses, calls, does, Progress, begun,
 use Rattle.command_law.specs.OneFile.{DescriptionAnswers, cannot_read, is_too_long, refused, answered, EventsAnswers, cannot_read_events, events_file_too_long, events_file_at_fault, ScriptAnswers, cannot_read_script, script_file_too_long, script_file_at_fault, ReportAnswers, cannot_read_report, report_too_long, report_at_fault, upgraded}
 use Rattle.command_law.specs.Runs.{Written, AnswersWords, asked, Run, Runs}
 use Rattle.command_law.specs.Runs as runs
-use Rattle.command_law.specs.Schedules.{Schedule, rounds, threads, IsReportBy}
-use Rattle.command_law.specs.Outcomes.{AsksToRun}
+use Rattle.command_law.specs.Schedules.{rounds, threads, IsReportBy}
+use Rattle.command_law.specs.Outcomes.{AsksForRun}
 use Rattle.command_law.specs.Scripts.{lines_of_script}
 use Rattle.command_words.proofs.WordsLaws.{one_command}
 use Rattle.command_law.proofs.Courses.{OfQuery, out_of_memory, of_description, from_query}
-use Rattle.command_law.proofs.Wanting.{gives_status}
+use Rattle.command_law.proofs.Wanting.{IsNoRoll, gives_plain, gives_status}
 
 -- ---- the statuses that answers have
 
@@ -157,6 +157,7 @@ shown_text show values.version = version_text
 shown_text show (values.graph g) = text_of (values.graph g)
 shown_text show (values.plan old new steps) = text_of (values.plan old new steps)
 shown_text show (values.parts old ps) = text_of (values.parts old ps)
+shown_text show (values.rolled old ps given_up left) = text_of (values.rolled old ps given_up left)
 shown_text show (values.denied number rule) = text_of (values.denied number rule)
 shown_text show (values.replay count s settled) = text_of (values.replay count s settled)
 shown_text show (values.report r) = text_of (values.report r)
@@ -198,7 +199,7 @@ Answer commands.Version fetches own text = (own ≡ status.Ok) × (fetches ≡ [
 Answer (commands.Flat file call) fetches own text = OfDescription file (queries.Graph call) fetches own text
 Answer (commands.Plan file call target) fetches own text = OfDescription file (queries.Change cuts.Whole call target) fetches own text
 Answer (commands.Parts file call target) fetches own text = OfDescription file (queries.Change cuts.InParts call target) fetches own text
-Answer (commands.Roll file run rounds_of_part call target) fetches own text = ⊥
+Answer (commands.Roll file run within call target) fetches own text = OfDescription file (queries.Change (cuts.Rolled run within) call target) fetches own text
 Answer (commands.Replay file name) fetches own text = OfScript name fetches own text ⊎ OfReplay file name fetches own text
 Answer (commands.Upgrade file) fetches own text = OfReport file fetches own text
 Answer (commands.Step name) fetches own text = OfStep (IsReportBy rounds) report_text name fetches own text
@@ -252,6 +253,7 @@ shown_as_is values.version = refl
 shown_as_is (values.graph g) = refl
 shown_as_is (values.plan old new steps) = refl
 shown_as_is (values.parts old ps) = refl
+shown_as_is (values.rolled old ps given_up left) = refl
 shown_as_is (values.denied number rule) = refl
 shown_as_is (values.replay count s settled) = refl
 shown_as_is (values.report r) = refl
@@ -269,6 +271,7 @@ summary_shown lanes values.version = (refl, refl)
 summary_shown lanes (values.graph g) = (refl, refl)
 summary_shown lanes (values.plan old new steps) = (refl, refl)
 summary_shown lanes (values.parts old ps) = (refl, refl)
+summary_shown lanes (values.rolled old ps given_up left) = (refl, refl)
 summary_shown lanes (values.denied number rule) = (refl, refl)
 summary_shown lanes (values.replay count s settled) = (refl, refl)
 summary_shown lanes (values.report r) = (refl, refl)
@@ -332,7 +335,7 @@ from_command commands.Version fetches answer course = inl (ap status_of course.1
 from_command (commands.Flat file call) fetches answer course = by_query file (queries.Graph call) fetches answer course
 from_command (commands.Plan file call target) fetches answer course = by_query file (queries.Change cuts.Whole call target) fetches answer course
 from_command (commands.Parts file call target) fetches answer course = by_query file (queries.Change cuts.InParts call target) fetches answer course
-from_command (commands.Roll file run rounds_of_part call target) fetches answer course = absurd course
+from_command (commands.Roll file run within call target) fetches answer course = by_query file (queries.Change (cuts.Rolled run within) call target) fetches answer course
 from_command (commands.Replay file name) _ _ not_fetched = inr refl
 from_command (commands.Replay file name) _ _ (fetched_alone what) = inr refl
 from_command (commands.Replay file name) _ _ failed = inl (inl (record { given = Failed; is = refl; answer = cannot_read_events }))
@@ -427,16 +430,41 @@ of_words knows words command _ _ _ asks (no_memory fetches) = inr refl
 
 -- ---- statuses of answers
 
-pub description_status :
-    (file : List ℕ) (query : Query) (given : Fetched) (own : Status) (text : List ℕ) → DescriptionAnswers file query given own text → Plain own
-description_status file query _ _ _ cannot_read = read_fault
-description_status file query _ _ _ is_too_long = description
-description_status file query _ _ _ (refused text why refuses) = description
-description_status file query _ _ _ (answered text own written gives) = by (gives_status query text own written gives)
+plain_status :
+    (file : List ℕ) (query : Query) → IsNoRoll query → (given : Fetched) (own : Status) (text : List ℕ) → DescriptionAnswers file query given own text → Plain own
+plain_status file query no_roll _ _ _ cannot_read = read_fault
+plain_status file query no_roll _ _ _ is_too_long = description
+plain_status file query no_roll _ _ _ (refused text why refuses) = description
+plain_status file query no_roll _ _ _ (answered text own written gives) = by (gives_plain query no_roll text own written gives)
   where
     by : (own ≡ status.Ok) ⊎ (own ≡ status.Denied) → Plain own
     by (inl is) = rw is well
     by (inr is) = rw is denied
+
+-- a status that an answer of one description may have: a roll may be given up
+data OfDescribed : Status → Type 0 where
+  plainly : (s : Status) → Plain s → OfDescribed s
+  given_up : OfDescribed status.Pending
+
+described_status :
+    (file : List ℕ) (query : Query) (given : Fetched) (own : Status) (text : List ℕ) → DescriptionAnswers file query given own text → OfDescribed own
+described_status file query _ _ _ cannot_read = plainly status.ReadFault read_fault
+described_status file query _ _ _ is_too_long = plainly status.Description description
+described_status file query _ _ _ (refused text why refuses) = plainly status.Description description
+described_status file query _ _ _ (answered text own written gives) = by (gives_status query text own written gives)
+  where
+    by : (own ≡ status.Ok) ⊎ (own ≡ status.Denied) ⊎ (own ≡ status.Pending) → OfDescribed own
+    by (inl is) = rw is (plainly status.Ok well)
+    by (inr (inl is)) = rw is (plainly status.Denied denied)
+    by (inr (inr is)) = rw is given_up
+
+own_described : (own : Status) → OfDescribed own → Own own
+own_described own (plainly _ is) = plain own is
+own_described _ given_up = pending
+
+description_status :
+    (file : List ℕ) (query : Query) (given : Fetched) (own : Status) (text : List ℕ) → DescriptionAnswers file query given own text → Own own
+description_status file query given own text answer = own_described own (described_status file query given own text answer)
 
 pub script_status : (name : List ℕ) (given : Fetched) (own : Status) (text : List ℕ) → EventsAnswers name given own text → Plain own
 script_status name _ _ _ cannot_read_events = read_fault
@@ -467,12 +495,12 @@ check_status name file _ _ _ (of_its_lines bytes parsed fetches answer is follow
 pub command_status : (command : Command) (fetches : List Fetch) (own : Status) (text : List ℕ) → Answer command fetches own text → OfAny own
 command_status commands.Help fetches own text answer = rw answer.0 (of_run status.Ok (plain status.Ok well))
 command_status commands.Version fetches own text answer = rw answer.0 (of_run status.Ok (plain status.Ok well))
-command_status (commands.Flat file call) fetches own text answer = of_run own (plain own (description_status file (queries.Graph call) answer.given own text answer.answer))
-command_status (commands.Plan file call target) fetches own text answer = of_run own (plain own (description_status file (queries.Change cuts.Whole call target) answer.given own text answer.answer))
-command_status (commands.Parts file call target) fetches own text answer = of_run own (plain own (description_status file (queries.Change cuts.InParts call target) answer.given own text answer.answer))
-command_status (commands.Roll file run rounds_of_part call target) fetches own text answer = absurd answer
+command_status (commands.Flat file call) fetches own text answer = of_run own (description_status file (queries.Graph call) answer.given own text answer.answer)
+command_status (commands.Plan file call target) fetches own text answer = of_run own (description_status file (queries.Change cuts.Whole call target) answer.given own text answer.answer)
+command_status (commands.Parts file call target) fetches own text answer = of_run own (description_status file (queries.Change cuts.InParts call target) answer.given own text answer.answer)
+command_status (commands.Roll file run within call target) fetches own text answer = of_run own (description_status file (queries.Change (cuts.Rolled run within) call target) answer.given own text answer.answer)
 command_status (commands.Replay file name) fetches own text (inl answer) = of_run own (plain own (script_status name answer.given own text answer.answer))
-command_status (commands.Replay file name) fetches own text (inr answer) = of_run own (plain own (description_status file (queries.Replay answer.events_file) answer.given own text answer.answer))
+command_status (commands.Replay file name) fetches own text (inr answer) = of_run own (description_status file (queries.Replay answer.events_file) answer.given own text answer.answer)
 command_status (commands.Upgrade file) fetches own text answer = of_run own (plain own (report_status file answer.given own text answer.answer))
 command_status (commands.Step name) fetches own text answer = of_run own (step_status (IsReportBy rounds) report_text name fetches own text answer)
 command_status (commands.Live name workers) fetches own text answer = of_run own (step_status (IsReportBy threads) report_text name fetches own text answer)
@@ -544,29 +572,40 @@ not_run_judged own (before _ is_plain) is = not_run own is_plain is
 not_run_judged _ against (inl is) = cc
 not_run_judged _ against (inr is) = cc
 
--- only the run of a script ends so, fetched or made
+described_not_unfinished : (own : Status) → OfDescribed own → own ≢ status.Unfinished
+described_not_unfinished own (plainly _ is_plain) is = not_unfinished own is_plain is
+described_not_unfinished _ given_up is = cc
+
+-- a roll may be given up
+only_given_up : {A : Type 0} (own : Status) → OfDescribed own → (own ≡ status.Pending) ⊎ (own ≡ status.Unfinished) → (own ≡ status.Pending → A) → A
+only_given_up own may (inl is) then_ = then_ is
+only_given_up own may (inr is) then_ = absurd (described_not_unfinished own may is)
+
+-- only the run of a script ends so, fetched or made, and a roll that is given up
 pub only_scripts :
     (knows : Command → Bool) (words : List (List ℕ)) (command : Command) (fetches : List Fetch) (own : Status) (text : List ℕ)
     → AsksOf knows words command → Answer command fetches own text → (own ≡ status.Pending) ⊎ (own ≡ status.Unfinished)
-    → ((schedule : Schedule) × (name : List ℕ) × AsksToRun knows words schedule name) ⊎ ((lanes : ℕ) × AsksOf knows words (commands.Big lanes))
+    → AsksForRun knows words own
 only_scripts knows words commands.Help fetches own text asks answer is = absurd (not_run own (rw answer.0 well) is)
 only_scripts knows words commands.Version fetches own text asks answer is = absurd (not_run own (rw answer.0 well) is)
 only_scripts knows words (commands.Flat file call) fetches own text asks answer is =
-    absurd (not_run own (description_status file (queries.Graph call) answer.given own text answer.answer) is)
+    absurd (not_run own (plain_status file (queries.Graph call) tt answer.given own text answer.answer) is)
 only_scripts knows words (commands.Plan file call target) fetches own text asks answer is =
-    absurd (not_run own (description_status file (queries.Change cuts.Whole call target) answer.given own text answer.answer) is)
+    absurd (not_run own (plain_status file (queries.Change cuts.Whole call target) tt answer.given own text answer.answer) is)
 only_scripts knows words (commands.Parts file call target) fetches own text asks answer is =
-    absurd (not_run own (description_status file (queries.Change cuts.InParts call target) answer.given own text answer.answer) is)
-only_scripts knows words (commands.Roll file run rounds_of_part call target) fetches own text asks answer is = absurd answer
+    absurd (not_run own (plain_status file (queries.Change cuts.InParts call target) tt answer.given own text answer.answer) is)
+only_scripts knows words (commands.Roll file run within call target) fetches own text asks answer is =
+    only_given_up own (described_status file (queries.Change (cuts.Rolled run within) call target) answer.given own text answer.answer) is
+    (λ pending. inr (inr (pending, file, run, within, call, target, asks)))
 only_scripts knows words (commands.Replay file name) fetches own text asks (inl answer) is =
     absurd (not_run own (script_status name answer.given own text answer.answer) is)
 only_scripts knows words (commands.Replay file name) fetches own text asks (inr answer) is =
-    absurd (not_run own (description_status file (queries.Replay answer.events_file) answer.given own text answer.answer) is)
+    absurd (not_run own (plain_status file (queries.Replay answer.events_file) tt answer.given own text answer.answer) is)
 only_scripts knows words (commands.Upgrade file) fetches own text asks answer is = absurd (not_run own (report_status file answer.given own text answer.answer) is)
 only_scripts knows words (commands.Step name) fetches own text asks answer is = inl (rounds, name, asks)
 only_scripts knows words (commands.Live name workers) fetches own text asks answer is = inl (threads, name, (workers, asks))
 only_scripts knows words (commands.Check name file) fetches own text asks answer is = absurd (not_run_judged own (check_status name file fetches own text answer) is)
-only_scripts knows words (commands.Big lanes) fetches own text asks answer is = inr (lanes, asks)
+only_scripts knows words (commands.Big lanes) fetches own text asks answer is = inr (inl (lanes, asks))
 
 -- only a report is judged so
 pub only_checks :
@@ -575,16 +614,17 @@ pub only_checks :
 only_checks commands.Help fetches own text answer is = absurd (not_unlawful own (rw answer.0 (plain status.Ok well)) is)
 only_checks commands.Version fetches own text answer is = absurd (not_unlawful own (rw answer.0 (plain status.Ok well)) is)
 only_checks (commands.Flat file call) fetches own text answer is =
-    absurd (not_unlawful own (plain own (description_status file (queries.Graph call) answer.given own text answer.answer)) is)
+    absurd (not_unlawful own (description_status file (queries.Graph call) answer.given own text answer.answer) is)
 only_checks (commands.Plan file call target) fetches own text answer is =
-    absurd (not_unlawful own (plain own (description_status file (queries.Change cuts.Whole call target) answer.given own text answer.answer)) is)
+    absurd (not_unlawful own (description_status file (queries.Change cuts.Whole call target) answer.given own text answer.answer) is)
 only_checks (commands.Parts file call target) fetches own text answer is =
-    absurd (not_unlawful own (plain own (description_status file (queries.Change cuts.InParts call target) answer.given own text answer.answer)) is)
-only_checks (commands.Roll file run rounds_of_part call target) fetches own text answer is = absurd answer
+    absurd (not_unlawful own (description_status file (queries.Change cuts.InParts call target) answer.given own text answer.answer) is)
+only_checks (commands.Roll file run within call target) fetches own text answer is =
+    absurd (not_unlawful own (description_status file (queries.Change (cuts.Rolled run within) call target) answer.given own text answer.answer) is)
 only_checks (commands.Replay file name) fetches own text (inl answer) is =
     absurd (not_unlawful own (plain own (script_status name answer.given own text answer.answer)) is)
 only_checks (commands.Replay file name) fetches own text (inr answer) is =
-    absurd (not_unlawful own (plain own (description_status file (queries.Replay answer.events_file) answer.given own text answer.answer)) is)
+    absurd (not_unlawful own (description_status file (queries.Replay answer.events_file) answer.given own text answer.answer) is)
 only_checks (commands.Upgrade file) fetches own text answer is =
     absurd (not_unlawful own (plain own (report_status file answer.given own text answer.answer)) is)
 only_checks (commands.Step name) fetches own text answer is =

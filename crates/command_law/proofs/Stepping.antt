@@ -27,7 +27,7 @@ use Rattle.command_law.specs.Fetches.{Fetch, failed_names, file_limit, Gave, rep
 use Rattle.command_law.specs.Lines.{begun, Progress}
 use Rattle.command_law.specs.OneFile.{cannot_read_script, script_file_too_long, script_file_at_fault, JudgementAnswers, judges_no_file, judges_no_long_file, judges_no_fault, judged}
 use Rattle.command_law.specs.Outcomes as outcomes
-use Rattle.command_law.specs.Outcomes.{AsksToRun, ReadFrom, Ends, HoldsFile, TellsTooLong, IsScriptOf, IsRunStatus, EndsAsRun, IsVerdict, EndsAsJudged, Judged, MustRefuseScript, MustRefuseLine, MustRefuseReport, NothingRefusesLines, NothingRefusesReport}
+use Rattle.command_law.specs.Outcomes.{AsksForRun, AsksToRun, ReadFrom, Ends, HoldsFile, TellsTooLong, IsScriptOf, IsRunStatus, EndsAsRun, IsVerdict, EndsAsJudged, Judged, MustRefuseScript, MustRefuseLine, MustRefuseReport, NothingRefusesLines, NothingRefusesReport}
 use Rattle.command_law.specs.Runs.{Written, whole, stopped, Run}
 use Rattle.command_law.specs.Scripts.{lines_of_script}
 use Rattle.command_law.specs.Ways.{IsTextIn, AreRefused, LeadTo}
@@ -268,21 +268,21 @@ module _ (knows : Command → Bool) (seen : Run) (run : Ran knows seen) where
       by (stopped n short took rose ends) is = absurd (no_run status.WriteFault for_sink (subst IsRunStatus ends is))
 
   pub asked_to_run :
-      (seen.status ≡ status.Pending) ⊎ (seen.status ≡ status.Unfinished)
-      → ((schedule : Schedule) × (name : List ℕ) × AsksToRun knows seen.words schedule name) ⊎ ((lanes : ℕ) × AsksOf knows seen.words (commands.Big lanes))
+      (seen.status ≡ status.Pending) ⊎ (seen.status ≡ status.Unfinished) → AsksForRun knows seen.words seen.status
   asked_to_run is = by run.written is
     where
       own : (fetches : List Fetch) (s : Status) (text : List ℕ) → AnswersCommand knows seen.words fetches s text → (s ≡ status.Pending) ⊎ (s ≡ status.Unfinished)
-          → ((schedule : Schedule) × (name : List ℕ) × AsksToRun knows seen.words schedule name) ⊎ ((lanes : ℕ) × AsksOf knows seen.words (commands.Big lanes))
+          → AsksForRun knows seen.words s
       own _ _ _ (no_form none) (inl is) = absurd (usage_pending is)
       own _ _ _ (no_form none) (inr is) = absurd (usage_unfinished is)
       own _ _ _ (answered_to command fetches s text asks to) is = only_scripts knows seen.words command fetches s text asks to is
       own _ _ _ (no_memory fetches) (inl is) = absurd (memory_pending is)
       own _ _ _ (no_memory fetches) (inr is) = absurd (memory_unfinished is)
 
-      by : Written run.own run.text seen → (seen.status ≡ status.Pending) ⊎ (seen.status ≡ status.Unfinished)
-          → ((schedule : Schedule) × (name : List ℕ) × AsksToRun knows seen.words schedule name) ⊎ ((lanes : ℕ) × AsksOf knows seen.words (commands.Big lanes))
-      by (whole took same ends) is = own run.fetches run.own run.text run.answers (subst (λ s. (s ≡ status.Pending) ⊎ (s ≡ status.Unfinished)) ends is)
+      by : Written run.own run.text seen → (seen.status ≡ status.Pending) ⊎ (seen.status ≡ status.Unfinished) → AsksForRun knows seen.words seen.status
+      by (whole took same ends) is =
+          subst (AsksForRun knows seen.words) (sym ends)
+          (own run.fetches run.own run.text run.answers (subst (λ s. (s ≡ status.Pending) ⊎ (s ≡ status.Unfinished)) ends is))
       by (stopped n short took rose ends) (inl is) = absurd (write_fault_pending (sym ends ∙ is))
       by (stopped n short took rose ends) (inr is) = absurd (write_fault_unfinished (sym ends ∙ is))
 

@@ -29,7 +29,7 @@ use Rattle.command_law.specs.Scripts.{lines_of_script}
 
 abbrev pub aim_of : Query → Aim
 aim_of (queries.Graph call) = drawing
-aim_of (queries.Change cut call target) = planning cut
+aim_of (queries.Change cut call target) = planning cut call target
 aim_of (queries.Replay events) = replaying events.events
 
 -- Of a graph the component is drawn. For a change a run starts with the first component and changes to the second,
@@ -109,8 +109,7 @@ course_of commands.Version = SaysAlone version
 course_of (commands.Flat file call) = course_of_query file (queries.Graph call)
 course_of (commands.Plan file call target) = course_of_query file (queries.Change cuts.Whole call target)
 course_of (commands.Parts file call target) = course_of_query file (queries.Change cuts.InParts call target)
--- it isn't carried out yet: it fetches and answers nothing
-course_of (commands.Roll file run rounds_of_part call target) = λ fetches answer. ⊥
+course_of (commands.Roll file run within call target) = course_of_query file (queries.Change (cuts.Rolled run within) call target)
 course_of (commands.Replay file name) =
     let refuse = λ (words : List (List ℕ)). refusal (script name words) in
     AfterFetch name file_limit refuse

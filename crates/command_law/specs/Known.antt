@@ -13,10 +13,9 @@ AsksOf knows words command = (knows command ≡ true) × Asks words command
 abbrev pub HasNoForm : (Command → Bool) → List (List ℕ) → Type 0
 HasNoForm knows words = (command : Command) → AsksOf knows words command → ⊥
 
--- the commands that run on one thread: all but `live`; `roll` isn't carried out yet
+-- the commands that run on one thread: all but `live`
 abbrev pub on_one_thread : Command → Bool
 on_one_thread (commands.Live script workers) = false
-on_one_thread (commands.Roll file run rounds call target) = false
 on_one_thread command = true
 
 -- the command that runs on threads
@@ -26,5 +25,4 @@ on_threads command = false
 
 -- all commands
 abbrev pub all_commands : Command → Bool
-all_commands (commands.Roll file run rounds call target) = false
 all_commands command = true

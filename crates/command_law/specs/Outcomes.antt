@@ -26,7 +26,7 @@ use Rattle.report_texts.specs.declared.error.ReportFault.{ReportFault}
 use Rattle.command_answers.specs.RefusalLines.{description_line, report_words, script_line, script_words}
 use Rattle.command_law.specs.Commands.{IsJudged, TellsReport}
 use Rattle.command_law.specs.Descriptions.{HasGraph}
-use Rattle.command_law.specs.Plans.{HasChange, IsPartsText, IsPlanText}
+use Rattle.command_law.specs.Plans.{HasChange, IsPartsText, IsPlanText, IsRollText}
 use Rattle.command_law.specs.Replays.{HasReplay}
 use Rattle.command_law.specs.declared.query.Cut.TheVariants as cuts
 use Rattle.command_law.specs.declared.query.Query.{Query}
@@ -51,7 +51,7 @@ MentionsFile Holds commands.Version name = ⊥
 MentionsFile Holds (commands.Flat file call) name = name ≡ file
 MentionsFile Holds (commands.Plan file call target) name = name ≡ file
 MentionsFile Holds (commands.Parts file call target) name = name ≡ file
-MentionsFile Holds (commands.Roll file run rounds_of_part call target) name = name ≡ file
+MentionsFile Holds (commands.Roll file run within call target) name = name ≡ file
 MentionsFile Holds (commands.Replay file events) name = (name ≡ file) ⊎ (name ≡ events)
 MentionsFile Holds (commands.Upgrade file) name = name ≡ file
 MentionsFile Holds (commands.Step script) name =
@@ -215,6 +215,8 @@ abbrev pub Wants : (Command → Bool) → Option Files → List (List ℕ) → L
 Wants knows files words file (queries.Graph call) = AsksOf knows words (commands.Flat file call)
 Wants knows files words file (queries.Change cuts.Whole call target) = AsksOf knows words (commands.Plan file call target)
 Wants knows files words file (queries.Change cuts.InParts call target) = AsksOf knows words (commands.Parts file call target)
+Wants knows files words file (queries.Change (cuts.Rolled run within) call target) =
+    AsksOf knows words (commands.Roll file run within call target)
 Wants knows files words file (queries.Replay events_file) =
     (name bytes : List ℕ) × AsksOf knows words (commands.Replay file name) × HoldsFile files name bytes
     × (length bytes ≤ file_limit) × IsEventFile bytes events_file
@@ -223,6 +225,14 @@ Wants knows files words file (queries.Replay events_file) =
 abbrev pub AsksToRun : (Command → Bool) → List (List ℕ) → Schedule → List ℕ → Type 0
 AsksToRun knows words rounds name = AsksOf knows words (commands.Step name)
 AsksToRun knows words threads name = (workers : ℕ) × AsksOf knows words (commands.Live name workers)
+
+-- the words ask for what may end so: the run of a script, their own or a made one; or a roll, which may be given up
+abbrev pub AsksForRun : (Command → Bool) → List (List ℕ) → Status → Type 0
+AsksForRun knows words own =
+    ((schedule : Schedule) × (name : List ℕ) × AsksToRun knows words schedule name)
+    ⊎ ((lanes : ℕ) × AsksOf knows words (commands.Big lanes))
+    ⊎ ((own ≡ status.Pending) × (file : List ℕ) × (run within : ℕ) × (call target : TopCall)
+    × AsksOf knows words (commands.Roll file run within call target))
 
 -- The file holds a description that has a graph for the component and its arguments, and the text of this graph was
 -- written.
@@ -251,6 +261,14 @@ Planned = WroteChange IsPlanText
 -- the text of its parts
 abbrev pub Parted : Option Files → List ℕ → TopCall → TopCall → Option (List ℕ) → Option (List ℕ) → Type 0
 Parted = WroteChange IsPartsText
+
+-- that of its roll, which ended so
+abbrev pub Rolled : ℕ → ℕ → Option Files → List ℕ → TopCall → TopCall → Status → Option (List ℕ) → Option (List ℕ) → Type 0
+Rolled run within files file call target own = WroteChange (IsRollText run within call target own) files file call target
+
+-- a roll may end with the status: all parts were carried out, or one was given up
+abbrev pub IsRollStatus : Status → Type 0
+IsRollStatus own = (own ≡ status.Ok) ⊎ (own ≡ status.Pending)
 
 -- The file of events is one, and what its events come to over the description was written, with this status.
 pub record Replayed (files : Option Files) (file events : List ℕ) (own : Status) (taken taken' : Option (List ℕ)) : Type 0 where
