@@ -87,7 +87,7 @@ pub fn still<H: Shelf, K: Sink>(
         → NothingRefusesLines files (files name) → NothingRefusesReport (files file)
         → EndsAsJudged result }
     // Words that name no file, as those of `big`, fetch none: the shelf is as it was.
-    ensures untouched { AskForNoFile (map string_bytes words.now) → shelf.new ≡ shelf.old }
+    ensures untouched { AskForNoFile on_one_thread (map string_bytes words.now) → shelf.new ≡ shelf.old }
 {
     made_runs_are_not_refused();
     run_words(alloc, words, shelf, out)

@@ -9,9 +9,7 @@ mod writing;
 pub use command_answers::Status;
 pub use commands::still;
 pub use program::run_program;
-
-/// What is written where the words have none of the forms.
-const USAGE: &str = "usage\n";
+pub use writing::{write_answer, write_no_memory, write_text, write_usage};
 
 /// What `--help` writes: the commands with their forms and what each does, and the statuses.
 const HELP: &str =
