@@ -107,6 +107,8 @@ help_text =
     ++ codes "darwin_run flat FILE NAME INT*                write the graph of a component\n"
     ++ codes "darwin_run plan FILE NAME INT* -- NAME INT*   write the change from the first to the second\n"
     ++ codes "darwin_run parts FILE NAME INT* -- NAME INT*  write the parts into which that change is cut\n"
+    ++ codes "darwin_run roll FILE NUM NUM NAME INT* -- NAME INT*\n"
+    ++ codes "                                              start the first, run it, and carry those parts out\n"
     ++ codes "darwin_run replay FILE EVENTS                 apply events to the system that they start\n"
     ++ codes "darwin_run step SCRIPT                        run a script on one thread, write its report\n"
     ++ codes "darwin_run check SCRIPT REPORT                say whether a report can be one of this machine\n"

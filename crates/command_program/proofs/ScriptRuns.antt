@@ -123,6 +123,7 @@ as_it_is lanes values.version none = refl
 as_it_is lanes (values.graph g) none = refl
 as_it_is lanes (values.plan old new steps) none = refl
 as_it_is lanes (values.parts old ps) none = refl
+as_it_is lanes (values.rolled old ps given_up left) none = refl
 as_it_is lanes (values.denied number rule) none = refl
 as_it_is lanes (values.replay count s settled) none = refl
 as_it_is lanes (values.report r) none = refl

@@ -88,7 +88,28 @@ fn run_command<H: Shelf, K: Sink>(
                 &Query::Change(Cut::InParts, call, target),
             ),
         ),
-        Command::Roll { .. } => write_usage(out),
+        Command::Roll {
+            file,
+            run,
+            rounds,
+            call,
+            target,
+        } => write_answer(
+            out,
+            answer_description(
+                alloc,
+                shelf,
+                file.as_str(),
+                &Query::Change(
+                    Cut::Rolled {
+                        run,
+                        within: rounds,
+                    },
+                    call,
+                    target,
+                ),
+            ),
+        ),
         Command::Replay { file, events } => write_answer(
             out,
             answer_replay(alloc, shelf, file.as_str(), events.as_str()),

@@ -39,9 +39,10 @@ returns-in-Parts-clause-runs g c words asks =
 
 pub returns-in-Roll-clause-runs : goal.returns-in-Roll-clause-runs
 returns-in-Roll-clause-runs g c words asks =
-    let seen = run_of g.H.Shelf g.K.Sink words c.args.shelf.now c.args.shelf.now c.args.out.now c.write_usage.new.out c.write_usage.result in
-    runs_alone on_one_thread seen (refusal usage) refl (no_form (not_known on_one_thread words _ refl (rw c.in-Roll.is at asks)))
-    (c.write_usage.ensures seen)
+    let seen = run_of g.H.Shelf g.K.Sink words c.args.shelf.now c.answer_description-in-Roll.new.shelf c.args.out.now c.write_answer-in-Roll.new.out c.write_answer-in-Roll.result in
+    runs_by on_one_thread seen (commands.Roll c.in-Roll.file c.in-Roll.run' c.in-Roll.rounds c.in-Roll.call c.in-Roll.target) c.answer_description-in-Roll.result
+    (refl, rw c.in-Roll.is at asks)
+    (rw c.as_str-in-Roll.ensures at c.answer_description-in-Roll.ensures.answers) (c.write_answer-in-Roll.ensures seen)
 
 pub returns-in-Replay-clause-runs : goal.returns-in-Replay-clause-runs
 returns-in-Replay-clause-runs g c words asks =
@@ -63,9 +64,9 @@ returns-in-Step-clause-runs g c words asks =
 
 pub returns-in-Live-clause-runs : goal.returns-in-Live-clause-runs
 returns-in-Live-clause-runs g c words asks =
-    let seen = run_of g.H.Shelf g.K.Sink words c.args.shelf.now c.args.shelf.now c.args.out.now c.write_usage-in-Live.new.out c.write_usage-in-Live.result in
+    let seen = run_of g.H.Shelf g.K.Sink words c.args.shelf.now c.args.shelf.now c.args.out.now c.write_usage.new.out c.write_usage.result in
     runs_alone on_one_thread seen (refusal usage) refl (no_form (not_known on_one_thread words _ refl (rw c.in-Live.is at asks)))
-    (c.write_usage-in-Live.ensures seen)
+    (c.write_usage.ensures seen)
 
 pub returns-in-Check-clause-runs : goal.returns-in-Check-clause-runs
 returns-in-Check-clause-runs g c words asks =
@@ -73,8 +74,8 @@ returns-in-Check-clause-runs g c words asks =
     runs_by on_one_thread seen (commands.Check c.in-Check.script c.in-Check.report) c.answer_check.result (refl, rw c.in-Check.is at asks)
     (rw (c.as_str-in-Check.ensures, c.as_str-in-Check-2.ensures) at c.answer_check.ensures.answers) (c.write_answer-in-Check.ensures seen)
 
-pub returns-clause-runs : goal.returns-clause-runs
-returns-clause-runs g c words asks =
+pub returns-in-Big-clause-runs : goal.returns-in-Big-clause-runs
+returns-in-Big-clause-runs g c words asks =
     let seen = run_of g.H.Shelf g.K.Sink words c.args.shelf.now c.args.shelf.now c.args.out.now c.write_answer-in-Big.new.out c.write_answer-in-Big.result in
     runs_unfetched on_one_thread seen (commands.Big c.in-Big.lanes) c.answer_big.result refl (refl, rw c.in-Big.is at asks)
     c.answer_big.ensures (c.write_answer-in-Big.ensures seen)

@@ -14,6 +14,7 @@ returns g c =
       flattened = λ file call asks. laws.flattens on_one_thread _ run file call (refl, asks);
       planned = λ file call target asks. laws.plans on_one_thread _ run file call target (refl, asks);
       parted = λ file call target asks. laws.cuts_up on_one_thread _ run file call target (refl, asks);
+      rolled = λ file k within call target asks. c.rolls_end_by_their_rounds.ensures.rolled on_one_thread _ run file k within call target (refl, asks);
       replayed = λ file events asks. laws.replays on_one_thread _ run file events (refl, asks);
       upgraded = λ file asks. laws.upgrades on_one_thread _ run file (refl, asks);
       ran = λ name asks. laws.runs on_one_thread _ run rounds name (refl, asks);
