@@ -1,6 +1,6 @@
 -- To be believed (docs/definitions.md).
 -- What the program answers, as values: why it refuses, or what it was asked for; and the status and the text of each.
-use Rattle.std.specs.Prelude.{◌≡◌, ◌==◌, ℕ, if◌then◌else◌, List, [], ◌∷◌, ◌++◌, codes}
+use Rattle.std.specs.Prelude.{◌≡◌, ◌==◌, ℕ, if◌then◌else◌, List, [], ◌∷◌, ◌++◌, codes, Option, None, Some}
 use Rattle.config_graph.specs.Graph.{Graph}
 use Rattle.config_graph.specs.GraphText.{graph_text}
 use Rattle.quiesce_core.specs.State.{State}
@@ -12,7 +12,7 @@ use Rattle.report_writing.specs.Reports.{report_text}
 use Rattle.report_types.specs.declared.report.Report.{Report}
 use Rattle.command_answers.specs.declared.status.Status.{Status}
 use Rattle.command_answers.specs.declared.status.Status.TheVariants as status
-use Rattle.command_answers.specs.PartTexts.{parts_text}
+use Rattle.command_answers.specs.PartTexts.{parts_text, roll_text}
 use Rattle.command_answers.specs.Summaries.{summary_text}
 use Rattle.command_answers.specs.RefusalLines.{read_fault_line, description_line, script_line, denied_line}
 
@@ -38,6 +38,8 @@ pub data Answer : Type 0 where
   plan : (old new : Graph) → Plan → Answer
   -- the parts of a change from the graph
   parts : (old : Graph) → List Part → Answer
+  -- the same, with the part that was given up in a run, if any, and the graph that was left
+  rolled : (old : Graph) → List Part → (given_up : Option ℕ) → (left : Graph) → Answer
   -- the number of an event, from 1, and the first of its rules that fails
   denied : (number rule : ℕ) → Answer
   -- how many events led to the state, and the slots of the nodes that are settled in it
@@ -63,6 +65,11 @@ refusal_status no_memory = status.NoMemory
 abbrev pub run_status : ℕ → Status
 run_status n = if n == 7 then status.Pending else if n == 8 then status.Unfinished else status.Ok
 
+-- a roll ends by whether a part was given up
+abbrev pub roll_status : Option ℕ → Status
+roll_status None = status.Ok
+roll_status (Some number) = status.Pending
+
 -- the status with which the program ends where the answer is written
 abbrev pub status_of : Answer → Status
 status_of (refusal why) = refusal_status why
@@ -71,6 +78,7 @@ status_of version = status.Ok
 status_of (graph g) = status.Ok
 status_of (plan old new steps) = status.Ok
 status_of (parts old ps) = status.Ok
+status_of (rolled old ps given_up left) = roll_status given_up
 status_of (denied number rule) = status.Denied
 status_of (replay count s settled) = status.Ok
 status_of (report r) = status.Ok
@@ -99,6 +107,8 @@ help_text =
     ++ codes "darwin_run flat FILE NAME INT*                write the graph of a component\n"
     ++ codes "darwin_run plan FILE NAME INT* -- NAME INT*   write the change from the first to the second\n"
     ++ codes "darwin_run parts FILE NAME INT* -- NAME INT*  write the parts into which that change is cut\n"
+    ++ codes "darwin_run roll FILE NUM NUM NAME INT* -- NAME INT*\n"
+    ++ codes "                                              start the first, run it, and carry those parts out\n"
     ++ codes "darwin_run replay FILE EVENTS                 apply events to the system that they start\n"
     ++ codes "darwin_run step SCRIPT                        run a script on one thread, write its report\n"
     ++ codes "darwin_run check SCRIPT REPORT                say whether a report can be one of this machine\n"
@@ -137,6 +147,7 @@ text_of version = version_text
 text_of (graph g) = graph_text g
 text_of (plan old new steps) = plan_text old new steps
 text_of (parts old ps) = parts_text old ps
+text_of (rolled old ps given_up left) = roll_text old ps given_up left
 text_of (denied number rule) = denied_line number rule
 text_of (replay count s settled) = replay_text count s settled
 text_of (report r) = report_text r

@@ -13,6 +13,6 @@ pub use lines::{
     denied_line, description_line, description_too_long_line, read_fault_line, report_line,
     script_line, script_too_long_line,
 };
-pub use part_texts::parts_text;
+pub use part_texts::{parts_text, push_roll_end};
 pub use status::Status;
 pub use summary::summary_text;

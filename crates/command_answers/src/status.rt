@@ -1,7 +1,7 @@
 //! How a run of the program ends.
 
 ghost use Rattle.std.specs.Prelude.{◌≡◌};
-ghost use Rattle.command_answers.specs.Answers.{run_status};
+ghost use Rattle.command_answers.specs.Answers.{roll_status, run_status};
 ghost use Rattle.command_answers.specs.Statuses.{status_number};
 
 /// How a run ends.
@@ -45,6 +45,16 @@ impl Status {
             7 => Status::Pending,
             8 => Status::Unfinished,
             _ => Status::Ok,
+        }
+    }
+
+    /// How a roll ends of which this part was given up, if any.
+    pub fn of_roll(given_up: Option<u32>) -> Status
+        ensures { result ≡ roll_status given_up }
+    {
+        match given_up {
+            None => Status::Ok,
+            Some(_) => Status::Pending,
         }
     }
 }

@@ -82,10 +82,7 @@ fn use_checked(
             status: Status::Ok,
             text: graph_text_of(alloc, checked, call)?,
         }),
-        Query::Change(cut, call, target) => Ok(Answer {
-            status: Status::Ok,
-            text: change_between(alloc, checked, cut, call, target)?,
-        }),
+        Query::Change(cut, call, target) => change_between(alloc, checked, cut, call, target),
         Query::Replay(events) => replay_over(alloc, checked, events),
     }
 }

@@ -13,6 +13,7 @@ mod plans;
 mod preparing;
 mod replaying;
 mod reports;
+mod rolling;
 mod scripts;
 mod taking;
 mod used_files;

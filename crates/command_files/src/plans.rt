@@ -1,6 +1,7 @@
 //! Changes between components of a description.
 
 ghost use Rattle.std.specs.Prelude.{◌≡◌, ℕ, List, IfOk, IfErr};
+ghost use Rattle.config_graph.specs.Graph.{IsGraph};
 ghost use Rattle.config_graph.specs.Sound.{Sound};
 ghost use Rattle.darwin_types.specs.Checked.{description};
 ghost use Rattle.change_plan.specs.Room.{HasRoomFor};
@@ -10,10 +11,12 @@ ghost use Rattle.command_law.specs.Queries.{IsTextBy};
 ghost use Rattle.command_files.specs.Planning.{IsFull};
 ghost use Rattle.command_answers.specs.DescriptionFaults.{MayRefuse};
 
+use crate::answer::Answer;
 use crate::description::{graph_of, graph_of_call};
+use crate::rolling::roll_between;
 use change_parts::parts;
 use change_plan::{plan, plan_text, require_room};
-use command_answers::{DescriptionFault, parts_text};
+use command_answers::{DescriptionFault, Status, parts_text};
 use command_law::Cut;
 use command_words::TopCall;
 use config_graph::{Graph, Made};
@@ -23,22 +26,23 @@ use std::alloc::Global;
 /// What was made before a start.
 const NOTHING_MADE: Made = Made { nodes: 0, ports: 0 };
 
-/// The text of the change from the graph of one component to that of another.
+/// The change from the graph of one component to that of another, as it is asked for.
 pub fn change_between(
     alloc: Global,
     checked: &Checked,
     cut: &Cut,
     call: &TopCall<'_>,
     target: &TopCall<'_>,
-) -> Result<Vec<u8>, DescriptionFault>
+) -> Result<Answer, DescriptionFault>
     ensures change { (text : List ℕ) → IsChecked text (description checked.now)
-        → IfOk result (λ written. HasChange (IsTextBy cut.now) text call.now target.now written.items) }
+        → IfOk result (λ answer. HasChange (IsTextBy cut.now call.now target.now answer.status) text call.now target.now
+        answer.text.items) }
     ensures refused { (text : List ℕ) → IsChecked text (description checked.now)
         → IfErr result (MayRefuse (RefusesPlan text call.now target.now)) }
 {
     let old = start_call(alloc, checked, call)?;
     let new = graph_of_call(alloc, checked, target)?;
-    steps_between(alloc, cut, &old, &new)
+    change_graphs(alloc, cut, call, target, &old, &new)
 }
 
 /// The graph with which a run can start with a call's component.
@@ -48,6 +52,7 @@ fn start_call(
     call: &TopCall<'_>,
 ) -> Result<Graph, DescriptionFault>
     ensures sound { IfOk result (λ graph. Sound graph) }
+    ensures room { IfOk result (λ graph. HasRoomFor nothing_made graph) }
     ensures starts { (text : List ℕ) → IsChecked text (description checked.now)
         → IfOk result (Starts text call.now.top call.now.args) }
     ensures refused { (text : List ℕ) → IsChecked text (description checked.now)
@@ -80,56 +85,69 @@ pub fn start(
     Ok(graph)
 }
 
-/// The text of the change from one graph to another, where a run has started with the first.
-fn steps_between(
+/// The change from one graph to another, where a run can start with the first.
+fn change_graphs(
     alloc: Global,
     cut: &Cut,
+    call: &TopCall<'_>,
+    target: &TopCall<'_>,
     old: &Graph,
     new: &Graph,
-) -> Result<Vec<u8>, DescriptionFault>
+) -> Result<Answer, DescriptionFault>
     requires old { Sound old.now }
+    requires room { HasRoomFor nothing_made old.now }
     requires new { Sound new.now }
-    ensures steps { IfOk result (λ written. HasSteps (IsTextBy cut.now) old.now new.now written.items) }
+    ensures steps { IfOk result (λ answer. HasSteps (IsTextBy cut.now call.now target.now answer.status) old.now new.now
+        answer.text.items) }
     ensures full { IfErr result (MayRefuse (IsFull old.now new.now (made_of_graph old.now))) }
 {
-    let made = Made {
-        nodes: old.node_count(),
-        ports: old.port_count(),
-    };
     match cut {
-        Cut::Whole => plan_between(alloc, old, new, made),
-        Cut::InParts => parts_between(alloc, old, new, made),
+        Cut::Whole => Ok(answer_with(plan_between(alloc, old, new)?)),
+        Cut::InParts => Ok(answer_with(parts_between(alloc, old, new)?)),
+        Cut::Rolled { run, within } => {
+            roll_between(alloc, old, new, call, target, *run, *within)
+        }
     }
 }
 
-/// The text of the plan from one graph to another, where so much was made.
-fn plan_between(
-    alloc: Global,
-    old: &Graph,
-    new: &Graph,
-    made: Made,
-) -> Result<Vec<u8>, DescriptionFault>
-    ensures steps { made ≡ made_of_graph old.now
-        → IfOk result (λ written. HasSteps IsPlanText old.now new.now written.items) }
-    ensures full { IfErr result (MayRefuse (IsFull old.now new.now made)) }
+/// The answer that is a text that was asked for.
+fn answer_with(text: Vec<u8>) -> Answer
+    ensures status { result.status ≡ Status.Ok }
+    ensures text { result.text ≡ text }
 {
-    let steps = plan(alloc, old, new, &[], made)?;
+    Answer {
+        status: Status::Ok,
+        text,
+    }
+}
+
+/// How much a start with the graph makes.
+pub fn made_of(graph: &Graph) -> Made
+    ensures made { result ≡ made_of_graph graph.now }
+    ensures graph { IsGraph graph.now }
+{
+    Made {
+        nodes: graph.node_count(),
+        ports: graph.port_count(),
+    }
+}
+
+/// The text of the plan from one graph to another, where a run has started with the first.
+fn plan_between(alloc: Global, old: &Graph, new: &Graph) -> Result<Vec<u8>, DescriptionFault>
+    ensures steps { IfOk result (λ written. HasSteps IsPlanText old.now new.now written.items) }
+    ensures full { IfErr result (MayRefuse (IsFull old.now new.now (made_of_graph old.now))) }
+{
+    let steps = plan(alloc, old, new, &[], made_of(old))?;
     Ok(plan_text(alloc, old, new, &steps)?)
 }
 
 /// The text of its parts.
-fn parts_between(
-    alloc: Global,
-    old: &Graph,
-    new: &Graph,
-    made: Made,
-) -> Result<Vec<u8>, DescriptionFault>
+fn parts_between(alloc: Global, old: &Graph, new: &Graph) -> Result<Vec<u8>, DescriptionFault>
     requires old { Sound old.now }
     requires new { Sound new.now }
-    ensures steps { made ≡ made_of_graph old.now
-        → IfOk result (λ written. HasSteps IsPartsText old.now new.now written.items) }
-    ensures full { IfErr result (MayRefuse (IsFull old.now new.now made)) }
+    ensures steps { IfOk result (λ written. HasSteps IsPartsText old.now new.now written.items) }
+    ensures full { IfErr result (MayRefuse (IsFull old.now new.now (made_of_graph old.now))) }
 {
-    let parts = parts(alloc, old, new, &[], made)?;
+    let parts = parts(alloc, old, new, &[], made_of(old))?;
     Ok(parts_text(alloc, old, parts.items())?)
 }

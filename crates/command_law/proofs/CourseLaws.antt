@@ -1,6 +1,6 @@
 -- Courses from what the parts of the program say: of a description that was fetched, of a file of events, of a script, and where
 -- memory ran out.
-use Rattle.std.proofs.Common.{◌≡◌, ◌∙◌, ℕ, ℤ, List, [], ◌∷◌, ◌++◌, Some, append-nil, codes, refl, sym, ap, subst}
+use Rattle.std.proofs.Common.{◌≡◌, ℕ, ℤ, List, [], ◌∷◌, ◌++◌, Some, append-nil, codes, refl, sym, ap, subst}
 use Rattle.config_graph.specs.Graph.{Graph}
 use Rattle.config_graph.specs.declared.node.Made.{Made}
 use Rattle.darwin_parser.specs.Tree.{Tree}
@@ -26,7 +26,7 @@ use Rattle.command_law.specs.Descriptions.{IsChecked, IsGraphOfCall, IsDescripti
 use Rattle.command_law.specs.Descriptions as descriptions
 use Rattle.command_law.specs.Fetches.{Fetch, fetch_of, report_fetch}
 use Rattle.command_law.specs.Leads.{falls_short, LeadBy, ScriptLeads}
-use Rattle.command_law.specs.Lines.{RunLine, calls, does, GraphUse, draws, starts, changes, Progress, begun, with_description, with_called_graph, with_statement, Allows, by_elaboration, by_deed, CallLeads, Aim, drawing, planning, replaying, running, IsChangeOf, Concludes, behind, FollowsLines, uses}
+use Rattle.command_law.specs.Lines.{RunLine, calls, does, GraphUse, draws, starts, changes, Progress, begun, with_description, with_called_graph, with_statement, Allows, by_elaboration, by_deed, CallLeads, Aim, drawing, planning, replaying, running, IsChangeOf, Concludes, behind, reporting, FollowsLines, uses}
 use Rattle.command_law.specs.Plans.{Starts, RefusesStart, has_no_graph, is_full, HasChange, RefusesPlan, starts_not, leads_nowhere, gets_full, made_of_graph}
 use Rattle.command_law.specs.Queries.{IsRefused, AnswersQuery, IsTextBy}
 use Rattle.command_law.specs.OneFile.{DescriptionAnswers, cannot_read, is_too_long, answered, EventsAnswers, cannot_read_events, events_file_too_long, events_file_at_fault, ScriptAnswers, cannot_read_script, script_file_too_long, script_file_at_fault, ReportAnswers, cannot_read_report, report_too_long, report_at_fault, upgraded, JudgementAnswers, judges_no_file, judges_no_long_file, judges_no_fault, judged}
@@ -93,7 +93,7 @@ module _ (file text : List ℕ) where
   plan_refused :
       (cut : Cut) (call target : TopCall) (words : List (List ℕ)) → RefusesPlan text call target words
       → course_of_query file (queries.Change cut call target) (fetch_of file (Held text) ∷ []) (refusal (description file words))
-  plan_refused cut call target _ (starts_not words is) = start_refused (planning cut) call.top call.args (calls (changes 0 []) target.top target.args ∷ []) words is
+  plan_refused cut call target _ (starts_not words is) = start_refused (planning cut call target) call.top call.args (calls (changes 0 []) target.top target.args ∷ []) words is
   plan_refused cut call target _ (leads_nowhere old _ start (by_text words is)) =
       absurd (readings.never_both text call.top call.args old words start.has_graph (by_text words is))
   plan_refused cut call target _ (leads_nowhere old _ start (descriptions.by_elaboration tree e checked faults)) =
@@ -118,9 +118,9 @@ module _ (file text : List ℕ) where
   query_refused (queries.Replay events) words is = start_refused (replaying events.events) events.name events.args [] words is
 
   plan_given :
-      (cut : Cut) (call target : TopCall) (written : List ℕ) (has : HasChange (IsTextBy cut) text call target written) (what : Answer)
-      → IsChangeOf cut has.old has.new what → course_of_query file (queries.Change cut call target) (fetch_of file (Held text) ∷ []) what
-  plan_given cut call target written has what is =
+      (cut : Cut) (call target : TopCall) (own : Status) (written : List ℕ) (has : HasChange (IsTextBy cut call target own) text call target written) (what : Answer)
+      → IsChangeOf cut call target has.old has.new what → course_of_query file (queries.Change cut call target) (fetch_of file (Held text) ∷ []) what
+  plan_given cut call target own written has what is =
       let tree = has.has_graph.tree in
       let checked = has.has_graph.checked in
       let can = has.has_steps.has_room in
@@ -129,7 +129,7 @@ module _ (file text : List ℕ) where
       read (queries.Change cut call target) tree what checked
       (gives p [] what (start_leads tree call.top call.args has.old has.starts checked)
       (gives (with_called_graph p (changes 0 []) target.top target.args has.new made) [] what (leads_to p tree (changes 0 []) target.top target.args has.new made refl has.has_graph.is (has.old, [], refl, (can, refl)))
-      (concluded (planning cut) (with_called_graph p (changes 0 []) target.top target.args has.new made) what (has.old, has.new, [], refl, is))))
+      (concluded (planning cut call target) (with_called_graph p (changes 0 []) target.top target.args has.new made) what (has.old, has.new, [], refl, is))))
 
   pub query_given :
       (query : Query) (own : Status) (written : List ℕ) → AnswersQuery query text own written
@@ -147,11 +147,11 @@ module _ (file text : List ℕ) where
         has_text = is.1.2;
       }
   query_given (queries.Change cut call target) own written is =
-      let shows = answer_with cut is.1.old is.1.new written is.1.has_steps.is_text in
+      let shows = answer_with cut call target is.old is.new own written is.has_steps.is_text in
       record {
         answer = shows.answer;
-        is = plan_given cut call target written is.1 shows.answer shows.is;
-        has_status = is.0 ∙ shows.has_status;
+        is = plan_given cut call target own written is shows.answer shows.is;
+        has_status = shows.has_status;
         has_text = shows.has_text;
       }
   query_given (queries.Replay events) own written is =
@@ -322,13 +322,69 @@ pub behind_short : (aim : Aim) (p : Progress) → behind aim p [] (refusal no_me
 behind_short aim p = not_made
 
 -- the report of a run of what a script asks for
+module _ (IsReport : List Statement → Report → Type 0) where
+  pub script_reports :
+      (name : List ℕ) (fetches : List Fetch) (end : Progress) (statements : List Statement) (r : Report) → ScriptLeads name fetches end
+      → end.statements ≡ statements → IsReport statements r → course_of_script (reporting IsReport) name fetches (ran r)
+  script_reports name fetches end statements r leads same is =
+      subst (λ fs. course_of_script (reporting IsReport) name fs (ran r)) (append-nil fetches)
+      (script_leads (reporting IsReport) name fetches [] (ran r) end leads
+      (makes (ran r) [] (ran r) (r, subst (λ ss. IsReport ss r) (sym same) is, refl) (refl, refl)))
+
+  -- or memory runs out behind its lines
+  pub script_reports_short :
+      (name : List ℕ) (fetches : List Fetch) (end : Progress) → ScriptLeads name fetches end → course_of_script (reporting IsReport) name fetches (refusal no_memory)
+  script_reports_short name fetches end leads =
+      subst (λ fs. course_of_script (reporting IsReport) name fs (refusal no_memory)) (append-nil fetches)
+      (script_leads (reporting IsReport) name fetches [] (refusal no_memory) end leads not_made)
+
+  -- and a script that ends early is run no further
+  pub script_unreported :
+      (name : List ℕ) (fetches : List Fetch) (answer : Answer) → course_of_script falls_short name fetches answer
+      → course_of_script (reporting IsReport) name fetches answer
+  script_unreported name fetches answer = script_ends_early (reporting IsReport) (λ p. not_made) name fetches answer
+
+-- by a schedule
 pub script_ran :
     (schedule : Schedule) (name : List ℕ) (fetches : List Fetch) (end : Progress) (statements : List Statement) (r : Report) → ScriptLeads name fetches end
     → end.statements ≡ statements → IsReportBy schedule statements r → course_of_script (behind (running schedule)) name fetches (ran r)
-script_ran schedule name fetches end statements r leads same is =
-    subst (λ fs. course_of_script (behind (running schedule)) name fs (ran r)) (append-nil fetches)
-    (script_leads (behind (running schedule)) name fetches [] (ran r) end leads
-    (makes (ran r) [] (ran r) (r, subst (λ ss. IsReportBy schedule ss r) (sym same) is, refl) (refl, refl)))
+script_ran schedule = script_reports (IsReportBy schedule)
+
+-- what is known of more reports is known of fewer
+module _ (IsReport IsAlso : List Statement → Report → Type 0) (wider : (statements : List Statement) (r : Report) → IsReport statements r → IsAlso statements r) where
+  widen_end : (p : Progress) (fetches : List Fetch) (answer : Answer) → reporting IsReport p fetches answer → reporting IsAlso p fetches answer
+  widen_end p _ _ not_made = not_made
+  widen_end p _ _ (makes what fetches answer is says) = makes what fetches answer (is.0, wider p.statements is.0 is.1, is.2) says
+
+  widen_lines :
+      (p : Progress) (lines : List RunLine) (fetches : List Fetch) (answer : Answer) → FollowsLines (reporting IsReport) p lines fetches answer
+      → FollowsLines (reporting IsAlso) p lines fetches answer
+  widen_lines p [] fetches answer then_ = widen_end p fetches answer then_
+  widen_lines p (uses file ∷ lines) _ _ not_fetched = not_fetched
+  widen_lines p (uses file ∷ lines) _ _ (fetched_alone given) = fetched_alone given
+  widen_lines p (uses file ∷ lines) _ _ failed = failed
+  widen_lines p (uses file ∷ lines) _ _ too_long = too_long
+  widen_lines p (uses file ∷ lines) _ _ (leads_on bytes _ _ not_judged) = leads_on bytes [] (refusal no_memory) not_judged
+  widen_lines p (uses file ∷ lines) _ _ (leads_on bytes _ _ (refused words why)) = leads_on bytes [] (refusal (description file words)) (refused words why)
+  widen_lines p (uses file ∷ lines) _ _ (leads_on bytes _ _ (gives tree fetches answer is follows)) =
+      leads_on bytes fetches answer (gives tree fetches answer is (widen_lines (with_description p file tree) lines fetches answer follows))
+  widen_lines p (calls deed name args ∷ lines) _ _ not_judged = not_judged
+  widen_lines p (calls deed name args ∷ lines) _ _ (refused words why) = refused words why
+  widen_lines p (calls deed name args ∷ lines) _ _ (gives next fetches answer leads follows) =
+      gives next fetches answer leads (widen_lines next lines fetches answer follows)
+  widen_lines p (does what ∷ lines) fetches answer follows = widen_lines (with_statement p what) lines fetches answer follows
+
+  pub reports_widen :
+      (name : List ℕ) (fetches : List Fetch) (answer : Answer) → course_of_script (reporting IsReport) name fetches answer
+      → course_of_script (reporting IsAlso) name fetches answer
+  reports_widen name _ _ not_fetched = not_fetched
+  reports_widen name _ _ (fetched_alone given) = fetched_alone given
+  reports_widen name _ _ failed = failed
+  reports_widen name _ _ too_long = too_long
+  reports_widen name _ _ (leads_on bytes _ _ not_judged) = leads_on bytes [] (refusal no_memory) not_judged
+  reports_widen name _ _ (leads_on bytes _ _ (refused words why)) = leads_on bytes [] (refusal (script name words)) (refused words why)
+  reports_widen name _ _ (leads_on bytes _ _ (gives parsed fetches answer is follows)) =
+      leads_on bytes fetches answer (gives parsed fetches answer is (widen_lines begun (lines_of_script parsed.lines) fetches answer follows))
 
 -- or memory runs out behind its lines
 pub script_ran_short :

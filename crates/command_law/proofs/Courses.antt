@@ -8,7 +8,7 @@ use Rattle.elaborator.specs.Faults.{Faults}
 use Rattle.quiesce_core.specs.Start.{started}
 use Rattle.change_plan.specs.Refusals.{CanPlan, IsRefusal}
 use Rattle.change_script.specs.declared.event_files.EventFile.{EventFile}
-use Rattle.command_answers.specs.Answers.{Answer, ShowsAnswer, refusal, description, read_fault, no_memory, graph, parts, plan, status_of, text_of}
+use Rattle.command_answers.specs.Answers.{Answer, ShowsAnswer, refusal, description, read_fault, no_memory, graph, parts, plan, rolled, status_of, text_of}
 use Rattle.command_words.specs.declared.words.TopCall.{TopCall}
 use Rattle.change_law.specs.Scripts.{more_made}
 use Rattle.command_law.specs.declared.fetched.Fetched.{Fetched}
@@ -24,7 +24,8 @@ use Rattle.command_law.specs.Descriptions as descriptions
 use Rattle.command_law.specs.Fetches.{Fetch, fetch_of}
 use Rattle.command_law.specs.Lines.{GraphUse, draws, starts, changes, Progress, begun, with_description, with_called_graph, Forbids, IsCallRefusal, by_elaboration, by_deed, CallLeads, Aim, drawing, planning, replaying, IsChangeOf, Concludes, behind, FollowsLines}
 use Rattle.command_law.specs.Plans.{Starts, RefusesStart, has_no_graph, is_full, RefusesPlan, starts_not, leads_nowhere, gets_full, nothing_made, made_of_graph}
-use Rattle.command_answers.specs.declared.status.Status.TheVariants as status
+use Rattle.command_answers.specs.declared.status.Status.{Status}
+use Rattle.change_roll_laws.specs.Rolls.{stage_left}
 use Rattle.command_law.specs.Queries.{IsRefused, AnswersQuery, IsTextBy}
 use Rattle.command_law.specs.Replays.{IsReplayed}
 use Rattle.command_law.specs.OneFile.{DescriptionAnswers, cannot_read, is_too_long, answered}
@@ -48,14 +49,26 @@ text_refuses (queries.Change cut call target) text words is = starts_not words (
 text_refuses (queries.Replay events) text words is = has_no_graph words (by_text words is)
 
 -- the status and the text of a change
-shown_text : (cut : Cut) (old new : Graph) (answer : Answer) → IsChangeOf cut old new answer → (status_of answer ≡ status.Ok) × IsTextBy cut old new (text_of answer)
-shown_text cuts.Whole old new answer (steps, is, what) = (ap status_of what, (steps, is, ap text_of what))
-shown_text cuts.InParts old new answer (ps, are, what) = (ap status_of what, (ps, are, ap text_of what))
+shown_text : (cut : Cut) (call target : TopCall) (old new : Graph) (answer : Answer) → IsChangeOf cut call target old new answer
+    → IsTextBy cut call target (status_of answer) old new (text_of answer)
+shown_text cuts.Whole call target old new answer (steps, is, what) = (ap status_of what, (steps, is, ap text_of what))
+shown_text cuts.InParts call target old new answer (ps, are, what) = (ap status_of what, (ps, are, ap text_of what))
+shown_text (cuts.Rolled run within) call target old new answer (ps, are, given_up, is, what) =
+    record { parts = ps; are_parts = are; given_up = given_up; is_roll = is; ended = ap status_of what; is_text = ap text_of what }
 
 -- the answer that has the text of a change
-pub answer_with : (cut : Cut) (old new : Graph) (written : List ℕ) → IsTextBy cut old new written → ShowsAnswer (IsChangeOf cut old new) status.Ok written
-answer_with cuts.Whole old new written (steps, is, same) = record { answer = plan old new steps; is = (steps, is, refl); has_status = refl; has_text = same }
-answer_with cuts.InParts old new written (ps, are, same) = record { answer = parts old ps; is = (ps, are, refl); has_status = refl; has_text = same }
+pub answer_with : (cut : Cut) (call target : TopCall) (old new : Graph) (own : Status) (written : List ℕ) → IsTextBy cut call target own old new written
+    → ShowsAnswer (IsChangeOf cut call target old new) own written
+answer_with cuts.Whole call target old new own written (well, (steps, is, same)) =
+    record { answer = plan old new steps; is = (steps, is, refl); has_status = well; has_text = same }
+answer_with cuts.InParts call target old new own written (well, (ps, are, same)) =
+    record { answer = parts old ps; is = (ps, are, refl); has_status = well; has_text = same }
+answer_with (cuts.Rolled run within) call target old new own written t = record {
+  answer = rolled old t.parts t.given_up (stage_left old t.parts t.given_up);
+  is = (t.parts, t.are_parts, t.given_up, t.is_roll, refl);
+  has_status = t.ended;
+  has_text = t.is_text;
+}
 
 -- the end of lines: memory ran out, or the answer is to what is wanted
 end_of :
@@ -181,13 +194,13 @@ module _ (file text : List ℕ) (tree : Tree) (checked : IsChecked text tree) wh
             (subst (λ m. IsRefusal old new [] m e) made_is (subst (λ g. IsRefusal g new [] made e) (sym (head_is old other [] earlier graphs)) full)))
 
     from_change :
-        (fetches : List Fetch) (answer : Answer) → FollowsLines (behind (planning cut)) started_ (Rattle.command_law.specs.Lines.calls (changes 0 []) target.top target.args ∷ []) fetches answer
+        (fetches : List Fetch) (answer : Answer) → FollowsLines (behind (planning cut call target)) started_ (Rattle.command_law.specs.Lines.calls (changes 0 []) target.top target.args ∷ []) fetches answer
         → Ended file (queries.Change cut call target) text fetches answer
     unfolding used started_
     from_change _ _ not_judged = (refl, short)
     from_change _ _ (refused words why) = (refl, refuses words (change_refused words why))
     from_change _ _ (gives next fetches answer leads then_) =
-        let end = end_of (planning cut) (with_called_graph started_ (changes 0 []) target.top target.args leads.graph leads.made) fetches answer (subst (λ n. FollowsLines (behind (planning cut)) n [] fetches answer) leads.is_next then_) in
+        let end = end_of (planning cut call target) (with_called_graph started_ (changes 0 []) target.top target.args leads.graph leads.made) fetches answer (subst (λ n. FollowsLines (behind (planning cut call target)) n [] fetches answer) leads.is_next then_) in
         (end.0, by end.1)
       where
         new : Graph
@@ -196,33 +209,29 @@ module _ (file text : List ℕ) (tree : Tree) (checked : IsChecked text tree) wh
         can : CanPlan old new [] (made_of_graph old)
         can = subst (λ m. CanPlan old new [] m) made_is (subst (λ g. CanPlan g new [] made) (sym (head_is old leads.allowed.0 [] leads.allowed.1 leads.allowed.2)) leads.allowed.3.0)
 
-        by : (answer ≡ refusal no_memory) ⊎ Concludes (planning cut) (with_called_graph started_ (changes 0 []) target.top target.args leads.graph leads.made) answer → EndsAs file (queries.Change cut call target) text answer
+        by : (answer ≡ refusal no_memory) ⊎ Concludes (planning cut call target) (with_called_graph started_ (changes 0 []) target.top target.args leads.graph leads.made) answer → EndsAs file (queries.Change cut call target) text answer
         by (inl is) = subst (EndsAs file (queries.Change cut call target) text) (sym is) short
         by (inr (o, n, earlier, graphs, what)) =
             let new_is = head_is new n (old ∷ []) (o ∷ earlier) graphs in
             let old_is = head_is old o [] earlier (tail_is new n (old ∷ []) (o ∷ earlier) graphs) in
-            let is = subst (λ g. IsChangeOf cut g new answer) (sym old_is) (subst (λ g. IsChangeOf cut o g answer) (sym new_is) what) in
-            let shows = shown_text cut old new answer is in
-            given answer (
-              shows.0,
-              record {
-                old = old;
-                new = new;
-                starts = start;
-                has_graph = graph_of text started_ tree refl checked (changes 0 []) target.top target.args next leads;
-                has_steps = record { has_room = can; is_text = shows.1 };
-              },
-            )
+            let is = subst (λ g. IsChangeOf cut call target g new answer) (sym old_is) (subst (λ g. IsChangeOf cut call target o g answer) (sym new_is) what) in
+            given answer (record {
+              old = old;
+              new = new;
+              starts = start;
+              has_graph = graph_of text started_ tree refl checked (changes 0 []) target.top target.args next leads;
+              has_steps = record { has_room = can; is_text = shown_text cut call target old new answer is };
+            })
 
   from_plan :
       (cut : Cut) (call target : TopCall) (fetches : List Fetch) (answer : Answer)
-      → FollowsLines (behind (planning cut)) used (calls_of (queries.Change cut call target)) fetches answer → Ended file (queries.Change cut call target) text fetches answer
+      → FollowsLines (behind (planning cut call target)) used (calls_of (queries.Change cut call target)) fetches answer → Ended file (queries.Change cut call target) text fetches answer
   unfolding used started_
   from_plan cut call target _ _ not_judged = (refl, short)
   from_plan cut call target _ _ (refused words why) = (refl, refuses words (starts_not words (start_refused call.top call.args words why)))
   from_plan cut call target _ _ (gives next fetches answer leads then_) =
       from_change cut call target leads.graph leads.made (start_of call.top call.args next leads) (leads.allowed.1 ∙ first_made leads.graph) fetches answer
-      (subst (λ n. FollowsLines (behind (planning cut)) n (Rattle.command_law.specs.Lines.calls (changes 0 []) target.top target.args ∷ []) fetches answer) leads.is_next then_)
+      (subst (λ n. FollowsLines (behind (planning cut call target)) n (Rattle.command_law.specs.Lines.calls (changes 0 []) target.top target.args ∷ []) fetches answer) leads.is_next then_)
 
   pub from_calls :
       (query : Query) (fetches : List Fetch) (answer : Answer) → FollowsLines (behind (aim_of query)) (with_description begun file tree) (calls_of query) fetches answer

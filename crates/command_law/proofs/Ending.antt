@@ -14,7 +14,7 @@ use Rattle.report_writing.specs.Reports.{report_text}
 use Rattle.command_words.specs.declared.words.Command.{Command}
 use Rattle.command_words.specs.declared.words.Command.TheVariants as commands
 use Rattle.command_law.specs.Known.{AsksOf, HasNoForm}
-use Rattle.command_law.specs.Schedules.{rounds}
+use Rattle.command_law.specs.Schedules.{rounds, threads, IsReportBy}
 use Rattle.command_law.specs.declared.query.Query.{Query}
 use Rattle.command_law.specs.declared.query.Cut.TheVariants as cuts
 use Rattle.command_law.specs.declared.query.Query.TheVariants as queries
@@ -26,7 +26,7 @@ use Rattle.command_law.specs.OneFile.{DescriptionAnswers, cannot_read, is_too_lo
 use Rattle.command_law.specs.Runs.{Written, whole, stopped, Run, Runs}
 use Rattle.command_law.specs.Outcomes.{NamesFile, MentionsFile, HoldsFile, Ends, WroteFront}
 use Rattle.command_law.proofs.Inverting.{Answer, of_words, AnswersCommand, no_form, answered_to, no_memory, Ran, from_words, command_status, any_not, not_usage, not_write_fault, not_no_memory}
-use Rattle.command_law.proofs.Statuses.{not_two, ok_read_fault, denied_read_fault, memory_ok, write_fault_ok, unlawful_usage, unlawful_memory, unlawful_write_fault}
+use Rattle.command_law.proofs.Statuses.{not_two, ok_read_fault, denied_read_fault, memory_ok, write_fault_ok, unlawful_usage, unlawful_memory, unlawful_write_fault, pending_read_fault}
 use Rattle.command_law.proofs.Checking.{check_ends}
 use Rattle.command_law.proofs.Checking as checks
 use Rattle.command_law.proofs.ScriptEnds.{script_ends}
@@ -53,9 +53,10 @@ description_fault file query _ _ _ is_too_long is = cc
 description_fault file query _ _ _ (refused text why refuses) is = cc
 description_fault file query _ _ _ (answered text own written gives) is = by (gives_status query text own written gives)
   where
-    by : (own ≡ status.Ok) ⊎ (own ≡ status.Denied) → (failed_names (fetch_of file (Held text) ∷ []) ≡ file ∷ []) × (written ≡ read_fault_line file)
+    by : (own ≡ status.Ok) ⊎ (own ≡ status.Denied) ⊎ (own ≡ status.Pending) → (failed_names (fetch_of file (Held text) ∷ []) ≡ file ∷ []) × (written ≡ read_fault_line file)
     by (inl well) = absurd (not_two own status.Ok status.ReadFault well is ok_read_fault)
-    by (inr denied) = absurd (not_two own status.Denied status.ReadFault denied is denied_read_fault)
+    by (inr (inl denied)) = absurd (not_two own status.Denied status.ReadFault denied is denied_read_fault)
+    by (inr (inr pending)) = absurd (not_two own status.Pending status.ReadFault pending is pending_read_fault)
 
 description_failed :
     (file : List ℕ) (query : Query) (given : Fetched) (own : Status) (text : List ℕ) → DescriptionAnswers file query given own text
@@ -111,6 +112,9 @@ failed_file files (commands.Plan file call target) fetches own text answer told 
 failed_file files (commands.Parts file call target) fetches own text answer told is =
     let fault = description_fault file (queries.Change cuts.InParts call target) answer.given own text answer.answer is in
     (file, refl, ap failed_names answer.is ∙ fault.0, fault.1)
+failed_file files (commands.Roll file run within call target) fetches own text answer told is =
+    let fault = description_fault file (queries.Change (cuts.Rolled run within) call target) answer.given own text answer.answer is in
+    (file, refl, ap failed_names answer.is ∙ fault.0, fault.1)
 failed_file files (commands.Replay file name) fetches own text (inl answer) told is =
     let fault = script_fault name answer.given own text answer.answer is in
     (name, inr refl, ap failed_names answer.is ∙ fault.0, fault.1)
@@ -121,13 +125,15 @@ failed_file files (commands.Upgrade file) fetches own text answer told is =
     let fault = report_fault file answer.given own text answer.answer is in
     (file, refl, ap failed_names answer.is ∙ fault.0, fault.1)
 failed_file files (commands.Step name) fetches own text answer told is =
-    scripts.failed_file rounds report_text files name fetches own text (script_ends rounds report_text files name fetches own text answer told) is
+    scripts.failed_file (IsReportBy rounds) report_text files name fetches own text (script_ends (IsReportBy rounds) report_text files name fetches own text answer told) is
+failed_file files (commands.Live name workers) fetches own text answer told is =
+    scripts.failed_file (IsReportBy threads) report_text files name fetches own text (script_ends (IsReportBy threads) report_text files name fetches own text answer told) is
 failed_file files (commands.Check name file) fetches own text answer told is =
     checks.failed_file files name file fetches own text (check_ends files name file fetches own text answer told) is
 failed_file files (commands.Big lanes) fetches own text answer told is =
     let show = summary_text lanes in
     let made = Some (made_files lanes) in
-    let found = scripts.failed_file rounds show made script_name answer.within own text (script_ends rounds show made script_name answer.within own text answer.answer answer.told) is in
+    let found = scripts.failed_file (IsReportBy rounds) show made script_name answer.within own text (script_ends (IsReportBy rounds) show made script_name answer.within own text answer.answer answer.told) is in
     absurd (no_name found.0 (sym answer.none_failed ∙ found.2))
   where
     no_name : (name : List ℕ) → [] ≡ name ∷ [] → ⊥
@@ -144,6 +150,8 @@ any_failed files (commands.Plan file call target) fetches own text answer told s
     description_failed file (queries.Change cuts.Whole call target) answer.given own text answer.answer (λ none. some (ap failed_names answer.is ∙ none))
 any_failed files (commands.Parts file call target) fetches own text answer told some =
     description_failed file (queries.Change cuts.InParts call target) answer.given own text answer.answer (λ none. some (ap failed_names answer.is ∙ none))
+any_failed files (commands.Roll file run within call target) fetches own text answer told some =
+    description_failed file (queries.Change (cuts.Rolled run within) call target) answer.given own text answer.answer (λ none. some (ap failed_names answer.is ∙ none))
 any_failed files (commands.Replay file name) fetches own text (inl answer) told some =
     events_failed name answer.given own text answer.answer (λ none. some (ap failed_names answer.is ∙ none))
 any_failed files (commands.Replay file name) fetches own text (inr answer) told some =
@@ -151,7 +159,9 @@ any_failed files (commands.Replay file name) fetches own text (inr answer) told 
 any_failed files (commands.Upgrade file) fetches own text answer told some =
     report_failed file answer.given own text answer.answer (λ none. some (ap failed_names answer.is ∙ none))
 any_failed files (commands.Step name) fetches own text answer told some =
-    scripts.any_failed rounds report_text files name fetches own text (script_ends rounds report_text files name fetches own text answer told) some
+    scripts.any_failed (IsReportBy rounds) report_text files name fetches own text (script_ends (IsReportBy rounds) report_text files name fetches own text answer told) some
+any_failed files (commands.Live name workers) fetches own text answer told some =
+    scripts.any_failed (IsReportBy threads) report_text files name fetches own text (script_ends (IsReportBy threads) report_text files name fetches own text answer told) some
 any_failed files (commands.Check name file) fetches own text answer told some =
     checks.any_failed files name file fetches own text (check_ends files name file fetches own text answer told) some
 any_failed files (commands.Big lanes) fetches own text answer told some = absurd (some (ap failed_names answer.is))

@@ -8,11 +8,11 @@ use Rattle.change_script.specs.ScriptFiles.{IsScript}
 use Rattle.std.specs.Prelude.{Contains}
 use Rattle.base.proofs.ContainsLaws.{Contains-here}
 use Rattle.command_words.specs.BigFiles.{made_files, script_name}
-use Rattle.command_answers.specs.Answers.{Answer, Refusal, refusal, description, script, read_fault, no_memory, help, version, graph, plan, parts, denied, replay, report, consistent, unlawful, ran, summary, status_of}
+use Rattle.command_answers.specs.Answers.{Answer, Refusal, refusal, description, script, read_fault, no_memory, help, version, graph, plan, parts, rolled, denied, replay, report, consistent, unlawful, ran, summary, status_of}
 use Rattle.command_answers.specs.Summaries.{summary_text}
 use Rattle.command_words.specs.declared.words.Command.{Command}
 use Rattle.command_words.specs.declared.words.Command.TheVariants as commands
-use Rattle.command_law.specs.Schedules.{rounds}
+use Rattle.command_law.specs.Schedules.{rounds, threads, IsReportBy}
 use Rattle.command_law.specs.declared.fetched.Fetched.TheVariants.{Held, TooLong, Failed}
 use Rattle.command_law.specs.declared.query.Cut.TheVariants as cuts
 use Rattle.command_law.specs.declared.query.Query.{Query}
@@ -41,8 +41,9 @@ no_refusal_of s events _ why (all_steps t settled leads are) same = cc
 
 concludes_well : (aim : Aim) (p : Progress) (answer : Answer) (why : Refusal) → Concludes aim p answer → answer ≢ refusal why
 concludes_well drawing p answer why (g, earlier, graphs, what) same = cc (what, same)
-concludes_well (planning cuts.Whole) p answer why (old, new, earlier, graphs, (steps, is, what)) same = cc (what, same)
-concludes_well (planning cuts.InParts) p answer why (old, new, earlier, graphs, (ps, are, what)) same = cc (what, same)
+concludes_well (planning cuts.Whole call target) p answer why (old, new, earlier, graphs, (steps, is, what)) same = cc (what, same)
+concludes_well (planning cuts.InParts call target) p answer why (old, new, earlier, graphs, (ps, are, what)) same = cc (what, same)
+concludes_well (planning (cuts.Rolled run within) call target) p answer why (old, new, earlier, graphs, (ps, are, given_up, is, what)) same = cc (what, same)
 concludes_well (replaying events) p answer why (g, earlier, graphs, what) same = no_refusal_of (started g) events answer why what same
 concludes_well (running schedule) p answer why (r, is, what) same = cc (what, same)
 
@@ -155,7 +156,7 @@ module _ (Named : List ℕ → Type 0) where
       alone other (inl is) = subst Named (sym is) named
       alone other (inr never) = absurd never
   of_query file (queries.Change cut call target) fetches answer named course =
-      of_aim (planning cut) begun (uses file ∷ calls_of (queries.Change cut call target)) fetches answer (λ other is. alone other is) course
+      of_aim (planning cut call target) begun (uses file ∷ calls_of (queries.Change cut call target)) fetches answer (λ other is. alone other is) course
     where
       alone : (other : List ℕ) → (other ≡ file) ⊎ ⊥ → Named other
       alone other (inl is) = subst Named (sym is) named
@@ -181,7 +182,7 @@ held name bytes fetches later here = subst (λ fs. Contains fs (fetch_of name (H
 
 -- no fetch of a made file failed
 not_unread : (lanes : ℕ) (answer : Answer) → OfMadeFiles lanes answer → (file : List ℕ) → answer ≢ refusal (read_fault file)
-not_unread lanes answer made file is = by made.made (of_refusal lanes made.made (read_fault file) (sym made.is ∙ is)) (from_script rounds (summary_text lanes) script_name made.own made.made made.course)
+not_unread lanes answer made file is = by made.made (of_refusal lanes made.made (read_fault file) (sym made.is ∙ is)) (from_script (IsReportBy rounds) (summary_text lanes) script_name made.own made.made made.course)
   where
     of_refusal : (n : ℕ) (a : Answer) (why : Refusal) → in_summary n a ≡ refusal why → a ≡ refusal why
     of_refusal n (refusal other) why same = same
@@ -190,6 +191,7 @@ not_unread lanes answer made file is = by made.made (of_refusal lanes made.made 
     of_refusal n (graph g) why same = same
     of_refusal n (plan old new steps) why same = same
     of_refusal n (parts old ps) why same = same
+    of_refusal n (rolled old ps given_up left) why same = same
     of_refusal n (denied number rule) why same = same
     of_refusal n (replay count s settled) why same = same
     of_refusal n (report r) why same = same
@@ -202,10 +204,10 @@ not_unread lanes answer made file is = by made.made (of_refusal lanes made.made 
     clash other none one = cc
 
     by : (a : Answer) → a ≡ refusal (read_fault file)
-        → OfStep rounds (summary_text lanes) script_name made.own (status_of a) (shown_text (summary_text lanes) a) ⊎ (a ≡ refusal no_memory) → ⊥
+        → OfStep (IsReportBy rounds) (summary_text lanes) script_name made.own (status_of a) (shown_text (summary_text lanes) a) ⊎ (a ≡ refusal no_memory) → ⊥
     by a same (inl of) =
-        let unread = failed_file rounds (summary_text lanes) (Some (made_files lanes)) script_name made.own (status_of a) (shown_text (summary_text lanes) a)
-        (script_ends rounds (summary_text lanes) (Some (made_files lanes)) script_name made.own (status_of a) (shown_text (summary_text lanes) a) of made.told) (ap status_of same) in
+        let unread = failed_file (IsReportBy rounds) (summary_text lanes) (Some (made_files lanes)) script_name made.own (status_of a) (shown_text (summary_text lanes) a)
+        (script_ends (IsReportBy rounds) (summary_text lanes) (Some (made_files lanes)) script_name made.own (status_of a) (shown_text (summary_text lanes) a) of made.told) (ap status_of same) in
         clash unread.0 made.none_failed unread.2
     by a same (inr short) = cc (same, short)
 
@@ -222,6 +224,8 @@ of_words knows words _ _ (asked (commands.Plan file call target) fetches answer 
     of_query (NamesFile knows (WasHeld fetches) words) file (queries.Change cuts.Whole call target) fetches answer (commands.Plan file call target, asks, refl) course
 of_words knows words _ _ (asked (commands.Parts file call target) fetches answer asks course) =
     of_query (NamesFile knows (WasHeld fetches) words) file (queries.Change cuts.InParts call target) fetches answer (commands.Parts file call target, asks, refl) course
+of_words knows words _ _ (asked (commands.Roll file run within call target) fetches answer asks course) =
+    of_query (NamesFile knows (WasHeld fetches) words) file (queries.Change (cuts.Rolled run within) call target) fetches answer (commands.Roll file run within call target, asks, refl) course
 of_words knows words _ _ (asked (commands.Replay file name) fetches answer asks course) =
     let Named = NamesFile knows (WasHeld fetches) words in
     let refuse = λ (ws : List (List ℕ)). refusal (script name ws) in
@@ -253,3 +257,11 @@ of_words knows words _ _ (asked (commands.Step name) fetches answer asks course)
     (λ bytes fs a here then_. of_step Named (RefusesScript bytes) refuse (IsScript bytes) (λ lines. FollowsLines (behind (running rounds)) begun (lines_of_script lines.lines)) fs a (other_script Named name)
     (λ lines gs b is rest. of_aim Named (running rounds) begun (lines_of_script lines.lines) gs b
     (λ file used. (commands.Step name, asks, inr (bytes, lines, held name bytes fetches fs here, is, used))) rest) then_) course
+of_words knows words _ _ (asked (commands.Live name workers) fetches answer asks course) =
+    let Named = NamesFile knows (WasHeld fetches) words in
+    let refuse = λ (ws : List (List ℕ)). refusal (script name ws) in
+    let Then = λ (bytes : List ℕ). After (RefusesScript bytes) refuse (IsScript bytes) (λ lines. FollowsLines (behind (running threads)) begun (lines_of_script lines.lines)) in
+    of_fetch Named name file_limit refuse Then fetches answer (commands.Live name workers, asks, inl refl) (other_script Named name)
+    (λ bytes fs a here then_. of_step Named (RefusesScript bytes) refuse (IsScript bytes) (λ lines. FollowsLines (behind (running threads)) begun (lines_of_script lines.lines)) fs a (other_script Named name)
+    (λ lines gs b is rest. of_aim Named (running threads) begun (lines_of_script lines.lines) gs b
+    (λ file used. (commands.Live name workers, asks, inr (bytes, lines, held name bytes fetches fs here, is, used))) rest) then_) course

@@ -14,7 +14,7 @@ use Rattle.change_script.specs.EventFiles.{IsEventFile, IsFirstFault}
 use Rattle.report_types.specs.declared.report.Report.{Report}
 use Rattle.report_texts.specs.Stages.{IsReportFault}
 use Rattle.report_texts.specs.declared.error.ReportFault.{ReportFault}
-use Rattle.command_law.specs.Schedules.{rounds}
+use Rattle.command_law.specs.Schedules.{rounds, threads, IsReportBy}
 use Rattle.command_law.specs.Commands.{TellsReport}
 use Rattle.command_words.specs.declared.words.TopCall.{TopCall}
 use Rattle.command_answers.specs.declared.status.Status.{Status}
@@ -24,9 +24,10 @@ use Rattle.command_words.specs.declared.words.Command.TheVariants as commands
 use Rattle.command_law.specs.Known.{AsksOf}
 use Rattle.command_answers.specs.RefusalLines.{denied_line}
 use Rattle.command_law.specs.Descriptions.{HasGraph}
-use Rattle.command_law.specs.Plans.{Starts}
-use Rattle.command_answers.specs.Answers.{denied}
-use Rattle.command_law.specs.Replays.{one_denied}
+use Rattle.config_graph.specs.Graph.{Graph}
+use Rattle.command_law.specs.Plans.{IsPartsText, IsPlanText, IsRollText, Starts}
+use Rattle.command_answers.specs.Answers.{denied, roll_status}
+use Rattle.command_law.specs.Replays.{HasReplay, one_denied}
 use Rattle.command_law.specs.declared.query.Cut.{Cut}
 use Rattle.command_law.specs.declared.query.Cut.TheVariants as cuts
 use Rattle.command_law.specs.declared.query.Query.{Query}
@@ -37,7 +38,7 @@ use Rattle.command_law.specs.declared.fetched.Fetched.TheVariants.{Failed}
 use Rattle.command_law.specs.Fetches.{Fetch, failed_names, fetch_of, file_limit, Gave, report_fetch}
 use Rattle.command_law.specs.OneFile.{DescriptionAnswers, cannot_read, is_too_long, refused, answered, EventsAnswers, cannot_read_events, events_file_too_long, events_file_at_fault, ReportAnswers, cannot_read_report, report_too_long, report_at_fault, upgraded}
 use Rattle.command_law.specs.Runs.{Written, whole, stopped, Run}
-use Rattle.command_law.specs.Outcomes.{ReadFrom, Ends, Wants, Flattened, Parted, Planned, WroteChange, Replayed, DescriptionRefused, too_long, at_fault, EventsRefused, events_too_long, events_at_fault, HoldsFile, MustRefuse, MustRefuseEvents, NothingRefuses, EndsAsGiven, Upgraded, ReportRefused, is_longer, has_fault, RefusesFile, RefusesDescription, MustRefuseReport, NothingRefusesReport}
+use Rattle.command_law.specs.Outcomes.{ReadFrom, Ends, IsRollStatus, Rolled, Wants, Flattened, Parted, Planned, WroteChange, Replayed, DescriptionRefused, too_long, at_fault, EventsRefused, events_too_long, events_at_fault, HoldsFile, MustRefuse, MustRefuseEvents, NothingRefuses, EndsAsGiven, Upgraded, ReportRefused, is_longer, has_fault, RefusesFile, RefusesDescription, MustRefuseReport, NothingRefusesReport}
 use Rattle.command_law.proofs.Inverting.{Answer, of_words, AnswersCommand, no_form, answered_to, no_memory, Ran, OfDescription, OfScript, OfReplay, OfReport}
 use Rattle.change_script.proofs.EventFileLaws as scripts
 use Rattle.command_words.specs.BigFiles.{made_files, script_name}
@@ -48,9 +49,9 @@ use Rattle.command_law.proofs.Checking as checks
 use Rattle.command_law.proofs.Reports.{need_no_fault, no_fault_refuses, not_longer}
 use Rattle.command_law.proofs.ScriptEnds.{big_ends, script_ends}
 use Rattle.command_law.proofs.ScriptEnds as ending
-use Rattle.command_law.proofs.Statuses.{IsGiven, well, with_denial, not_two, memory_not_given, write_fault_not_given, ok_denied, ok_description, ok_script, usage_denied, usage_description, usage_script, memory_denied, memory_description, memory_script, write_fault_denied, write_fault_description, write_fault_script}
+use Rattle.command_law.proofs.Statuses.{IsGiven, well, with_denial, as_pending, not_two, memory_not_given, write_fault_not_given, ok_denied, ok_description, ok_script, usage_denied, usage_description, usage_script, memory_denied, memory_description, memory_script, write_fault_denied, write_fault_description, write_fault_script}
 use Rattle.command_law.proofs.Telling.{held_told, held_within, long_told, longer_told, report_told, report_within, same_content, within_not_long, none_added}
-use Rattle.command_law.proofs.Wanting.{gives_status, gives_one, never_both}
+use Rattle.command_law.proofs.Wanting.{gives_status, never_both, one_replay}
 
 -- nothing refuses what was held
 none_refuses : (query : Query) (content : Option (List ℕ)) (text : List ℕ) (words : List (List ℕ)) → NothingRefuses query content → content ≡ Some text → IsRefused query text words → ⊥
@@ -120,10 +121,13 @@ module _ (files : Option Files) (taken taken' : Option (List ℕ)) where
       → Gave files (fetch_of file given) → taken' ≡ with_bytes taken text → WroteAnswer files file query due taken taken'
   given_answer file query _ _ _ _ well cannot_read is gave took = cc
   given_answer file query _ _ _ _ with_denial cannot_read is gave took = cc
+  given_answer file query _ _ _ _ as_pending cannot_read is gave took = cc
   given_answer file query _ _ _ _ well is_too_long is gave took = cc
   given_answer file query _ _ _ _ with_denial is_too_long is gave took = cc
+  given_answer file query _ _ _ _ as_pending is_too_long is gave took = cc
   given_answer file query _ _ _ _ well (refused text why refuses) is gave took = cc
   given_answer file query _ _ _ _ with_denial (refused text why refuses) is gave took = cc
+  given_answer file query _ _ _ _ as_pending (refused text why refuses) is gave took = cc
   given_answer file query _ _ _ due plain (answered text own written gives) is gave took =
       record {
         text = text;
@@ -143,9 +147,10 @@ module _ (files : Option Files) (taken taken' : Option (List ℕ)) where
       at_fault text why (held_told files file text gave) (held_within files file text gave) refuses took
   of_refusal file query _ _ _ (answered text own written gives) is gave took = by (gives_status query text own written gives)
     where
-      by : (own ≡ status.Ok) ⊎ (own ≡ status.Denied) → DescriptionRefused files file query taken taken'
+      by : (own ≡ status.Ok) ⊎ (own ≡ status.Denied) ⊎ (own ≡ status.Pending) → DescriptionRefused files file query taken taken'
       by (inl ok) = cc (ok, is)
-      by (inr denial) = cc (denial, is)
+      by (inr (inl denial)) = cc (denial, is)
+      by (inr (inr pending)) = cc (pending, is)
 
   of_script_refusal :
       (name : List ℕ) (given : Fetched) (own : Status) (text : List ℕ) → EventsAnswers name given own text → own ≡ status.Script
@@ -161,17 +166,21 @@ module _ (files : Option Files) (taken taken' : Option (List ℕ)) where
   no_script_status file query _ _ _ (refused text why refuses) is = cc
   no_script_status file query _ _ _ (answered text own written gives) is = by (gives_status query text own written gives)
     where
-      by : (own ≡ status.Ok) ⊎ (own ≡ status.Denied) → ⊥
+      by : (own ≡ status.Ok) ⊎ (own ≡ status.Denied) ⊎ (own ≡ status.Pending) → ⊥
       by (inl ok) = cc (ok, is)
-      by (inr denial) = cc (denial, is)
+      by (inr (inl denial)) = cc (denial, is)
+      by (inr (inr pending)) = cc (pending, is)
 
   script_not_given : (name : List ℕ) (given : Fetched) (own : Status) (text : List ℕ) (due : Status) → IsGiven due → EventsAnswers name given own text → own ≢ due
   script_not_given name _ _ _ _ well cannot_read_events is = cc
   script_not_given name _ _ _ _ with_denial cannot_read_events is = cc
+  script_not_given name _ _ _ _ as_pending cannot_read_events is = cc
   script_not_given name _ _ _ _ well events_file_too_long is = cc
   script_not_given name _ _ _ _ with_denial events_file_too_long is = cc
+  script_not_given name _ _ _ _ as_pending events_file_too_long is = cc
   script_not_given name _ _ _ _ well (events_file_at_fault bytes fault first) is = cc
   script_not_given name _ _ _ _ with_denial (events_file_at_fault bytes fault first) is = cc
+  script_not_given name _ _ _ _ as_pending (events_file_at_fault bytes fault first) is = cc
 
   script_not_description : (name : List ℕ) (given : Fetched) (own : Status) (text : List ℕ) → EventsAnswers name given own text → own ≢ status.Description
   script_not_description name _ _ _ cannot_read_events is = cc
@@ -243,6 +252,11 @@ module _ (files : Option Files) (taken taken' : Option (List ℕ)) where
       let each = subst (AllByRecursion (Gave files)) d.is told in
       given_answer file query d.given own text due plain d.answer is each.0 took
 
+-- no roll is denied
+not_denied_roll : (given_up : Option ℕ) → status.Denied ≢ roll_status given_up
+not_denied_roll None is = cc
+not_denied_roll (Some number) is = cc
+
 module _ (knows : Command → Bool) (seen : Run) (run : Ran knows seen) where
   -- ---- what Ok and Denied say
 
@@ -276,23 +290,33 @@ module _ (knows : Command → Bool) (seen : Run) (run : Ran knows seen) where
       }
 
   wrote_change :
-      (cut : Cut) (file : List ℕ) (call target : TopCall) → WroteAnswer seen.files file (queries.Change cut call target) status.Ok seen.taken seen.taken'
-      → WroteChange (IsTextBy cut) seen.files file call target seen.taken seen.taken'
-  wrote_change cut file call target w = record {
-    text = w.text;
-    change = w.written;
-    told = w.told;
-    within = w.within;
-    has_change = w.gives.1;
-    written = w.wrote;
-  }
+      (cut : Cut) (IsText : Graph → Graph → List ℕ → Type 0) (file : List ℕ) (call target : TopCall) (due : Status)
+      → ((old new : Graph) (written : List ℕ) → IsTextBy cut call target due old new written → IsText old new written)
+      → WroteAnswer seen.files file (queries.Change cut call target) due seen.taken seen.taken'
+      → WroteChange IsText seen.files file call target seen.taken seen.taken'
+  wrote_change cut IsText file call target due is_text w =
+      let h = w.gives in
+      record {
+        text = w.text;
+        change = w.written;
+        told = w.told;
+        within = w.within;
+        has_change = record {
+          old = h.old;
+          new = h.new;
+          starts = h.starts;
+          has_graph = h.has_graph;
+          has_steps = record { has_room = h.has_steps.has_room; is_text = is_text h.old h.new w.written h.has_steps.is_text };
+        };
+        written = w.wrote;
+      }
 
   pub plans :
       (file : List ℕ) (call target : TopCall) → AsksOf knows seen.words (commands.Plan file call target) → seen.status ≡ status.Ok
       → Planned seen.files file call target seen.taken seen.taken'
   plans file call target asks is =
       let f = found (commands.Plan file call target) status.Ok well asks is in
-      wrote_change cuts.Whole file call target
+      wrote_change cuts.Whole IsPlanText file call target status.Ok (λ old new written is. is.1)
       (of_one seen.files seen.taken seen.taken' file (queries.Change cuts.Whole call target) run.fetches run.own run.text status.Ok well f.0.0 f.0.1 run.told f.1)
 
   pub cuts_up :
@@ -300,8 +324,21 @@ module _ (knows : Command → Bool) (seen : Run) (run : Ran knows seen) where
       → Parted seen.files file call target seen.taken seen.taken'
   cuts_up file call target asks is =
       let f = found (commands.Parts file call target) status.Ok well asks is in
-      wrote_change cuts.InParts file call target
+      wrote_change cuts.InParts IsPartsText file call target status.Ok (λ old new written is. is.1)
       (of_one seen.files seen.taken seen.taken' file (queries.Change cuts.InParts call target) run.fetches run.own run.text status.Ok well f.0.0 f.0.1 run.told f.1)
+
+  pub rolls :
+      (file : List ℕ) (k within : ℕ) (call target : TopCall) → AsksOf knows seen.words (commands.Roll file k within call target) → IsRollStatus seen.status
+      → Rolled k within seen.files file call target seen.status seen.taken seen.taken'
+  rolls file k within call target asks ends = elim ends [ inl is ↦ by status.Ok well is | inr is ↦ by status.Pending as_pending is ]
+    where
+      by : (due : Status) → IsGiven due → seen.status ≡ due → Rolled k within seen.files file call target seen.status seen.taken seen.taken'
+      by due plain is =
+          let cut = cuts.Rolled k within in
+          let f = found (commands.Roll file k within call target) due plain asks is in
+          subst (λ own. Rolled k within seen.files file call target own seen.taken seen.taken') (sym is)
+          (wrote_change cut (IsRollText k within call target due) file call target due (λ old new written t. t)
+          (of_one seen.files seen.taken seen.taken' file (queries.Change cut call target) run.fetches run.own run.text due plain f.0.0 f.0.1 run.told f.1))
 
   replays_with : (file name : List ℕ) (due : Status) → IsGiven due → AsksOf knows seen.words (commands.Replay file name) → seen.status ≡ due → Replayed seen.files file name due seen.taken seen.taken'
   replays_with file name due plain asks is = by (found (commands.Replay file name) due plain asks is)
@@ -330,19 +367,24 @@ module _ (knows : Command → Bool) (seen : Run) (run : Ran knows seen) where
       of (commands.Flat file call) asks answer is took =
           absurd (ok_denied (sym ((of_one seen.files seen.taken seen.taken' file (queries.Graph call) run.fetches run.own run.text status.Denied with_denial answer is run.told took).gives.0)))
       of (commands.Plan file call target) asks answer is took =
-          absurd (ok_denied (sym ((of_one seen.files seen.taken seen.taken' file (queries.Change cuts.Whole call target) run.fetches run.own run.text status.Denied with_denial answer is run.told took).gives.0)))
+          absurd (ok_denied (sym ((of_one seen.files seen.taken seen.taken' file (queries.Change cuts.Whole call target) run.fetches run.own run.text status.Denied with_denial answer is run.told took).gives.has_steps.is_text.0)))
       of (commands.Parts file call target) asks answer is took =
-          absurd (ok_denied (sym ((of_one seen.files seen.taken seen.taken' file (queries.Change cuts.InParts call target) run.fetches run.own run.text status.Denied with_denial answer is run.told took).gives.0)))
+          absurd (ok_denied (sym ((of_one seen.files seen.taken seen.taken' file (queries.Change cuts.InParts call target) run.fetches run.own run.text status.Denied with_denial answer is run.told took).gives.has_steps.is_text.0)))
+      of (commands.Roll file k within call target) asks answer is took =
+          let w = of_one seen.files seen.taken seen.taken' file (queries.Change (cuts.Rolled k within) call target) run.fetches run.own run.text status.Denied with_denial answer is run.told took in
+          absurd (not_denied_roll w.gives.has_steps.is_text.given_up w.gives.has_steps.is_text.ended)
       of (commands.Replay file name) asks (inl s) is took = absurd (script_not_given seen.files seen.taken seen.taken' name s.given run.own run.text status.Denied with_denial s.answer is)
       of (commands.Replay file name) asks (inr r) is took =
           (file, name, asks, of_replay seen.files seen.taken seen.taken' file name run.fetches run.own run.text status.Denied with_denial r is run.told took)
       of (commands.Upgrade file) asks answer is took = absurd (report_not_denied seen.files seen.taken seen.taken' file answer.given run.own run.text answer.answer is)
       of (commands.Step name) asks answer is took =
-          absurd (ending.not_denied rounds report_text seen.files name run.fetches run.own run.text (script_ends rounds report_text seen.files name run.fetches run.own run.text answer run.told) is)
+          absurd (ending.not_denied (IsReportBy rounds) report_text seen.files name run.fetches run.own run.text (script_ends (IsReportBy rounds) report_text seen.files name run.fetches run.own run.text answer run.told) is)
+      of (commands.Live name workers) asks answer is took =
+          absurd (ending.not_denied (IsReportBy threads) report_text seen.files name run.fetches run.own run.text (script_ends (IsReportBy threads) report_text seen.files name run.fetches run.own run.text answer run.told) is)
       of (commands.Check name file) asks answer is took =
           absurd (checks.not_denied seen.files name file run.fetches run.own run.text (check_ends seen.files name file run.fetches run.own run.text answer run.told) is)
       of (commands.Big lanes) asks answer is took =
-          absurd (ending.not_denied rounds (summary_text lanes) (Some (made_files lanes)) script_name answer.within run.own run.text (big_ends lanes run.fetches run.own run.text answer) is)
+          absurd (ending.not_denied (IsReportBy rounds) (summary_text lanes) (Some (made_files lanes)) script_name answer.within run.own run.text (big_ends lanes run.fetches run.own run.text answer) is)
 
       own : (fetches : List Fetch) (s : Status) (text : List ℕ) → AnswersCommand knows seen.words fetches s text → s ≡ status.Denied
           → ((command : Command) → AsksOf knows seen.words command → Answer command fetches s text → s ≡ status.Denied
@@ -377,6 +419,10 @@ module _ (knows : Command → Bool) (seen : Run) (run : Ran knows seen) where
           let each = subst (AllByRecursion (Gave seen.files)) answer.is told in
           let query = queries.Change cuts.InParts call target in
           inl (file, query, asks, of_refusal seen.files seen.taken seen.taken' file query answer.given own text answer.answer is each.0 took)
+      of (commands.Roll file k within call target) fetches own text asks answer is told took =
+          let each = subst (AllByRecursion (Gave seen.files)) answer.is told in
+          let query = queries.Change (cuts.Rolled k within) call target in
+          inl (file, query, asks, of_refusal seen.files seen.taken seen.taken' file query answer.given own text answer.answer is each.0 took)
       of (commands.Replay file name) fetches own text asks (inl s) is told took = absurd (script_not_description seen.files seen.taken seen.taken' name s.given own text s.answer is)
       of (commands.Replay file name) fetches own text asks (inr r) is told took =
           let each = subst (AllByRecursion (Gave seen.files)) r.is told in
@@ -389,11 +435,13 @@ module _ (knows : Command → Bool) (seen : Run) (run : Ran knows seen) where
       of (commands.Upgrade file) fetches own text asks answer is told took =
           absurd (report_not_description seen.files seen.taken seen.taken' file answer.given own text answer.answer is)
       of (commands.Step name) fetches own text asks answer is told took =
-          inr (inl (name, asks, ending.line_refused rounds report_text seen.files name fetches seen.taken seen.taken' own text (script_ends rounds report_text seen.files name fetches own text answer told) is took))
+          inr (inl (rounds, name, asks, ending.line_refused (IsReportBy rounds) report_text seen.files name fetches seen.taken seen.taken' own text (script_ends (IsReportBy rounds) report_text seen.files name fetches own text answer told) is took))
+      of (commands.Live name workers) fetches own text asks answer is told took =
+          inr (inl (threads, name, (workers, asks), ending.line_refused (IsReportBy threads) report_text seen.files name fetches seen.taken seen.taken' own text (script_ends (IsReportBy threads) report_text seen.files name fetches own text answer told) is took))
       of (commands.Check name file) fetches own text asks answer is told took =
           inr (inr (inl (name, file, asks, checks.line_refused seen.files name file fetches seen.taken seen.taken' own text (check_ends seen.files name file fetches own text answer told) is took)))
       of (commands.Big lanes) fetches own text asks answer is told took =
-          inr (inr (inr (lanes, asks, ending.line_refused rounds (summary_text lanes) (Some (made_files lanes)) script_name answer.within seen.taken seen.taken' own text (big_ends lanes fetches own text answer) is took)))
+          inr (inr (inr (lanes, asks, ending.line_refused (IsReportBy rounds) (summary_text lanes) (Some (made_files lanes)) script_name answer.within seen.taken seen.taken' own text (big_ends lanes fetches own text answer) is took)))
 
       own : (fetches : List Fetch) (s : Status) (text : List ℕ) → AnswersCommand knows seen.words fetches s text → s ≡ status.Description → AllByRecursion (Gave seen.files) fetches
           → seen.taken' ≡ with_bytes seen.taken text → RefusesDescription knows seen
@@ -418,6 +466,8 @@ module _ (knows : Command → Bool) (seen : Run) (run : Ran knows seen) where
           absurd (no_script_status seen.files seen.taken seen.taken' file (queries.Change cuts.Whole call target) answer.given own text answer.answer is)
       of (commands.Parts file call target) fetches own text asks answer is told took =
           absurd (no_script_status seen.files seen.taken seen.taken' file (queries.Change cuts.InParts call target) answer.given own text answer.answer is)
+      of (commands.Roll file k within call target) fetches own text asks answer is told took =
+          absurd (no_script_status seen.files seen.taken seen.taken' file (queries.Change (cuts.Rolled k within) call target) answer.given own text answer.answer is)
       of (commands.Replay file name) fetches own text asks (inl s) is told took =
           let each = subst (AllByRecursion (Gave seen.files)) s.is told in
           inl (file, name, asks, of_script_refusal seen.files seen.taken seen.taken' name s.given own text s.answer is each.0 took)
@@ -427,11 +477,13 @@ module _ (knows : Command → Bool) (seen : Run) (run : Ran knows seen) where
           let each = subst (AllByRecursion (Gave seen.files)) answer.is told in
           inr (inl (file, asks, of_report_refusal seen.files seen.taken seen.taken' file answer.given own text answer.answer is each.0 took))
       of (commands.Step name) fetches own text asks answer is told took =
-          inr (inr (inl (name, asks, ending.script_refused rounds report_text seen.files name fetches seen.taken seen.taken' own text (script_ends rounds report_text seen.files name fetches own text answer told) is took)))
+          inr (inr (inl (rounds, name, asks, ending.script_refused (IsReportBy rounds) report_text seen.files name fetches seen.taken seen.taken' own text (script_ends (IsReportBy rounds) report_text seen.files name fetches own text answer told) is took)))
+      of (commands.Live name workers) fetches own text asks answer is told took =
+          inr (inr (inl (threads, name, (workers, asks), ending.script_refused (IsReportBy threads) report_text seen.files name fetches seen.taken seen.taken' own text (script_ends (IsReportBy threads) report_text seen.files name fetches own text answer told) is took)))
       of (commands.Check name file) fetches own text asks answer is told took =
           inr (inr (inr (inl (name, file, asks, checks.refused_file seen.files name file fetches seen.taken seen.taken' own text (check_ends seen.files name file fetches own text answer told) is took))))
       of (commands.Big lanes) fetches own text asks answer is told took =
-          inr (inr (inr (inr (lanes, asks, ending.script_refused rounds (summary_text lanes) (Some (made_files lanes)) script_name answer.within seen.taken seen.taken' own text (big_ends lanes fetches own text answer) is took))))
+          inr (inr (inr (inr (lanes, asks, ending.script_refused (IsReportBy rounds) (summary_text lanes) (Some (made_files lanes)) script_name answer.within seen.taken seen.taken' own text (big_ends lanes fetches own text answer) is took))))
 
       own : (fetches : List Fetch) (s : Status) (text : List ℕ) → AnswersCommand knows seen.words fetches s text → s ≡ status.Script → AllByRecursion (Gave seen.files) fetches
           → seen.taken' ≡ with_bytes seen.taken text → RefusesFile knows seen
@@ -517,6 +569,9 @@ module _ (knows : Command → Bool) (seen : Run) (run : Ran knows seen) where
     wanted_ends file (queries.Change cuts.InParts call target) due wants of_answer =
         ends (commands.Parts file call target) due wants
         (λ answer. described file (queries.Change cuts.InParts call target) (λ s. s ≡ due) of_answer run.fetches run.own run.text answer none_failed told)
+    wanted_ends file (queries.Change (cuts.Rolled k within) call target) due wants of_answer =
+        ends (commands.Roll file k within call target) due wants
+        (λ answer. described file (queries.Change (cuts.Rolled k within) call target) (λ s. s ≡ due) of_answer run.fetches run.own run.text answer none_failed told)
     wanted_ends file (queries.Replay events_file) due wants of_answer =
         ends (commands.Replay file wants.0) due wants.2
         (λ answer. of_events file wants.0 wants.1 events_file (λ s. s ≡ due) wants.3 wants.4 wants.5 of_answer run.fetches run.own run.text answer none_failed told)
@@ -534,8 +589,9 @@ module _ (knows : Command → Bool) (seen : Run) (run : Ran knows seen) where
 
     pub answers_as :
         (file : List ℕ) (query : Query) (text : List ℕ) (own : Status) (written : List ℕ) → Wants knows (Some f) seen.words file query → f file ≡ Some text
-        → length text ≤ file_limit → AnswersQuery query text own written → Ends seen.status own
-    answers_as file query text due written wants holds within gives = wanted_ends file query due wants of_answer
+        → length text ≤ file_limit → AnswersQuery query text own written
+        → ((other : Status) (also : List ℕ) → AnswersQuery query text other also → other ≡ own) → Ends seen.status own
+    answers_as file query text due written wants holds within gives one = wanted_ends file query due wants of_answer
       where
         of_answer :
             (given : Fetched) (own : Status) (other : List ℕ) → DescriptionAnswers file query given own other → failed_names (fetch_of file given ∷ []) ≡ []
@@ -545,7 +601,7 @@ module _ (knows : Command → Bool) (seen : Run) (run : Ran knows seen) where
         of_answer _ _ _ (refused other why refuses) none gave =
             absurd (never_both query text due written why gives (subst (λ t. IsRefused query t why) (same_content (f file) other text gave.1 holds) refuses))
         of_answer _ _ _ (answered other own also gave_) none gave =
-            gives_one query text own due also written (subst (λ t. AnswersQuery query t own also) (same_content (f file) other text gave.1 holds) gave_) gives
+            one own also (subst (λ t. AnswersQuery query t own also) (same_content (f file) other text gave.1 holds) gave_)
 
     pub every_script :
         (file name : List ℕ) → AsksOf knows seen.words (commands.Replay file name) → MustRefuseEvents (f name) → Ends seen.status status.Script
@@ -642,6 +698,10 @@ module _ (knows : Command → Bool) (seen : Run) (run : Ran knows seen) where
         let query = queries.Change cuts.InParts call target in
         given_end file query (commands.Parts file call target) wants
         (λ answer. described file query (AsGiven file query) (completes_with file query nothing) run.fetches run.own run.text answer none_failed told)
+    completes file (queries.Change (cuts.Rolled k within) call target) wants nothing =
+        let query = queries.Change (cuts.Rolled k within) call target in
+        given_end file query (commands.Roll file k within call target) wants
+        (λ answer. described file query (AsGiven file query) (completes_with file query nothing) run.fetches run.own run.text answer none_failed told)
     completes file (queries.Replay events_file) wants nothing =
         given_end file (queries.Replay events_file) (commands.Replay file wants.0) wants.2
         (λ answer. of_events file wants.0 wants.1 events_file (AsGiven file (queries.Replay events_file)) wants.3 wants.4 wants.5 (completes_with file (queries.Replay events_file) nothing)
@@ -653,16 +713,17 @@ module _ (knows : Command → Bool) (seen : Run) (run : Ran knows seen) where
         (file : List ℕ) (call : TopCall) (text : List ℕ) (graph : Graph) → AsksOf knows seen.words (commands.Flat file call) → f file ≡ Some text
         → length text ≤ file_limit → HasGraph text call.top call.args graph → Ends seen.status status.Ok
     every_graph file call text graph asks holds within has =
-        answers_as file (queries.Graph call) text status.Ok (graph_text graph) asks holds within (refl, (graph, has, refl))
+        answers_as file (queries.Graph call) text status.Ok (graph_text graph) asks holds within (refl, (graph, has, refl)) (λ other also is. is.0)
 
     pub every_denial :
         (file : List ℕ) (events_file : EventFile) (text : List ℕ) (graph : Graph) (number rule : ℕ) → Wants knows (Some f) seen.words file (queries.Replay events_file)
         → f file ≡ Some text → length text ≤ file_limit → Starts text events_file.name events_file.args graph → IsDenied (started graph) events_file.events number rule
         → Ends seen.status status.Denied
     every_denial file events_file text graph number rule wants holds within starts is =
-        answers_as file (queries.Replay events_file) text status.Denied (denied_line number rule) wants holds within
-        (record {
+        let replay : HasReplay text events_file status.Denied (denied_line number rule) = record {
           graph = graph;
           starts = starts;
           replays = record { answer = denied number rule; is = one_denied number rule is; has_status = refl; has_text = refl };
-        })
+        } in
+        answers_as file (queries.Replay events_file) text status.Denied (denied_line number rule) wants holds within replay
+        (λ other also is. one_replay events_file text other status.Denied also (denied_line number rule) is replay)

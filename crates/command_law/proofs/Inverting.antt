@@ -2,6 +2,7 @@
 use Rattle.std.proofs.Common.{◌≡◌, ◌≢◌, ◌∙◌, ◌⊎◌, inl, inr, ℕ, Bool, true, false, if◌then◌else◌, List, [], ◌∷◌, ◌++◌, Some, codes, refl, sym, ap, subst}
 use Rattle.std.specs.Prelude.{◌==◌}
 use Rattle.std.specs.List.{AllByRecursion}
+use Rattle.change_law.specs.Statements.{Statement}
 use Rattle.change_script.specs.declared.event_files.EventFile.{EventFile}
 use Rattle.change_script.specs.EventFiles.{IsEventFile}
 use Rattle.change_script.specs.ScriptFiles.{IsScript}
@@ -27,15 +28,16 @@ use Rattle.command_law.specs.Commands.{can_be, can_not_be, course_of, course_of_
 use Rattle.command_law.specs.Courses.{FetchCourse, not_fetched, fetched_alone, failed, too_long, leads_on, not_judged}
 use Rattle.command_law.specs.Courses as courses
 use Rattle.command_law.specs.Fetches.{Fetch, fetch_of, failed_names, Gave, report_fetch}
-use Rattle.command_law.specs.Lines.{RunLine, uses, calls, does, Progress, begun, with_description, with_statement, running, behind, FollowsLines}
+use Rattle.command_law.specs.Lines.{RunLine, uses, calls, does, Progress, begun, with_description, with_statement, reporting, FollowsLines}
 use Rattle.command_law.specs.OneFile.{DescriptionAnswers, cannot_read, is_too_long, refused, answered, EventsAnswers, cannot_read_events, events_file_too_long, events_file_at_fault, ScriptAnswers, cannot_read_script, script_file_too_long, script_file_at_fault, ReportAnswers, cannot_read_report, report_too_long, report_at_fault, upgraded}
 use Rattle.command_law.specs.Runs.{Written, AnswersWords, asked, Run, Runs}
 use Rattle.command_law.specs.Runs as runs
-use Rattle.command_law.specs.Schedules.{Schedule, rounds}
+use Rattle.command_law.specs.Schedules.{rounds, threads, IsReportBy}
+use Rattle.command_law.specs.Outcomes.{AsksForRun}
 use Rattle.command_law.specs.Scripts.{lines_of_script}
 use Rattle.command_words.proofs.WordsLaws.{one_command}
 use Rattle.command_law.proofs.Courses.{OfQuery, out_of_memory, of_description, from_query}
-use Rattle.command_law.proofs.Wanting.{gives_status}
+use Rattle.command_law.proofs.Wanting.{IsNoRoll, gives_plain, gives_status}
 
 -- ---- the statuses that answers have
 
@@ -97,10 +99,10 @@ module _
 
 -- of a run that is behind them
 run_status_behind :
-    (schedule : Schedule) (p : Progress) (fetches : List Fetch) (answer : values.Answer) → behind (running schedule) p fetches answer
+    (IsReport : List Statement → Report → Type 0) (p : Progress) (fetches : List Fetch) (answer : values.Answer) → reporting IsReport p fetches answer
     → Own (status_of answer) ⊎ (answer ≡ refusal values.no_memory)
-run_status_behind schedule p _ _ courses.not_made = inr refl
-run_status_behind schedule p _ _ (courses.makes what fetches answer concludes says) =
+run_status_behind IsReport p _ _ courses.not_made = inr refl
+run_status_behind IsReport p _ _ (courses.makes what fetches answer concludes says) =
     inl (subst (λ a. Own (status_of a)) (sym (says.1 ∙ concludes.2)) (run_own concludes.0.status))
 
 -- of a report that is judged behind them
@@ -155,6 +157,7 @@ shown_text show values.version = version_text
 shown_text show (values.graph g) = text_of (values.graph g)
 shown_text show (values.plan old new steps) = text_of (values.plan old new steps)
 shown_text show (values.parts old ps) = text_of (values.parts old ps)
+shown_text show (values.rolled old ps given_up left) = text_of (values.rolled old ps given_up left)
 shown_text show (values.denied number rule) = text_of (values.denied number rule)
 shown_text show (values.replay count s settled) = text_of (values.replay count s settled)
 shown_text show (values.report r) = text_of (values.report r)
@@ -164,13 +167,13 @@ shown_text show (values.ran r) = show r
 shown_text show (values.summary lanes r) = text_of (values.summary lanes r)
 
 -- an answer of a script: it isn't one, or its lines have an answer that isn't for want of memory
-pub data OfStep (schedule : Schedule) (show : Report → List ℕ) (name : List ℕ) : List Fetch → Status → List ℕ → Type 0 where
+pub data OfStep (IsReport : List Statement → Report → Type 0) (show : Report → List ℕ) (name : List ℕ) : List Fetch → Status → List ℕ → Type 0 where
   of_script :
-      (given : Fetched) (own : Status) (text : List ℕ) → ScriptAnswers name given own text → OfStep schedule show name (fetch_of name given ∷ []) own text
+      (given : Fetched) (own : Status) (text : List ℕ) → ScriptAnswers name given own text → OfStep IsReport show name (fetch_of name given ∷ []) own text
   of_lines :
       (bytes : List ℕ) (parsed : Script) (fetches : List Fetch) (answer : values.Answer) → IsScript bytes parsed
-      → FollowsLines (behind (running schedule)) begun (lines_of_script parsed.lines) fetches answer → Own (status_of answer)
-      → OfStep schedule show name (fetch_of name (Held bytes) ∷ fetches) (status_of answer) (shown_text show answer)
+      → FollowsLines (reporting IsReport) begun (lines_of_script parsed.lines) fetches answer → Own (status_of answer)
+      → OfStep IsReport show name (fetch_of name (Held bytes) ∷ fetches) (status_of answer) (shown_text show answer)
 
 -- an answer of a script by which a report is judged
 pub data OfCheck (name file : List ℕ) : List Fetch → Status → List ℕ → Type 0 where
@@ -187,7 +190,7 @@ pub record OfBig (lanes : ℕ) (fetches : List Fetch) (own : Status) (text : Lis
   pub within : List Fetch
   pub told : AllByRecursion (Gave (Some (made_files lanes))) within
   pub none_failed : failed_names within ≡ []
-  pub answer : OfStep rounds (summary_text lanes) script_name within own text
+  pub answer : OfStep (IsReportBy rounds) (summary_text lanes) script_name within own text
 
 -- what is answered to a command
 abbrev pub Answer : Command → List Fetch → Status → List ℕ → Type 0
@@ -196,16 +199,18 @@ Answer commands.Version fetches own text = (own ≡ status.Ok) × (fetches ≡ [
 Answer (commands.Flat file call) fetches own text = OfDescription file (queries.Graph call) fetches own text
 Answer (commands.Plan file call target) fetches own text = OfDescription file (queries.Change cuts.Whole call target) fetches own text
 Answer (commands.Parts file call target) fetches own text = OfDescription file (queries.Change cuts.InParts call target) fetches own text
+Answer (commands.Roll file run within call target) fetches own text = OfDescription file (queries.Change (cuts.Rolled run within) call target) fetches own text
 Answer (commands.Replay file name) fetches own text = OfScript name fetches own text ⊎ OfReplay file name fetches own text
 Answer (commands.Upgrade file) fetches own text = OfReport file fetches own text
-Answer (commands.Step name) fetches own text = OfStep rounds report_text name fetches own text
+Answer (commands.Step name) fetches own text = OfStep (IsReportBy rounds) report_text name fetches own text
+Answer (commands.Live name workers) fetches own text = OfStep (IsReportBy threads) report_text name fetches own text
 Answer (commands.Check name file) fetches own text = OfCheck name file fetches own text
 Answer (commands.Big lanes) fetches own text = OfBig lanes fetches own text
 
-module _ (schedule : Schedule) (show : Report → List ℕ) (name : List ℕ) where
+module _ (IsReport : List Statement → Report → Type 0) (show : Report → List ℕ) (name : List ℕ) where
   pub from_script :
-      (fetches : List Fetch) (answer : values.Answer) → course_of_script (behind (running schedule)) name fetches answer
-      → OfStep schedule show name fetches (status_of answer) (shown_text show answer) ⊎ (answer ≡ refusal values.no_memory)
+      (fetches : List Fetch) (answer : values.Answer) → course_of_script (reporting IsReport) name fetches answer
+      → OfStep IsReport show name fetches (status_of answer) (shown_text show answer) ⊎ (answer ≡ refusal values.no_memory)
   from_script _ _ not_fetched = inr refl
   from_script _ _ (fetched_alone what) = inr refl
   from_script _ _ failed = inl (of_script Failed status.ReadFault (read_fault_line name) cannot_read_script)
@@ -215,10 +220,10 @@ module _ (schedule : Schedule) (show : Report → List ℕ) (name : List ℕ) wh
       inl (of_script (Held bytes) status.Script (script_line name words)
       (subst (λ w. ScriptAnswers name (Held bytes) status.Script (script_line name w)) (sym is) (script_file_at_fault bytes fault first)))
   from_script _ _ (leads_on bytes _ _ (courses.gives parsed fetches answer is follows)) =
-      by (follows_status Own plain (behind (running schedule)) (run_status_behind schedule) begun (lines_of_script parsed.lines) fetches answer follows)
+      by (follows_status Own plain (reporting IsReport) (run_status_behind IsReport) begun (lines_of_script parsed.lines) fetches answer follows)
     where
       by : Own (status_of answer) ⊎ (answer ≡ refusal values.no_memory)
-          → OfStep schedule show name (fetch_of name (Held bytes) ∷ fetches) (status_of answer) (shown_text show answer) ⊎ (answer ≡ refusal values.no_memory)
+          → OfStep IsReport show name (fetch_of name (Held bytes) ∷ fetches) (status_of answer) (shown_text show answer) ⊎ (answer ≡ refusal values.no_memory)
       by (inl own) = inl (of_lines bytes parsed fetches answer is follows own)
       by (inr short) = inr short
 
@@ -241,13 +246,14 @@ from_checked name file _ _ (leads_on bytes _ _ (courses.gives parsed fetches ans
     by (inl own) = inl (of_its_lines bytes parsed fetches answer is follows own)
     by (inr short) = inr short
 
-shown_as_is : (answer : values.Answer) → shown_text report_text answer ≡ text_of answer
+pub shown_as_is : (answer : values.Answer) → shown_text report_text answer ≡ text_of answer
 shown_as_is (values.refusal why) = refl
 shown_as_is values.help = refl
 shown_as_is values.version = refl
 shown_as_is (values.graph g) = refl
 shown_as_is (values.plan old new steps) = refl
 shown_as_is (values.parts old ps) = refl
+shown_as_is (values.rolled old ps given_up left) = refl
 shown_as_is (values.denied number rule) = refl
 shown_as_is (values.replay count s settled) = refl
 shown_as_is (values.report r) = refl
@@ -265,6 +271,7 @@ summary_shown lanes values.version = (refl, refl)
 summary_shown lanes (values.graph g) = (refl, refl)
 summary_shown lanes (values.plan old new steps) = (refl, refl)
 summary_shown lanes (values.parts old ps) = (refl, refl)
+summary_shown lanes (values.rolled old ps given_up left) = (refl, refl)
 summary_shown lanes (values.denied number rule) = (refl, refl)
 summary_shown lanes (values.replay count s settled) = (refl, refl)
 summary_shown lanes (values.report r) = (refl, refl)
@@ -276,14 +283,14 @@ summary_shown lanes (values.summary other r) = (refl, refl)
 from_made :
     (lanes : ℕ) (fetches : List Fetch) (answer : values.Answer) → fetches ≡ [] → OfMadeFiles lanes answer
     → OfBig lanes fetches (status_of answer) (text_of answer) ⊎ (answer ≡ refusal values.no_memory)
-from_made lanes fetches answer none of_made = by (from_script rounds (summary_text lanes) script_name of_made.own of_made.made of_made.course)
+from_made lanes fetches answer none of_made = by (from_script (IsReportBy rounds) (summary_text lanes) script_name of_made.own of_made.made of_made.course)
   where
     shown : (status_of answer ≡ status_of of_made.made) × (text_of answer ≡ shown_text (summary_text lanes) of_made.made)
     shown =
         let s = summary_shown lanes of_made.made in
         (ap status_of of_made.is ∙ s.0, ap text_of of_made.is ∙ s.1)
 
-    by : OfStep rounds (summary_text lanes) script_name of_made.own (status_of of_made.made) (shown_text (summary_text lanes) of_made.made)
+    by : OfStep (IsReportBy rounds) (summary_text lanes) script_name of_made.own (status_of of_made.made) (shown_text (summary_text lanes) of_made.made)
         ⊎ (of_made.made ≡ refusal values.no_memory)
         → OfBig lanes fetches (status_of answer) (text_of answer) ⊎ (answer ≡ refusal values.no_memory)
     by (inl of) = inl (record {
@@ -292,8 +299,8 @@ from_made lanes fetches answer none of_made = by (from_script rounds (summary_te
       told = of_made.told;
       none_failed = of_made.none_failed;
       answer =
-          subst (λ s. OfStep rounds (summary_text lanes) script_name of_made.own s (text_of answer)) (sym shown.0)
-          (subst (λ t. OfStep rounds (summary_text lanes) script_name of_made.own (status_of of_made.made) t) (sym shown.1) of);
+          subst (λ s. OfStep (IsReportBy rounds) (summary_text lanes) script_name of_made.own s (text_of answer)) (sym shown.0)
+          (subst (λ t. OfStep (IsReportBy rounds) (summary_text lanes) script_name of_made.own (status_of of_made.made) t) (sym shown.1) of);
     })
     by (inr short) = inr (of_made.is ∙ ap (in_summary lanes) short)
 
@@ -308,6 +315,18 @@ by_query file query fetches answer course = by fetches answer (from_query file q
     by _ _ (out_of_memory fs) = inr refl
     by _ _ (of_description what a d) = inl (record { given = what; is = refl; answer = d })
 
+-- of a script, where all of the report is shown
+pub in_full :
+    (IsReport : List Statement → Report → Type 0) (name : List ℕ) (fetches : List Fetch) (answer : values.Answer)
+    → course_of_script (reporting IsReport) name fetches answer
+    → OfStep IsReport report_text name fetches (status_of answer) (text_of answer) ⊎ (answer ≡ refusal values.no_memory)
+in_full IsReport name fetches answer course = by (from_script IsReport report_text name fetches answer course)
+  where
+    by : OfStep IsReport report_text name fetches (status_of answer) (shown_text report_text answer) ⊎ (answer ≡ refusal values.no_memory)
+        → OfStep IsReport report_text name fetches (status_of answer) (text_of answer) ⊎ (answer ≡ refusal values.no_memory)
+    by (inl of) = inl (subst (λ t. OfStep IsReport report_text name fetches (status_of answer) t) (shown_as_is answer) of)
+    by (inr short) = inr short
+
 pub from_command :
     (command : Command) (fetches : List Fetch) (answer : values.Answer) → course_of command fetches answer
     → Answer command fetches (status_of answer) (text_of answer) ⊎ (answer ≡ refusal values.no_memory)
@@ -316,6 +335,7 @@ from_command commands.Version fetches answer course = inl (ap status_of course.1
 from_command (commands.Flat file call) fetches answer course = by_query file (queries.Graph call) fetches answer course
 from_command (commands.Plan file call target) fetches answer course = by_query file (queries.Change cuts.Whole call target) fetches answer course
 from_command (commands.Parts file call target) fetches answer course = by_query file (queries.Change cuts.InParts call target) fetches answer course
+from_command (commands.Roll file run within call target) fetches answer course = by_query file (queries.Change (cuts.Rolled run within) call target) fetches answer course
 from_command (commands.Replay file name) _ _ not_fetched = inr refl
 from_command (commands.Replay file name) _ _ (fetched_alone what) = inr refl
 from_command (commands.Replay file name) _ _ failed = inl (inl (record { given = Failed; is = refl; answer = cannot_read_events }))
@@ -353,12 +373,8 @@ from_command (commands.Upgrade file) _ _ (leads_on bytes _ _ (courses.gives r fe
       is = ap (λ fs. report_fetch file (Held bytes) ∷ fs) says.0;
       answer = subst (λ a. ReportAnswers file (Held bytes) (status_of a) (text_of a)) (sym says.1) (upgraded bytes r is);
     })
-from_command (commands.Step name) fetches answer course = by (from_script rounds report_text name fetches answer course)
-  where
-    by : OfStep rounds report_text name fetches (status_of answer) (shown_text report_text answer) ⊎ (answer ≡ refusal values.no_memory)
-        → OfStep rounds report_text name fetches (status_of answer) (text_of answer) ⊎ (answer ≡ refusal values.no_memory)
-    by (inl of) = inl (subst (λ t. OfStep rounds report_text name fetches (status_of answer) t) (shown_as_is answer) of)
-    by (inr short) = inr short
+from_command (commands.Step name) fetches answer course = in_full (IsReportBy rounds) name fetches answer course
+from_command (commands.Live name workers) fetches answer course = in_full (IsReportBy threads) name fetches answer course
 from_command (commands.Check name file) fetches answer course = from_checked name file fetches answer course
 from_command (commands.Big lanes) fetches answer course = from_made lanes fetches answer course.0 course.1
 
@@ -414,16 +430,41 @@ of_words knows words command _ _ _ asks (no_memory fetches) = inr refl
 
 -- ---- statuses of answers
 
-pub description_status :
-    (file : List ℕ) (query : Query) (given : Fetched) (own : Status) (text : List ℕ) → DescriptionAnswers file query given own text → Plain own
-description_status file query _ _ _ cannot_read = read_fault
-description_status file query _ _ _ is_too_long = description
-description_status file query _ _ _ (refused text why refuses) = description
-description_status file query _ _ _ (answered text own written gives) = by (gives_status query text own written gives)
+plain_status :
+    (file : List ℕ) (query : Query) → IsNoRoll query → (given : Fetched) (own : Status) (text : List ℕ) → DescriptionAnswers file query given own text → Plain own
+plain_status file query no_roll _ _ _ cannot_read = read_fault
+plain_status file query no_roll _ _ _ is_too_long = description
+plain_status file query no_roll _ _ _ (refused text why refuses) = description
+plain_status file query no_roll _ _ _ (answered text own written gives) = by (gives_plain query no_roll text own written gives)
   where
     by : (own ≡ status.Ok) ⊎ (own ≡ status.Denied) → Plain own
     by (inl is) = rw is well
     by (inr is) = rw is denied
+
+-- a status that an answer of one description may have: a roll may be given up
+data OfDescribed : Status → Type 0 where
+  plainly : (s : Status) → Plain s → OfDescribed s
+  given_up : OfDescribed status.Pending
+
+described_status :
+    (file : List ℕ) (query : Query) (given : Fetched) (own : Status) (text : List ℕ) → DescriptionAnswers file query given own text → OfDescribed own
+described_status file query _ _ _ cannot_read = plainly status.ReadFault read_fault
+described_status file query _ _ _ is_too_long = plainly status.Description description
+described_status file query _ _ _ (refused text why refuses) = plainly status.Description description
+described_status file query _ _ _ (answered text own written gives) = by (gives_status query text own written gives)
+  where
+    by : (own ≡ status.Ok) ⊎ (own ≡ status.Denied) ⊎ (own ≡ status.Pending) → OfDescribed own
+    by (inl is) = rw is (plainly status.Ok well)
+    by (inr (inl is)) = rw is (plainly status.Denied denied)
+    by (inr (inr is)) = rw is given_up
+
+own_described : (own : Status) → OfDescribed own → Own own
+own_described own (plainly _ is) = plain own is
+own_described _ given_up = pending
+
+description_status :
+    (file : List ℕ) (query : Query) (given : Fetched) (own : Status) (text : List ℕ) → DescriptionAnswers file query given own text → Own own
+description_status file query given own text answer = own_described own (described_status file query given own text answer)
 
 pub script_status : (name : List ℕ) (given : Fetched) (own : Status) (text : List ℕ) → EventsAnswers name given own text → Plain own
 script_status name _ _ _ cannot_read_events = read_fault
@@ -442,10 +483,10 @@ statements_status name _ _ _ script_file_too_long = script
 statements_status name _ _ _ (script_file_at_fault bytes fault first) = script
 
 step_status :
-    (schedule : Schedule) (show : Report → List ℕ) (name : List ℕ) (fetches : List Fetch) (own : Status) (text : List ℕ) → OfStep schedule show name fetches own text
+    (IsReport : List Statement → Report → Type 0) (show : Report → List ℕ) (name : List ℕ) (fetches : List Fetch) (own : Status) (text : List ℕ) → OfStep IsReport show name fetches own text
     → Own own
-step_status schedule show name _ _ _ (of_script given own text answer) = plain own (statements_status name given own text answer)
-step_status schedule show name _ _ _ (of_lines bytes parsed fetches answer is follows own) = own
+step_status IsReport show name _ _ _ (of_script given own text answer) = plain own (statements_status name given own text answer)
+step_status IsReport show name _ _ _ (of_lines bytes parsed fetches answer is follows own) = own
 
 check_status : (name file : List ℕ) (fetches : List Fetch) (own : Status) (text : List ℕ) → OfCheck name file fetches own text → OfJudgement own
 check_status name file _ _ _ (of_its_script given own text answer) = before own (statements_status name given own text answer)
@@ -454,15 +495,17 @@ check_status name file _ _ _ (of_its_lines bytes parsed fetches answer is follow
 pub command_status : (command : Command) (fetches : List Fetch) (own : Status) (text : List ℕ) → Answer command fetches own text → OfAny own
 command_status commands.Help fetches own text answer = rw answer.0 (of_run status.Ok (plain status.Ok well))
 command_status commands.Version fetches own text answer = rw answer.0 (of_run status.Ok (plain status.Ok well))
-command_status (commands.Flat file call) fetches own text answer = of_run own (plain own (description_status file (queries.Graph call) answer.given own text answer.answer))
-command_status (commands.Plan file call target) fetches own text answer = of_run own (plain own (description_status file (queries.Change cuts.Whole call target) answer.given own text answer.answer))
-command_status (commands.Parts file call target) fetches own text answer = of_run own (plain own (description_status file (queries.Change cuts.InParts call target) answer.given own text answer.answer))
+command_status (commands.Flat file call) fetches own text answer = of_run own (description_status file (queries.Graph call) answer.given own text answer.answer)
+command_status (commands.Plan file call target) fetches own text answer = of_run own (description_status file (queries.Change cuts.Whole call target) answer.given own text answer.answer)
+command_status (commands.Parts file call target) fetches own text answer = of_run own (description_status file (queries.Change cuts.InParts call target) answer.given own text answer.answer)
+command_status (commands.Roll file run within call target) fetches own text answer = of_run own (description_status file (queries.Change (cuts.Rolled run within) call target) answer.given own text answer.answer)
 command_status (commands.Replay file name) fetches own text (inl answer) = of_run own (plain own (script_status name answer.given own text answer.answer))
-command_status (commands.Replay file name) fetches own text (inr answer) = of_run own (plain own (description_status file (queries.Replay answer.events_file) answer.given own text answer.answer))
+command_status (commands.Replay file name) fetches own text (inr answer) = of_run own (description_status file (queries.Replay answer.events_file) answer.given own text answer.answer)
 command_status (commands.Upgrade file) fetches own text answer = of_run own (plain own (report_status file answer.given own text answer.answer))
-command_status (commands.Step name) fetches own text answer = of_run own (step_status rounds report_text name fetches own text answer)
+command_status (commands.Step name) fetches own text answer = of_run own (step_status (IsReportBy rounds) report_text name fetches own text answer)
+command_status (commands.Live name workers) fetches own text answer = of_run own (step_status (IsReportBy threads) report_text name fetches own text answer)
 command_status (commands.Check name file) fetches own text answer = of_judgement own (check_status name file fetches own text answer)
-command_status (commands.Big lanes) fetches own text answer = of_run own (step_status rounds (summary_text lanes) script_name answer.within own text answer.answer)
+command_status (commands.Big lanes) fetches own text answer = of_run own (step_status (IsReportBy rounds) (summary_text lanes) script_name answer.within own text answer.answer)
 
 pub not_usage : (own : Status) → Own own → own ≢ status.Usage
 not_usage _ (plain _ well) is = cc
@@ -529,27 +572,40 @@ not_run_judged own (before _ is_plain) is = not_run own is_plain is
 not_run_judged _ against (inl is) = cc
 not_run_judged _ against (inr is) = cc
 
--- only the run of a script ends so, fetched or made
+described_not_unfinished : (own : Status) → OfDescribed own → own ≢ status.Unfinished
+described_not_unfinished own (plainly _ is_plain) is = not_unfinished own is_plain is
+described_not_unfinished _ given_up is = cc
+
+-- a roll may be given up
+only_given_up : {A : Type 0} (own : Status) → OfDescribed own → (own ≡ status.Pending) ⊎ (own ≡ status.Unfinished) → (own ≡ status.Pending → A) → A
+only_given_up own may (inl is) then_ = then_ is
+only_given_up own may (inr is) then_ = absurd (described_not_unfinished own may is)
+
+-- only the run of a script ends so, fetched or made, and a roll that is given up
 pub only_scripts :
-    (command : Command) (fetches : List Fetch) (own : Status) (text : List ℕ) → Answer command fetches own text
-    → (own ≡ status.Pending) ⊎ (own ≡ status.Unfinished)
-    → ((name : List ℕ) × (command ≡ commands.Step name)) ⊎ ((lanes : ℕ) × (command ≡ commands.Big lanes))
-only_scripts commands.Help fetches own text answer is = absurd (not_run own (rw answer.0 well) is)
-only_scripts commands.Version fetches own text answer is = absurd (not_run own (rw answer.0 well) is)
-only_scripts (commands.Flat file call) fetches own text answer is =
-    absurd (not_run own (description_status file (queries.Graph call) answer.given own text answer.answer) is)
-only_scripts (commands.Plan file call target) fetches own text answer is =
-    absurd (not_run own (description_status file (queries.Change cuts.Whole call target) answer.given own text answer.answer) is)
-only_scripts (commands.Parts file call target) fetches own text answer is =
-    absurd (not_run own (description_status file (queries.Change cuts.InParts call target) answer.given own text answer.answer) is)
-only_scripts (commands.Replay file name) fetches own text (inl answer) is =
+    (knows : Command → Bool) (words : List (List ℕ)) (command : Command) (fetches : List Fetch) (own : Status) (text : List ℕ)
+    → AsksOf knows words command → Answer command fetches own text → (own ≡ status.Pending) ⊎ (own ≡ status.Unfinished)
+    → AsksForRun knows words own
+only_scripts knows words commands.Help fetches own text asks answer is = absurd (not_run own (rw answer.0 well) is)
+only_scripts knows words commands.Version fetches own text asks answer is = absurd (not_run own (rw answer.0 well) is)
+only_scripts knows words (commands.Flat file call) fetches own text asks answer is =
+    absurd (not_run own (plain_status file (queries.Graph call) tt answer.given own text answer.answer) is)
+only_scripts knows words (commands.Plan file call target) fetches own text asks answer is =
+    absurd (not_run own (plain_status file (queries.Change cuts.Whole call target) tt answer.given own text answer.answer) is)
+only_scripts knows words (commands.Parts file call target) fetches own text asks answer is =
+    absurd (not_run own (plain_status file (queries.Change cuts.InParts call target) tt answer.given own text answer.answer) is)
+only_scripts knows words (commands.Roll file run within call target) fetches own text asks answer is =
+    only_given_up own (described_status file (queries.Change (cuts.Rolled run within) call target) answer.given own text answer.answer) is
+    (λ pending. inr (inr (pending, file, run, within, call, target, asks)))
+only_scripts knows words (commands.Replay file name) fetches own text asks (inl answer) is =
     absurd (not_run own (script_status name answer.given own text answer.answer) is)
-only_scripts (commands.Replay file name) fetches own text (inr answer) is =
-    absurd (not_run own (description_status file (queries.Replay answer.events_file) answer.given own text answer.answer) is)
-only_scripts (commands.Upgrade file) fetches own text answer is = absurd (not_run own (report_status file answer.given own text answer.answer) is)
-only_scripts (commands.Step name) fetches own text answer is = inl (name, refl)
-only_scripts (commands.Check name file) fetches own text answer is = absurd (not_run_judged own (check_status name file fetches own text answer) is)
-only_scripts (commands.Big lanes) fetches own text answer is = inr (lanes, refl)
+only_scripts knows words (commands.Replay file name) fetches own text asks (inr answer) is =
+    absurd (not_run own (plain_status file (queries.Replay answer.events_file) tt answer.given own text answer.answer) is)
+only_scripts knows words (commands.Upgrade file) fetches own text asks answer is = absurd (not_run own (report_status file answer.given own text answer.answer) is)
+only_scripts knows words (commands.Step name) fetches own text asks answer is = inl (rounds, name, asks)
+only_scripts knows words (commands.Live name workers) fetches own text asks answer is = inl (threads, name, (workers, asks))
+only_scripts knows words (commands.Check name file) fetches own text asks answer is = absurd (not_run_judged own (check_status name file fetches own text answer) is)
+only_scripts knows words (commands.Big lanes) fetches own text asks answer is = inr (inl (lanes, asks))
 
 -- only a report is judged so
 pub only_checks :
@@ -558,19 +614,23 @@ pub only_checks :
 only_checks commands.Help fetches own text answer is = absurd (not_unlawful own (rw answer.0 (plain status.Ok well)) is)
 only_checks commands.Version fetches own text answer is = absurd (not_unlawful own (rw answer.0 (plain status.Ok well)) is)
 only_checks (commands.Flat file call) fetches own text answer is =
-    absurd (not_unlawful own (plain own (description_status file (queries.Graph call) answer.given own text answer.answer)) is)
+    absurd (not_unlawful own (description_status file (queries.Graph call) answer.given own text answer.answer) is)
 only_checks (commands.Plan file call target) fetches own text answer is =
-    absurd (not_unlawful own (plain own (description_status file (queries.Change cuts.Whole call target) answer.given own text answer.answer)) is)
+    absurd (not_unlawful own (description_status file (queries.Change cuts.Whole call target) answer.given own text answer.answer) is)
 only_checks (commands.Parts file call target) fetches own text answer is =
-    absurd (not_unlawful own (plain own (description_status file (queries.Change cuts.InParts call target) answer.given own text answer.answer)) is)
+    absurd (not_unlawful own (description_status file (queries.Change cuts.InParts call target) answer.given own text answer.answer) is)
+only_checks (commands.Roll file run within call target) fetches own text answer is =
+    absurd (not_unlawful own (description_status file (queries.Change (cuts.Rolled run within) call target) answer.given own text answer.answer) is)
 only_checks (commands.Replay file name) fetches own text (inl answer) is =
     absurd (not_unlawful own (plain own (script_status name answer.given own text answer.answer)) is)
 only_checks (commands.Replay file name) fetches own text (inr answer) is =
-    absurd (not_unlawful own (plain own (description_status file (queries.Replay answer.events_file) answer.given own text answer.answer)) is)
+    absurd (not_unlawful own (description_status file (queries.Replay answer.events_file) answer.given own text answer.answer) is)
 only_checks (commands.Upgrade file) fetches own text answer is =
     absurd (not_unlawful own (plain own (report_status file answer.given own text answer.answer)) is)
 only_checks (commands.Step name) fetches own text answer is =
-    absurd (not_unlawful own (step_status rounds report_text name fetches own text answer) is)
+    absurd (not_unlawful own (step_status (IsReportBy rounds) report_text name fetches own text answer) is)
+only_checks (commands.Live name workers) fetches own text answer is =
+    absurd (not_unlawful own (step_status (IsReportBy threads) report_text name fetches own text answer) is)
 only_checks (commands.Check name file) fetches own text answer is = (name, file, refl)
 only_checks (commands.Big lanes) fetches own text answer is =
-    absurd (not_unlawful own (step_status rounds (summary_text lanes) script_name answer.within own text answer.answer) is)
+    absurd (not_unlawful own (step_status (IsReportBy rounds) (summary_text lanes) script_name answer.within own text answer.answer) is)

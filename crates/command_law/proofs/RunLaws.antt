@@ -1,19 +1,30 @@
 -- What a run says of what was written, by the command that its words ask for.
-use Rattle.std.proofs.Common.{◌≡◌, ℕ, Bool, List, Some}
+use Rattle.std.proofs.Common.{◌≡◌, ◌⊎◌, inl, inr, ℕ, Bool, List, Some, sym, subst}
+use Rattle.std.specs.List.{AllByRecursion}
 use Rattle.cfg_io.specs.Shelf.{Files}
+use Rattle.cfg_io.specs.Sink.{with_bytes}
+use Rattle.change_law.specs.Statements.{Statement}
+use Rattle.report_types.specs.declared.report.Report.{Report}
 use Rattle.command_answers.specs.declared.status.Status.TheVariants as status
-use Rattle.command_answers.specs.Answers.{Answer}
+use Rattle.command_answers.specs.Answers as values
+use Rattle.command_answers.specs.Answers.{Answer, status_of, text_of}
 use Rattle.command_law.specs.Known.{AsksOf}
 use Rattle.command_words.specs.declared.words.Command.{Command}
 use Rattle.command_words.specs.declared.words.Command.TheVariants as commands
 use Rattle.command_words.specs.declared.words.TopCall.{TopCall}
 use Rattle.command_words.specs.BigFiles.{made_files, script_name}
+use Rattle.command_law.specs.Commands.{course_of_script}
+use Rattle.command_law.specs.Fetches.{Fetch, Gave}
+use Rattle.command_law.specs.Lines.{reporting}
 use Rattle.command_law.specs.Outcomes as outcomes
-use Rattle.command_law.specs.Outcomes.{ReadFrom, Flattened, Parted, Planned, Replayed, Upgraded, IsRunStatus, IsVerdict, Judged, NothingRefuses, EndsAsGiven, NothingRefusesReport, Ends, NothingRefusesLines, EndsAsRun, EndsAsJudged, Wants}
-use Rattle.command_law.specs.Runs.{Run, RunsWith, Runs}
+use Rattle.command_law.specs.Outcomes.{AsksToRun, ReadFrom, Flattened, Parted, Planned, Replayed, Upgraded, IsRunStatus, IsVerdict, Judged, NothingRefuses, EndsAsGiven, NothingRefusesReport, Ends, NothingRefusesLines, EndsAsRun, EndsAsJudged, Wants}
+use Rattle.command_law.specs.Schedules.{Schedule}
+use Rattle.report_writing.specs.Reports.{report_text}
+use Rattle.command_law.specs.Runs.{Written, whole, stopped, Run, RunsWith, Runs}
 use Rattle.command_law.specs.declared.query.Query.{Query}
 use Rattle.command_law.proofs.Flattening as flattening
-use Rattle.command_law.proofs.Inverting.{ran}
+use Rattle.command_law.proofs.Inverting.{OfStep, in_full, ran}
+use Rattle.command_law.proofs.ScriptEnds.{for_memory, for_sink, no_run, reported, script_ends}
 use Rattle.command_law.proofs.Stepping as stepping
 
 -- a run with an answer of a kind is a run
@@ -27,6 +38,28 @@ runs_with Is knows seen run = record {
   told = run.told;
   written = run.written;
 }
+
+-- What a run of a script has written, by the course of its reports: the report of which so much is so.
+module _ (IsReport : List Statement → Report → Type 0) (seen : Run) (name : List ℕ) (fetches : List Fetch) (told : AllByRecursion (Gave seen.files) fetches) where
+  pub reported_by :
+      (answer : values.Answer) → course_of_script (reporting IsReport) name fetches answer → Written (status_of answer) (text_of answer) seen
+      → IsRunStatus seen.status → outcomes.Reported IsReport report_text seen.files name seen.status seen.taken seen.taken'
+  reported_by answer course written is = by written is
+    where
+      own : OfStep IsReport report_text name fetches (status_of answer) (text_of answer) ⊎ (answer ≡ values.refusal values.no_memory)
+          → IsRunStatus (status_of answer) → seen.taken' ≡ with_bytes seen.taken (text_of answer)
+          → outcomes.Reported IsReport report_text seen.files name (status_of answer) seen.taken seen.taken'
+      own (inl of) is took =
+          reported IsReport report_text seen.files name fetches seen.taken seen.taken' (status_of answer) (text_of answer)
+          (script_ends IsReport report_text seen.files name fetches (status_of answer) (text_of answer) of told) is took
+      own (inr short) is took = absurd (no_run status.NoMemory for_memory (subst (λ a. IsRunStatus (status_of a)) short is))
+
+      by : Written (status_of answer) (text_of answer) seen → IsRunStatus seen.status
+          → outcomes.Reported IsReport report_text seen.files name seen.status seen.taken seen.taken'
+      by (whole took same ends) is =
+          subst (λ s. outcomes.Reported IsReport report_text seen.files name s seen.taken seen.taken') (sym ends)
+          (own (in_full IsReport name fetches answer course) (subst IsRunStatus ends is) took)
+      by (stopped n short took rose ends) is = absurd (no_run status.WriteFault for_sink (subst IsRunStatus ends is))
 
 module _ (knows : Command → Bool) (seen : Run) (run : Runs knows seen) where
   pub flattens :
@@ -58,7 +91,9 @@ module _ (knows : Command → Bool) (seen : Run) (run : Runs knows seen) where
   denies = flattening.denies knows seen (ran knows seen run)
 
   -- what a script was run to
-  pub runs : (name : List ℕ) → AsksOf knows seen.words (commands.Step name) → IsRunStatus seen.status → outcomes.Ran seen.files name seen.status seen.taken seen.taken'
+  pub runs :
+      (schedule : Schedule) (name : List ℕ) → AsksToRun knows seen.words schedule name → IsRunStatus seen.status
+      → outcomes.RanShowing schedule report_text seen.files name seen.status seen.taken seen.taken'
   runs = stepping.runs knows seen (ran knows seen run)
 
   -- what a report was judged to
@@ -86,7 +121,7 @@ module _ (knows : Command → Bool) (seen : Run) (run : Runs knows seen) where
   completes_report = flattening.completes_report knows seen (ran knows seen run)
 
   pub completes_script :
-      (told : Files) → ReadFrom seen told → (name : List ℕ) → AsksOf knows seen.words (commands.Step name)
+      (told : Files) → ReadFrom seen told → (schedule : Schedule) (name : List ℕ) → AsksToRun knows seen.words schedule name
       → NothingRefusesLines told (told name) → EndsAsRun seen.status
   completes_script = stepping.completes knows seen (ran knows seen run)
 

@@ -51,6 +51,9 @@ ok_read_fault is = cc
 pub denied_read_fault : status.Denied ≢ status.ReadFault
 denied_read_fault is = cc
 
+pub pending_read_fault : status.Pending ≢ status.ReadFault
+pending_read_fault is = cc
+
 pub usage_pending : status.Usage ≢ status.Pending
 usage_pending is = cc
 
@@ -95,11 +98,14 @@ not_two own x y a b differ = differ (sym a ∙ b)
 pub data IsGiven : Status → Type 0 where
   well : IsGiven status.Ok
   with_denial : IsGiven status.Denied
+  as_pending : IsGiven status.Pending
 
 pub memory_not_given : (own due : Status) → IsGiven due → own ≡ status.NoMemory → own ≡ due → ⊥
 memory_not_given own _ well memory is = not_two own status.NoMemory status.Ok memory is memory_ok
 memory_not_given own _ with_denial memory is = not_two own status.NoMemory status.Denied memory is memory_denied
+memory_not_given own _ as_pending memory is = not_two own status.NoMemory status.Pending memory is memory_pending
 
 pub write_fault_not_given : (due : Status) → IsGiven due → status.WriteFault ≢ due
 write_fault_not_given _ well is = write_fault_ok is
 write_fault_not_given _ with_denial is = write_fault_denied is
+write_fault_not_given _ as_pending is = write_fault_pending is

@@ -27,13 +27,13 @@ use Rattle.command_law.specs.Fetches.{Fetch, failed_names, file_limit, Gave, rep
 use Rattle.command_law.specs.Lines.{begun, Progress}
 use Rattle.command_law.specs.OneFile.{cannot_read_script, script_file_too_long, script_file_at_fault, JudgementAnswers, judges_no_file, judges_no_long_file, judges_no_fault, judged}
 use Rattle.command_law.specs.Outcomes as outcomes
-use Rattle.command_law.specs.Outcomes.{ReadFrom, Ends, HoldsFile, TellsTooLong, IsScriptOf, IsRunStatus, EndsAsRun, IsVerdict, EndsAsJudged, Judged, MustRefuseScript, MustRefuseLine, MustRefuseReport, NothingRefusesLines, NothingRefusesReport}
+use Rattle.command_law.specs.Outcomes.{AsksForRun, AsksToRun, ReadFrom, Ends, HoldsFile, TellsTooLong, IsScriptOf, IsRunStatus, EndsAsRun, IsVerdict, EndsAsJudged, Judged, MustRefuseScript, MustRefuseLine, MustRefuseReport, NothingRefusesLines, NothingRefusesReport}
 use Rattle.command_law.specs.Runs.{Written, whole, stopped, Run}
 use Rattle.command_law.specs.Scripts.{lines_of_script}
 use Rattle.command_law.specs.Ways.{IsTextIn, AreRefused, LeadTo}
 use Rattle.command_law.proofs.Checking.{CheckEnds, too_early, by_report, check_ends, judged_so}
 use Rattle.command_law.proofs.GraphLaws.{GraphOrFault}
-use Rattle.command_law.proofs.Inverting.{Answer, of_words, AnswersCommand, no_form, answered_to, no_memory, only_checks, only_scripts, Ran}
+use Rattle.command_law.proofs.Inverting.{Answer, of_words, AnswersCommand, no_form, answered_to, no_memory, OfStep, only_checks, only_scripts, Ran}
 use Rattle.command_law.proofs.Reports.{need_no_fault, no_fault_refuses, not_longer}
 use Rattle.command_law.proofs.WayLaws as ways
 use Rattle.command_words.specs.BigFiles.{made_files, script_name}
@@ -148,17 +148,17 @@ not_long f file text is long = within_not_long (f file) text is.0 is.1 long
 
 -- ---- which status is due, where the files are told and no fetch failed
 
-module _ (schedule : Schedule) (show : Report → List ℕ) (f : Files) (name : List ℕ) (fetches : List Fetch) (none_failed : failed_names fetches ≡ []) where
+module _ (IsReport : List Statement → Report → Type 0) (show : Report → List ℕ) (f : Files) (name : List ℕ) (fetches : List Fetch) (none_failed : failed_names fetches ≡ []) where
   failed_none : (file : List ℕ) → failed_names fetches ≡ file ∷ [] → ⊥
   failed_none file names = let e : [] ≡ file ∷ [] = sym none_failed ∙ names in cc
 
-  pub refused_script : MustRefuseScript (f name) → (own : Status) (text : List ℕ) → ScriptEnds schedule show (Some f) name fetches own text → own ≡ status.Script
+  pub refused_script : MustRefuseScript (f name) → (own : Status) (text : List ℕ) → ScriptEnds IsReport show (Some f) name fetches own text → own ≡ status.Script
   refused_script must = of_end
     where
       not_one : (script : Script) → IsScriptOf (Some f) name script → ⊥
       not_one script is = need_no_refusal (f name) is.bytes script must is.told is.within is.is_script
 
-      of_end : (own : Status) (text : List ℕ) → ScriptEnds schedule show (Some f) name fetches own text → own ≡ status.Script
+      of_end : (own : Status) (text : List ℕ) → ScriptEnds IsReport show (Some f) name fetches own text → own ≡ status.Script
       of_end _ _ (early (is_none _ _ _ names gave cannot_read_script)) = absurd (failed_none name names)
       of_end _ _ (early (is_none _ _ _ names gave script_file_too_long)) = refl
       of_end _ _ (early (is_none _ _ _ names gave (script_file_at_fault bytes fault first))) = refl
@@ -183,13 +183,13 @@ module _ (schedule : Schedule) (show : Report → List ℕ) (f : Files) (name : 
       (sym (one_script r.bytes r.script script r.holds r.is_script is)) r.refused)
 
   pub refused_line :
-      GraphOrFault → MustRefuseLine f (f name) → (own : Status) (text : List ℕ) → ScriptEnds schedule show (Some f) name fetches own text → own ≡ status.Description
+      GraphOrFault → MustRefuseLine f (f name) → (own : Status) (text : List ℕ) → ScriptEnds IsReport show (Some f) name fetches own text → own ≡ status.Description
   refused_line graphs must = of_end
     where
       r : Refusing f name
       r = refusing f name must
 
-      of_end : (own : Status) (text : List ℕ) → ScriptEnds schedule show (Some f) name fetches own text → own ≡ status.Description
+      of_end : (own : Status) (text : List ℕ) → ScriptEnds IsReport show (Some f) name fetches own text → own ≡ status.Description
       of_end _ _ (early (is_none _ _ _ names gave cannot_read_script)) = absurd (failed_none name names)
       of_end _ _ (early (is_none _ _ _ names gave script_file_too_long)) = absurd (within_not_long (f name) r.bytes r.holds r.within gave.1)
       of_end _ _ (early (is_none _ _ _ names gave (script_file_at_fault bytes fault first))) =
@@ -198,13 +198,13 @@ module _ (schedule : Schedule) (show : Report → List ℕ) (f : Files) (name : 
       of_end _ _ (early (refuses script file ws is are none)) = refl
       of_end _ _ (reports script end report is lead is_report none) = absurd (line_not_passed graphs must script end is lead)
 
-  pub completed : NothingRefusesLines f (f name) → (own : Status) (text : List ℕ) → ScriptEnds schedule show (Some f) name fetches own text → IsRunStatus own
+  pub completed : NothingRefusesLines f (f name) → (own : Status) (text : List ℕ) → ScriptEnds IsReport show (Some f) name fetches own text → IsRunStatus own
   completed nothing = of_end
     where
       l : Leading f name
       l = leading f name nothing
 
-      of_end : (own : Status) (text : List ℕ) → ScriptEnds schedule show (Some f) name fetches own text → IsRunStatus own
+      of_end : (own : Status) (text : List ℕ) → ScriptEnds IsReport show (Some f) name fetches own text → IsRunStatus own
       of_end _ _ (early (is_none _ _ _ names gave cannot_read_script)) = absurd (failed_none name names)
       of_end _ _ (early (is_none _ _ _ names gave script_file_too_long)) = absurd (within_not_long (f name) l.bytes l.holds l.within gave.1)
       of_end _ _ (early (is_none _ _ _ names gave (script_file_at_fault bytes fault first))) =
@@ -214,22 +214,42 @@ module _ (schedule : Schedule) (show : Report → List ℕ) (f : Files) (name : 
           absurd (l.none script file ws (subst (λ b. IsScript b script) (same_content (f name) is.bytes l.bytes is.told l.holds) is.is_script) are)
       of_end _ _ (reports script end report is lead is_report none) = run_is report.status
 
+-- ---- a command by which words ask for the run of a script
+
+record RunCommand (knows : Command → Bool) (words : List (List ℕ)) (schedule : Schedule) (name : List ℕ) : Type 0 where
+  pub command : Command
+  pub asks : AsksOf knows words command
+  pub answers : (fetches : List Fetch) (own : Status) (text : List ℕ) → Answer command fetches own text
+      → OfStep (IsReportBy schedule) report_text name fetches own text
+
+by_schedule :
+    (knows : Command → Bool) (words : List (List ℕ)) (schedule : Schedule) (name : List ℕ) → AsksToRun knows words schedule name
+    → RunCommand knows words schedule name
+by_schedule knows words rounds name asks = record { command = commands.Step name; asks = asks; answers = λ fetches own text answer. answer }
+by_schedule knows words threads name asks = record { command = commands.Live name asks.0; asks = asks.1; answers = λ fetches own text answer. answer }
+
 module _ (knows : Command → Bool) (seen : Run) (run : Ran knows seen) where
   -- ---- what Ok, Pending and Unfinished say
 
-  pub runs : (name : List ℕ) → AsksOf knows seen.words (commands.Step name) → IsRunStatus seen.status → outcomes.Ran seen.files name seen.status seen.taken seen.taken'
-  runs name asks is = by run.written is
+  pub runs :
+      (schedule : Schedule) (name : List ℕ) → AsksToRun knows seen.words schedule name → IsRunStatus seen.status
+      → outcomes.RanShowing schedule report_text seen.files name seen.status seen.taken seen.taken'
+  runs schedule name asks is = by run.written is
     where
-      own : Answer (commands.Step name) run.fetches run.own run.text ⊎ (run.own ≡ status.NoMemory) → IsRunStatus run.own → seen.taken' ≡ with_bytes seen.taken run.text
-          → outcomes.Ran seen.files name run.own seen.taken seen.taken'
+      to : RunCommand knows seen.words schedule name
+      to = by_schedule knows seen.words schedule name asks
+
+      own : Answer to.command run.fetches run.own run.text ⊎ (run.own ≡ status.NoMemory) → IsRunStatus run.own → seen.taken' ≡ with_bytes seen.taken run.text
+          → outcomes.RanShowing schedule report_text seen.files name run.own seen.taken seen.taken'
       own (inl answer) is took =
-          reported rounds report_text seen.files name run.fetches seen.taken seen.taken' run.own run.text (script_ends rounds report_text seen.files name run.fetches run.own run.text answer run.told) is took
+          reported (IsReportBy schedule) report_text seen.files name run.fetches seen.taken seen.taken' run.own run.text
+          (script_ends (IsReportBy schedule) report_text seen.files name run.fetches run.own run.text (to.answers run.fetches run.own run.text answer) run.told) is took
       own (inr memory) is took = absurd (no_run status.NoMemory for_memory (subst IsRunStatus memory is))
 
-      by : Written run.own run.text seen → IsRunStatus seen.status → outcomes.Ran seen.files name seen.status seen.taken seen.taken'
+      by : Written run.own run.text seen → IsRunStatus seen.status → outcomes.RanShowing schedule report_text seen.files name seen.status seen.taken seen.taken'
       by (whole took same ends) is =
-          subst (λ s. outcomes.Ran seen.files name s seen.taken seen.taken') (sym ends)
-          (own (of_words knows seen.words (commands.Step name) run.fetches run.own run.text asks run.answers) (subst IsRunStatus ends is) took)
+          subst (λ s. outcomes.RanShowing schedule report_text seen.files name s seen.taken seen.taken') (sym ends)
+          (own (of_words knows seen.words to.command run.fetches run.own run.text to.asks run.answers) (subst IsRunStatus ends is) took)
       by (stopped n short took rose ends) is = absurd (no_run status.WriteFault for_sink (subst IsRunStatus ends is))
 
   pub sums_up : (lanes : ℕ) → AsksOf knows seen.words (commands.Big lanes) → IsRunStatus seen.status → outcomes.SummedUp lanes seen.status seen.taken seen.taken'
@@ -238,7 +258,7 @@ module _ (knows : Command → Bool) (seen : Run) (run : Ran knows seen) where
       own : Answer (commands.Big lanes) run.fetches run.own run.text ⊎ (run.own ≡ status.NoMemory) → IsRunStatus run.own → seen.taken' ≡ with_bytes seen.taken run.text
           → outcomes.SummedUp lanes run.own seen.taken seen.taken'
       own (inl answer) is took =
-          reported rounds (summary_text lanes) (Some (made_files lanes)) script_name answer.within seen.taken seen.taken' run.own run.text (big_ends lanes run.fetches run.own run.text answer) is took
+          reported (IsReportBy rounds) (summary_text lanes) (Some (made_files lanes)) script_name answer.within seen.taken seen.taken' run.own run.text (big_ends lanes run.fetches run.own run.text answer) is took
       own (inr memory) is took = absurd (no_run status.NoMemory for_memory (subst IsRunStatus memory is))
 
       by : Written run.own run.text seen → IsRunStatus seen.status → outcomes.SummedUp lanes seen.status seen.taken seen.taken'
@@ -248,27 +268,21 @@ module _ (knows : Command → Bool) (seen : Run) (run : Ran knows seen) where
       by (stopped n short took rose ends) is = absurd (no_run status.WriteFault for_sink (subst IsRunStatus ends is))
 
   pub asked_to_run :
-      (seen.status ≡ status.Pending) ⊎ (seen.status ≡ status.Unfinished)
-      → ((name : List ℕ) × AsksOf knows seen.words (commands.Step name)) ⊎ ((lanes : ℕ) × AsksOf knows seen.words (commands.Big lanes))
+      (seen.status ≡ status.Pending) ⊎ (seen.status ≡ status.Unfinished) → AsksForRun knows seen.words seen.status
   asked_to_run is = by run.written is
     where
-      of_script :
-          (command : Command) → AsksOf knows seen.words command → ((name : List ℕ) × (command ≡ commands.Step name)) ⊎ ((lanes : ℕ) × (command ≡ commands.Big lanes))
-          → ((name : List ℕ) × AsksOf knows seen.words (commands.Step name)) ⊎ ((lanes : ℕ) × AsksOf knows seen.words (commands.Big lanes))
-      of_script command asks (inl only) = inl (only.0, subst (λ c. AsksOf knows seen.words c) only.1 asks)
-      of_script command asks (inr only) = inr (only.0, subst (λ c. AsksOf knows seen.words c) only.1 asks)
-
       own : (fetches : List Fetch) (s : Status) (text : List ℕ) → AnswersCommand knows seen.words fetches s text → (s ≡ status.Pending) ⊎ (s ≡ status.Unfinished)
-          → ((name : List ℕ) × AsksOf knows seen.words (commands.Step name)) ⊎ ((lanes : ℕ) × AsksOf knows seen.words (commands.Big lanes))
+          → AsksForRun knows seen.words s
       own _ _ _ (no_form none) (inl is) = absurd (usage_pending is)
       own _ _ _ (no_form none) (inr is) = absurd (usage_unfinished is)
-      own _ _ _ (answered_to command fetches s text asks to) is = of_script command asks (only_scripts command fetches s text to is)
+      own _ _ _ (answered_to command fetches s text asks to) is = only_scripts knows seen.words command fetches s text asks to is
       own _ _ _ (no_memory fetches) (inl is) = absurd (memory_pending is)
       own _ _ _ (no_memory fetches) (inr is) = absurd (memory_unfinished is)
 
-      by : Written run.own run.text seen → (seen.status ≡ status.Pending) ⊎ (seen.status ≡ status.Unfinished)
-          → ((name : List ℕ) × AsksOf knows seen.words (commands.Step name)) ⊎ ((lanes : ℕ) × AsksOf knows seen.words (commands.Big lanes))
-      by (whole took same ends) is = own run.fetches run.own run.text run.answers (subst (λ s. (s ≡ status.Pending) ⊎ (s ≡ status.Unfinished)) ends is)
+      by : Written run.own run.text seen → (seen.status ≡ status.Pending) ⊎ (seen.status ≡ status.Unfinished) → AsksForRun knows seen.words seen.status
+      by (whole took same ends) is =
+          subst (AsksForRun knows seen.words) (sym ends)
+          (own run.fetches run.own run.text run.answers (subst (λ s. (s ≡ status.Pending) ⊎ (s ≡ status.Unfinished)) ends is))
       by (stopped n short took rose ends) (inl is) = absurd (write_fault_pending (sym ends ∙ is))
       by (stopped n short took rose ends) (inr is) = absurd (write_fault_unfinished (sym ends ∙ is))
 
@@ -294,25 +308,25 @@ module _ (knows : Command → Bool) (seen : Run) (run : Ran knows seen) where
 
   of_big :
       (lanes : ℕ) (Due : Status → Type 0) → AsksOf knows seen.words (commands.Big lanes)
-      → ((within : List Fetch) → failed_names within ≡ [] → (own : Status) (text : List ℕ) → ScriptEnds rounds (summary_text lanes) (Some (made_files lanes)) script_name within own text → Due own)
+      → ((within : List Fetch) → failed_names within ≡ [] → (own : Status) (text : List ℕ) → ScriptEnds (IsReportBy rounds) (summary_text lanes) (Some (made_files lanes)) script_name within own text → Due own)
       → Due seen.status ⊎ (seen.status ≡ status.NoMemory) ⊎ (seen.status ≡ status.WriteFault)
   of_big lanes Due asks of_end =
       finishes (commands.Big lanes) Due asks (λ answer. of_end answer.within answer.none_failed run.own run.text (big_ends lanes run.fetches run.own run.text answer))
 
   pub must_refuse_made_script : (lanes : ℕ) → AsksOf knows seen.words (commands.Big lanes) → MustRefuseScript (made_files lanes script_name) → Ends seen.status status.Script
   must_refuse_made_script lanes asks must =
-      of_big lanes (λ s. s ≡ status.Script) asks (λ within none own text. refused_script rounds (summary_text lanes) (made_files lanes) script_name within none must own text)
+      of_big lanes (λ s. s ≡ status.Script) asks (λ within none own text. refused_script (IsReportBy rounds) (summary_text lanes) (made_files lanes) script_name within none must own text)
 
   -- From a law of the elaborator, as it stands there.
   pub must_refuse_made_line :
       GraphOrFault
       → (lanes : ℕ) → AsksOf knows seen.words (commands.Big lanes) → MustRefuseLine (made_files lanes) (made_files lanes script_name) → Ends seen.status status.Description
   must_refuse_made_line graphs lanes asks must =
-      of_big lanes (λ s. s ≡ status.Description) asks (λ within none own text. refused_line rounds (summary_text lanes) (made_files lanes) script_name within none graphs must own text)
+      of_big lanes (λ s. s ≡ status.Description) asks (λ within none own text. refused_line (IsReportBy rounds) (summary_text lanes) (made_files lanes) script_name within none graphs must own text)
 
   pub completes_big : (lanes : ℕ) → AsksOf knows seen.words (commands.Big lanes) → NothingRefusesLines (made_files lanes) (made_files lanes script_name) → EndsAsRun seen.status
   completes_big lanes asks nothing =
-      of_big lanes IsRunStatus asks (λ within none own text. completed rounds (summary_text lanes) (made_files lanes) script_name within none nothing own text)
+      of_big lanes IsRunStatus asks (λ within none own text. completed (IsReportBy rounds) (summary_text lanes) (made_files lanes) script_name within none nothing own text)
 
   -- ---- which status must come, where the shelf tells its files and no fetch failed
 
@@ -321,27 +335,32 @@ module _ (knows : Command → Bool) (seen : Run) (run : Ran knows seen) where
     none_failed_here = none_added seen.failures (failed_names run.fetches) (sym read.steady ∙ run.noted)
 
     of_step :
-        (name : List ℕ) (Due : Status → Type 0) → AsksOf knows seen.words (commands.Step name)
-        → ((own : Status) (text : List ℕ) → ScriptEnds rounds report_text (Some f) name run.fetches own text → Due own)
+        (schedule : Schedule) (name : List ℕ) (Due : Status → Type 0) → AsksToRun knows seen.words schedule name
+        → ((own : Status) (text : List ℕ) → ScriptEnds (IsReportBy schedule) report_text (Some f) name run.fetches own text → Due own)
         → Due seen.status ⊎ (seen.status ≡ status.NoMemory) ⊎ (seen.status ≡ status.WriteFault)
-    of_step name Due asks of_end =
-        finishes (commands.Step name) Due asks
+    of_step schedule name Due asks of_end =
+        let to = by_schedule knows seen.words schedule name asks in
+        finishes to.command Due to.asks
         (λ answer. of_end run.own run.text
-        (script_ends rounds report_text (Some f) name run.fetches run.own run.text answer (subst (λ fs. AllByRecursion (Gave fs) run.fetches) read.tells run.told)))
+        (script_ends (IsReportBy schedule) report_text (Some f) name run.fetches run.own run.text (to.answers run.fetches run.own run.text answer)
+        (subst (λ fs. AllByRecursion (Gave fs) run.fetches) read.tells run.told)))
 
-    pub must_refuse_script : (name : List ℕ) → AsksOf knows seen.words (commands.Step name) → MustRefuseScript (f name) → Ends seen.status status.Script
-    must_refuse_script name asks must =
-        of_step name (λ s. s ≡ status.Script) asks (refused_script rounds report_text f name run.fetches none_failed_here must)
+    pub must_refuse_script :
+        (schedule : Schedule) (name : List ℕ) → AsksToRun knows seen.words schedule name → MustRefuseScript (f name) → Ends seen.status status.Script
+    must_refuse_script schedule name asks must =
+        of_step schedule name (λ s. s ≡ status.Script) asks (refused_script (IsReportBy schedule) report_text f name run.fetches none_failed_here must)
 
     -- From a law of the elaborator, as it stands there.
     pub must_refuse_line :
         GraphOrFault
-        → (name : List ℕ) → AsksOf knows seen.words (commands.Step name) → MustRefuseLine f (f name) → Ends seen.status status.Description
-    must_refuse_line graphs name asks must =
-        of_step name (λ s. s ≡ status.Description) asks (refused_line rounds report_text f name run.fetches none_failed_here graphs must)
+        → (schedule : Schedule) (name : List ℕ) → AsksToRun knows seen.words schedule name → MustRefuseLine f (f name) → Ends seen.status status.Description
+    must_refuse_line graphs schedule name asks must =
+        of_step schedule name (λ s. s ≡ status.Description) asks (refused_line (IsReportBy schedule) report_text f name run.fetches none_failed_here graphs must)
 
-    pub completes : (name : List ℕ) → AsksOf knows seen.words (commands.Step name) → NothingRefusesLines f (f name) → EndsAsRun seen.status
-    completes name asks nothing = of_step name IsRunStatus asks (completed rounds report_text f name run.fetches none_failed_here nothing)
+    pub completes :
+        (schedule : Schedule) (name : List ℕ) → AsksToRun knows seen.words schedule name → NothingRefusesLines f (f name) → EndsAsRun seen.status
+    completes schedule name asks nothing =
+        of_step schedule name IsRunStatus asks (completed (IsReportBy schedule) report_text f name run.fetches none_failed_here nothing)
 
     -- ---- of the check of a report
 
@@ -358,7 +377,7 @@ module _ (knows : Command → Bool) (seen : Run) (run : Ran knows seen) where
     must_refuse_its_script name file asks must = of_check name file (λ s. s ≡ status.Script) asks of_end
       where
         of_end : (own : Status) (text : List ℕ) → CheckEnds (Some f) name file run.fetches own text → own ≡ status.Script
-        of_end own text (too_early e) = refused_script rounds report_text f name run.fetches none_failed_here must own text (early e)
+        of_end own text (too_early e) = refused_script (IsReportBy rounds) report_text f name run.fetches none_failed_here must own text (early e)
         of_end _ _ (by_report script end given own text is lead names gave judgement) =
             absurd (need_no_refusal (f name) is.bytes script must is.told is.within is.is_script)
 
@@ -369,13 +388,13 @@ module _ (knows : Command → Bool) (seen : Run) (run : Ran knows seen) where
     must_refuse_its_line graphs name file asks must = of_check name file (λ s. s ≡ status.Description) asks of_end
       where
         of_end : (own : Status) (text : List ℕ) → CheckEnds (Some f) name file run.fetches own text → own ≡ status.Description
-        of_end own text (too_early e) = refused_line rounds report_text f name run.fetches none_failed_here graphs must own text (early e)
-        of_end _ _ (by_report script end given own text is lead names gave judgement) = absurd (line_not_passed rounds report_text f name run.fetches none_failed_here graphs must script end is lead)
+        of_end own text (too_early e) = refused_line (IsReportBy rounds) report_text f name run.fetches none_failed_here graphs must own text (early e)
+        of_end _ _ (by_report script end given own text is lead names gave judgement) = absurd (line_not_passed (IsReportBy rounds) report_text f name run.fetches none_failed_here graphs must script end is lead)
 
     -- where nothing refuses its script, it isn't early
     no_early : (name : List ℕ) → NothingRefusesLines f (f name) → (own : Status) (text : List ℕ) → EarlyEnds (Some f) name run.fetches own text → ⊥
     no_early name nothing own text e =
-        no_run own (early_other (Some f) name run.fetches own text e) (completed rounds report_text f name run.fetches none_failed_here nothing own text (early e))
+        no_run own (early_other (Some f) name run.fetches own text e) (completed (IsReportBy rounds) report_text f name run.fetches none_failed_here nothing own text (early e))
 
     -- where nothing refuses its script, it ends by its report
     by_its_report :

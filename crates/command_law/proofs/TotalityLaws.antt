@@ -1,5 +1,5 @@
 -- What is wanted of a description is refused or answered.
-use Rattle.std.proofs.Common.{◌≡◌, ◌<◌, ◌⊎◌, inl, inr, ℕ, ℤ, false, List, [], Option, Some, None, length, map, sum_by, slice_get, refl, subst, arith, IsTrue}
+use Rattle.std.proofs.Common.{◌≡◌, ◌<◌, ◌⊎◌, inl, inr, ℕ, ℤ, false, List, [], Option, Some, None, length, map, sum_by, slice_get, refl, subst, sym, arith, IsTrue}
 use Rattle.std.specs.List.{range_with_len}
 use Rattle.std.specs.Option.{option_map_or}
 use Rattle.base.proofs.PlaceLaws.{slice_get-below}
@@ -61,6 +61,11 @@ use Rattle.command_words.specs.declared.words.TopCall.{TopCall}
 use Rattle.command_law.specs.Descriptions.{IsChecked, IsTextRefusal, by_lexer, by_grammar, by_nesting, by_names, HasGraph, IsDescriptionRefusal, by_text, by_elaboration, place_at}
 use Rattle.command_law.specs.Plans.{Starts, RefusesStart, has_no_graph, is_full, HasChange, RefusesPlan, starts_not, leads_nowhere, gets_full, nothing_made, made_of_graph}
 use Rattle.command_law.specs.Queries.{IsRefused, AnswersQuery, IsTextBy}
+use Rattle.command_answers.specs.Answers.{roll_status}
+use Rattle.command_answers.specs.PartTexts.{roll_text}
+use Rattle.change_law.specs.Scripts.{more_made}
+use Rattle.change_roll_laws.specs.Rolls.{IsRoll, roll_statements, stage_left}
+use Rattle.command_law.proofs.Courses.{first_made}
 use Rattle.command_law.specs.Replays.{IsReplayed, one_denied, all_steps, HasReplay}
 use Rattle.command_law.specs.declared.query.Cut.{Cut}
 use Rattle.command_law.specs.declared.query.Cut.TheVariants as cuts
@@ -144,14 +149,28 @@ SomeListOfParts =
     (old new : Graph) (moves : List Move) (made : Made) → IsGraph old → IsGraph new → Sound new → CanPlan old new moves made
     → ¬ ((ps : List Part) → ¬ AreParts old new moves ps)
 
--- the change is made by a plan, or in parts
+abbrev pub SomeRoll : Type 0
+SomeRoll =
+    (name : List ℕ) (args : List ℤ) (old : Graph) (k : ℕ) (new_name : List ℕ) (new_args : List ℤ) (within : ℕ) (new : Graph) (moves : List Move) (ps : List Part)
+    → Sound old → HasRoomFor nothing_made old → IsGraph new → Sound new → CanPlan old new moves (more_made nothing_made (length old.nodes) (length (ports old.nodes))) → AreParts old new moves ps
+    → (given_up : Option ℕ) × IsRoll (roll_statements name args old k new_name new_args within ps) given_up
+
+-- the change is made by a plan, in parts, or as a roll
 some_change :
-    SomeListOfParts → (cut : Cut) (old new : Graph) → IsGraph old → IsGraph new → Sound old → Sound new → CanPlan old new [] (made_of_graph old)
-    → ¬ ¬ ((written : List ℕ) × IsTextBy cut old new written)
-some_change lists cuts.Whole old new old_graph new_graph sound other can none =
-    planned old new sound (λ p. none (plan_text old new p.0, (p.0, p.1, refl)))
-some_change lists cuts.InParts old new old_graph new_graph sound other can none =
-    lists old new [] (made_of_graph old) old_graph new_graph other can (λ ps are. none (parts_text old ps, (ps, are, refl)))
+    SomeListOfParts → SomeRoll → (cut : Cut) (call target : TopCall) (old new : Graph) → IsGraph old → IsGraph new → Sound old → Sound new → HasRoomFor nothing_made old
+    → CanPlan old new [] (made_of_graph old) → ¬ ¬ ((own : Status) × (written : List ℕ) × IsTextBy cut call target own old new written)
+some_change lists rolls cuts.Whole call target old new old_graph new_graph sound other room can none =
+    planned old new sound (λ p. none (status.Ok, plan_text old new p.0, (refl, (p.0, p.1, refl))))
+some_change lists rolls cuts.InParts call target old new old_graph new_graph sound other room can none =
+    lists old new [] (made_of_graph old) old_graph new_graph other can (λ ps are. none (status.Ok, parts_text old ps, (refl, (ps, are, refl))))
+some_change lists rolls (cuts.Rolled run within) call target old new old_graph new_graph sound other room can none =
+    lists old new [] (made_of_graph old) old_graph new_graph other can (λ ps are.
+    let roll = rolls call.top call.args old run target.top target.args within new [] ps sound room new_graph other (subst (λ m. CanPlan old new [] m) (sym (first_made old)) can) are in
+    none (
+      roll_status roll.0,
+      roll_text old ps roll.0 (stage_left old ps roll.0),
+      record { parts = ps; are_parts = are; given_up = roll.0; is_roll = roll.1; ended = refl; is_text = refl },
+    ))
 
 -- how much is to be created
 pub wanted : (old new : Graph) → ¬ ¬ ((nodes : ℕ) × (wanted_ports : ℕ) × CreatesSoMany old new nodes wanted_ports)
@@ -260,9 +279,9 @@ module _ (names : (t : Tree) → NoFault t ⊎ ((e : TypeError) × HasFault t e)
 
   -- that neither an answer nor a refusal stands can't be
   refused_or_changed :
-      SomeListOfParts → (cut : Cut) (text : List ℕ) (call target : TopCall) → ((words : List (List ℕ)) → ¬ RefusesPlan text call target words)
-      → ((written : List ℕ) → ¬ HasChange (IsTextBy cut) text call target written) → ⊥
-  refused_or_changed lists cut text call target refuses answers = from (start_or_refusal text call.top call.args)
+      SomeListOfParts → SomeRoll → (cut : Cut) (text : List ℕ) (call target : TopCall) → ((words : List (List ℕ)) → ¬ RefusesPlan text call target words)
+      → ((own : Status) (written : List ℕ) → ¬ HasChange (IsTextBy cut call target own) text call target written) → ⊥
+  refused_or_changed lists rolls cut text call target refuses answers = from (start_or_refusal text call.top call.args)
     where
       stepped :
           (old new : Graph) → Starts text call.top call.args old → Sound old → HasGraph text target.top target.args new
@@ -270,9 +289,9 @@ module _ (names : (t : Tree) → NoFault t ⊎ ((e : TypeError) × HasFault t e)
       stepped old new starts sound has (inl can) =
           let old_graph = has_bounds graphs text call.top call.args old starts.has_graph in
           let new_graph = has_bounds graphs text target.top target.args new has in
-          some_change lists cut old new old_graph new_graph sound (is_sound graphs text target.top target.args new has) can (λ w.
-          answers w.0
-          (record { old = old; new = new; starts = starts; has_graph = has; has_steps = record { has_room = can; is_text = w.1 } }))
+          some_change lists rolls cut call target old new old_graph new_graph sound (is_sound graphs text target.top target.args new has) starts.has_room can (λ w.
+          answers w.0 w.1
+          (record { old = old; new = new; starts = starts; has_graph = has; has_steps = record { has_room = can; is_text = w.2 } }))
       stepped old new starts sound has (inr (e, full)) = refuses (plan_words e) (gets_full old new e starts has full)
 
       to :
@@ -310,12 +329,12 @@ module _ (names : (t : Tree) → NoFault t ⊎ ((e : TypeError) × HasFault t e)
       from (inr (words, is)) = refuses words is
 
   pub refused_or_answered :
-      SomeListOfParts → (query : Query) (text : List ℕ)
+      SomeListOfParts → SomeRoll → (query : Query) (text : List ℕ)
       → ¬ (((words : List (List ℕ)) → ¬ IsRefused query text words) × ((own : Status) (written : List ℕ) → ¬ AnswersQuery query text own written))
-  refused_or_answered lists (queries.Graph call) text (refuses, answers) = by (graphs_or_refusals text call.top call.args)
+  refused_or_answered lists rolls (queries.Graph call) text (refuses, answers) = by (graphs_or_refusals text call.top call.args)
     where
       by : ((g : Graph) × HasGraph text call.top call.args g) ⊎ ((words : List (List ℕ)) × IsDescriptionRefusal text call.top call.args words) → ⊥
       by (inl (g, has)) = answers status.Ok (graph_text g) (refl, (g, has, refl))
       by (inr (words, is)) = refuses words is
-  refused_or_answered lists (queries.Change cut call target) text (refuses, answers) = refused_or_changed lists cut text call target refuses (λ written has. answers status.Ok written (refl, has))
-  refused_or_answered lists (queries.Replay events_file) text (refuses, answers) = replays text events_file refuses answers
+  refused_or_answered lists rolls (queries.Change cut call target) text (refuses, answers) = refused_or_changed lists rolls cut text call target refuses answers
+  refused_or_answered lists rolls (queries.Replay events_file) text (refuses, answers) = replays text events_file refuses answers

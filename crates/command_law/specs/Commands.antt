@@ -24,12 +24,12 @@ use Rattle.command_law.specs.declared.query.Query.TheVariants as queries
 use Rattle.command_law.specs.Courses.{FetchCourse, SaysAlone, AfterFetch, After, Unrefused}
 use Rattle.command_law.specs.Fetches.{Fetch, Gave, failed_names, file_limit, report_limit}
 use Rattle.command_law.specs.Lines.{RunLine, uses, calls, draws, starts, changes, Aim, drawing, planning, replaying, running, Progress, begun, behind, FollowsLines}
-use Rattle.command_law.specs.Schedules.{rounds}
+use Rattle.command_law.specs.Schedules.{rounds, threads}
 use Rattle.command_law.specs.Scripts.{lines_of_script}
 
 abbrev pub aim_of : Query → Aim
 aim_of (queries.Graph call) = drawing
-aim_of (queries.Change cut call target) = planning cut
+aim_of (queries.Change cut call target) = planning cut call target
 aim_of (queries.Replay events) = replaying events.events
 
 -- Of a graph the component is drawn. For a change a run starts with the first component and changes to the second,
@@ -109,6 +109,7 @@ course_of commands.Version = SaysAlone version
 course_of (commands.Flat file call) = course_of_query file (queries.Graph call)
 course_of (commands.Plan file call target) = course_of_query file (queries.Change cuts.Whole call target)
 course_of (commands.Parts file call target) = course_of_query file (queries.Change cuts.InParts call target)
+course_of (commands.Roll file run within call target) = course_of_query file (queries.Change (cuts.Rolled run within) call target)
 course_of (commands.Replay file name) =
     let refuse = λ (words : List (List ℕ)). refusal (script name words) in
     AfterFetch name file_limit refuse
@@ -119,5 +120,6 @@ course_of (commands.Upgrade file) =
     AfterFetch file report_limit refuse
     (λ bytes. After (RefusesReport bytes) refuse (TellsReport bytes) (λ r. SaysAlone (report r)))
 course_of (commands.Step name) = course_of_script (behind (running rounds)) name
+course_of (commands.Live name workers) = course_of_script (behind (running threads)) name
 course_of (commands.Check name file) = course_of_script (judges file) name
 course_of (commands.Big lanes) = SumsUp lanes

@@ -18,10 +18,12 @@ use Rattle.change_plan.specs.declared.plan_data.Plan.{Plan}
 use Rattle.change_parts_laws.specs.Parts.{AreParts}
 use Rattle.change_parts_laws.specs.declared.part.Part.{Part}
 use Rattle.change_law.specs.Scripts.{more_made}
+use Rattle.change_roll_laws.specs.Rolls.{IsRoll, roll_statements, stage_left}
 use Rattle.change_law.specs.Statements.{Statement, start, change}
 use Rattle.report_types.specs.declared.report.Report.{Report}
-use Rattle.command_answers.specs.Answers.{Answer, refusal, description, graph, parts, plan, ran}
+use Rattle.command_answers.specs.Answers.{Answer, refusal, description, graph, parts, plan, ran, rolled}
 use Rattle.command_answers.specs.RefusalLines.{elaborate_words, plan_words}
+use Rattle.command_words.specs.declared.words.TopCall.{TopCall}
 use Rattle.command_law.specs.Courses.{FetchCourse, SaysAlone, AfterFetch, After, Unrefused}
 use Rattle.command_law.specs.Descriptions.{IsChecked, IsGraphOfCall, IsTextRefusal}
 use Rattle.command_law.specs.Fetches.{file_limit}
@@ -116,30 +118,45 @@ pub data IsCallRefusal (p : Progress) (deed : GraphUse) (name : Name) (args : Li
 pub data Aim : Type 0 where
   -- the text of the last graph
   drawing : Aim
-  -- that of the change to the last graph, without moves
-  planning : Cut → Aim
+  -- that of the change to the last graph, without moves, from the first call to the second
+  planning : Cut → TopCall → TopCall → Aim
   -- that of what events come to from a start with it
   replaying : List Event → Aim
   -- the report of a run of all that is to be done
   running : Schedule → Aim
 
--- the answer that is the change from one graph to another, in one plan or in parts
-abbrev pub IsChangeOf : Cut → Graph → Graph → Answer → Type 0
-IsChangeOf cuts.Whole old new answer = (steps : Plan) × IsPlanOf old new [] steps × (answer ≡ plan old new steps)
-IsChangeOf cuts.InParts old new answer = (ps : List Part) × AreParts old new [] ps × (answer ≡ parts old ps)
+-- the answer that is the change from one graph to another: in one plan, in parts, or as a roll
+abbrev pub IsChangeOf : Cut → TopCall → TopCall → Graph → Graph → Answer → Type 0
+IsChangeOf cuts.Whole call target old new answer =
+    (steps : Plan) × IsPlanOf old new [] steps × (answer ≡ plan old new steps)
+IsChangeOf cuts.InParts call target old new answer =
+    (ps : List Part) × AreParts old new [] ps × (answer ≡ parts old ps)
+IsChangeOf (cuts.Rolled run within) call target old new answer =
+    (ps : List Part) × AreParts old new [] ps × (given_up : Option ℕ)
+    × IsRoll (roll_statements call.top call.args old run target.top target.args within ps) given_up
+    × (answer ≡ rolled old ps given_up (stage_left old ps given_up))
+
+-- the answer that is the report of a run of these statements, where this must be so of them and of it
+abbrev pub IsRunAnswer : (List Statement → Report → Type 0) → List Statement → Answer → Type 0
+IsRunAnswer IsReport statements answer = (r : Report) × IsReport statements r × (answer ≡ ran r)
 
 -- the answer to what is wanted, from where the lines lead
 abbrev pub Concludes : Aim → Progress → Answer → Type 0
 Concludes drawing p answer = (g : Graph) × (earlier : List Graph) × (p.graphs ≡ g ∷ earlier) × (answer ≡ graph g)
-Concludes (planning cut) p answer =
-    (old new : Graph) × (earlier : List Graph) × (p.graphs ≡ new ∷ old ∷ earlier) × IsChangeOf cut old new answer
+Concludes (planning cut call target) p answer =
+    (old new : Graph) × (earlier : List Graph) × (p.graphs ≡ new ∷ old ∷ earlier)
+    × IsChangeOf cut call target old new answer
 Concludes (replaying events) p answer =
     (g : Graph) × (earlier : List Graph) × (p.graphs ≡ g ∷ earlier) × IsReplayed (started g) events answer
-Concludes (running schedule) p answer = (r : Report) × IsReportBy schedule p.statements r × (answer ≡ ran r)
+Concludes (running schedule) p answer = IsRunAnswer (IsReportBy schedule) p.statements answer
 
 -- what follows behind the lines: nothing of what is wanted is refused, and nothing more is fetched for it
 abbrev pub behind : Aim → Progress → FetchCourse
 behind aim p = Unrefused (Concludes aim p) SaysAlone
+
+-- Of a run it is a report of what is to be done; `behind (running schedule)` is `reporting (IsReportBy schedule)`.
+abbrev pub reporting : (List Statement → Report → Type 0) → Progress → FetchCourse
+reporting IsReport p = Unrefused (IsRunAnswer IsReport p.statements) SaysAlone
 
 -- The course of lines, and behind them of what follows from where they lead. A line that uses a file fetches it, and no
 -- other line fetches anything.

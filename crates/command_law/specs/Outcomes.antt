@@ -26,7 +26,7 @@ use Rattle.report_texts.specs.declared.error.ReportFault.{ReportFault}
 use Rattle.command_answers.specs.RefusalLines.{description_line, report_words, script_line, script_words}
 use Rattle.command_law.specs.Commands.{IsJudged, TellsReport}
 use Rattle.command_law.specs.Descriptions.{HasGraph}
-use Rattle.command_law.specs.Plans.{HasChange, IsPartsText, IsPlanText}
+use Rattle.command_law.specs.Plans.{HasChange, IsPartsText, IsPlanText, IsRollText}
 use Rattle.command_law.specs.Replays.{HasReplay}
 use Rattle.command_law.specs.declared.query.Cut.TheVariants as cuts
 use Rattle.command_law.specs.declared.query.Query.{Query}
@@ -35,7 +35,7 @@ use Rattle.command_law.specs.Queries.{IsRefused, AnswersQuery}
 use Rattle.command_answers.specs.Answers.{Answer, run_status, status_of, text_of}
 use Rattle.command_law.specs.Failures.{Uses}
 use Rattle.command_law.specs.Lines.{begun}
-use Rattle.command_law.specs.Schedules.{Schedule, rounds, IsReportBy}
+use Rattle.command_law.specs.Schedules.{Schedule, rounds, threads, IsReportBy}
 use Rattle.command_law.specs.Scripts.{lines_of_script}
 use Rattle.command_law.specs.Ways.{AreRefused, Elaborates}
 use Rattle.command_law.specs.Fetches.{Fetch, Gave, failed_names, file_limit, report_limit}
@@ -51,9 +51,13 @@ MentionsFile Holds commands.Version name = ⊥
 MentionsFile Holds (commands.Flat file call) name = name ≡ file
 MentionsFile Holds (commands.Plan file call target) name = name ≡ file
 MentionsFile Holds (commands.Parts file call target) name = name ≡ file
+MentionsFile Holds (commands.Roll file run within call target) name = name ≡ file
 MentionsFile Holds (commands.Replay file events) name = (name ≡ file) ⊎ (name ≡ events)
 MentionsFile Holds (commands.Upgrade file) name = name ≡ file
 MentionsFile Holds (commands.Step script) name =
+    (name ≡ script) ⊎ ((bytes : List ℕ) × (lines : Script) × Holds script bytes × IsScript bytes lines
+    × Uses (lines_of_script lines.lines) name)
+MentionsFile Holds (commands.Live script workers) name =
     (name ≡ script) ⊎ ((bytes : List ℕ) × (lines : Script) × Holds script bytes × IsScript bytes lines
     × Uses (lines_of_script lines.lines) name)
 MentionsFile Holds (commands.Check script report) name =
@@ -109,19 +113,24 @@ pub record IsScriptOf (files : Option Files) (name : List ℕ) (script : Script)
   pub is_script : IsScript bytes script
 
 -- The script was run: its statements have the graphs to which the descriptions elaborate that the files hold, and
--- what is shown of the report of their run was written. The run ended as the report says.
-pub record RanShowing (schedule : Schedule) (show : Report → List ℕ) (files : Option Files) (name : List ℕ) (own : Status)
-    (taken taken' : Option (List ℕ)) : Type 0 where
+-- what is shown of the report of their run was written. The run ended as the report says. What must be so of statements
+-- and report is given.
+pub record Reported (IsReport : List Statement → Report → Type 0) (show : Report → List ℕ) (files : Option Files) (name : List ℕ)
+    (own : Status) (taken taken' : Option (List ℕ)) : Type 0 where
   pub script : Script
   pub is_script : IsScriptOf files name script
   pub statements : List Statement
   pub have_graphs : StatementsOf (Elaborates (HoldsFile files)) script statements
   pub report : Report
-  pub is_report : IsReportBy schedule statements report
+  pub is_report : IsReport statements report
   pub ended : own ≡ run_status report.status
   pub written : taken' ≡ with_bytes taken (show report)
 
--- the same in rounds, where all of the report is shown
+-- a run by a schedule
+abbrev pub RanShowing : Schedule → (Report → List ℕ) → Option Files → List ℕ → Status → Option (List ℕ) → Option (List ℕ) → Type 0
+RanShowing schedule = Reported (IsReportBy schedule)
+
+-- in rounds, where all of the report is shown
 abbrev pub Ran : Option Files → List ℕ → Status → Option (List ℕ) → Option (List ℕ) → Type 0
 Ran = RanShowing rounds report_text
 
@@ -206,9 +215,24 @@ abbrev pub Wants : (Command → Bool) → Option Files → List (List ℕ) → L
 Wants knows files words file (queries.Graph call) = AsksOf knows words (commands.Flat file call)
 Wants knows files words file (queries.Change cuts.Whole call target) = AsksOf knows words (commands.Plan file call target)
 Wants knows files words file (queries.Change cuts.InParts call target) = AsksOf knows words (commands.Parts file call target)
+Wants knows files words file (queries.Change (cuts.Rolled run within) call target) =
+    AsksOf knows words (commands.Roll file run within call target)
 Wants knows files words file (queries.Replay events_file) =
     (name bytes : List ℕ) × AsksOf knows words (commands.Replay file name) × HoldsFile files name bytes
     × (length bytes ≤ file_limit) × IsEventFile bytes events_file
+
+-- the words ask for the run of a script by a schedule
+abbrev pub AsksToRun : (Command → Bool) → List (List ℕ) → Schedule → List ℕ → Type 0
+AsksToRun knows words rounds name = AsksOf knows words (commands.Step name)
+AsksToRun knows words threads name = (workers : ℕ) × AsksOf knows words (commands.Live name workers)
+
+-- the words ask for what may end so: the run of a script, their own or a made one; or a roll, which may be given up
+abbrev pub AsksForRun : (Command → Bool) → List (List ℕ) → Status → Type 0
+AsksForRun knows words own =
+    ((schedule : Schedule) × (name : List ℕ) × AsksToRun knows words schedule name)
+    ⊎ ((lanes : ℕ) × AsksOf knows words (commands.Big lanes))
+    ⊎ ((own ≡ status.Pending) × (file : List ℕ) × (run within : ℕ) × (call target : TopCall)
+    × AsksOf knows words (commands.Roll file run within call target))
 
 -- The file holds a description that has a graph for the component and its arguments, and the text of this graph was
 -- written.
@@ -237,6 +261,14 @@ Planned = WroteChange IsPlanText
 -- the text of its parts
 abbrev pub Parted : Option Files → List ℕ → TopCall → TopCall → Option (List ℕ) → Option (List ℕ) → Type 0
 Parted = WroteChange IsPartsText
+
+-- that of its roll, which ended so
+abbrev pub Rolled : ℕ → ℕ → Option Files → List ℕ → TopCall → TopCall → Status → Option (List ℕ) → Option (List ℕ) → Type 0
+Rolled run within files file call target own = WroteChange (IsRollText run within call target own) files file call target
+
+-- a roll may end with the status: all parts were carried out, or one was given up
+abbrev pub IsRollStatus : Status → Type 0
+IsRollStatus own = (own ≡ status.Ok) ⊎ (own ≡ status.Pending)
 
 -- The file of events is one, and what its events come to over the description was written, with this status.
 pub record Replayed (files : Option Files) (file events : List ℕ) (own : Status) (taken taken' : Option (List ℕ)) : Type 0 where
@@ -312,7 +344,8 @@ abbrev pub RefusesFile : (Command → Bool) → Run → Type 0
 RefusesFile knows r =
     ((file events : List ℕ) × AsksOf knows r.words (commands.Replay file events) × EventsRefused r.files events r.taken r.taken')
     ⊎ ((file : List ℕ) × AsksOf knows r.words (commands.Upgrade file) × ReportRefused r.files file r.taken r.taken')
-    ⊎ ((name : List ℕ) × AsksOf knows r.words (commands.Step name) × ScriptRefused r.files name r.taken r.taken')
+    ⊎ ((schedule : Schedule) × (name : List ℕ) × AsksToRun knows r.words schedule name
+    × ScriptRefused r.files name r.taken r.taken')
     ⊎ ((name file : List ℕ) × AsksOf knows r.words (commands.Check name file)
     × (ScriptRefused r.files name r.taken r.taken' ⊎ ReportRefused r.files file r.taken r.taken'))
     ⊎ ((lanes : ℕ) × AsksOf knows r.words (commands.Big lanes)
@@ -324,7 +357,8 @@ abbrev pub RefusesDescription : (Command → Bool) → Run → Type 0
 RefusesDescription knows r =
     ((file : List ℕ) × (query : Query) × Wants knows r.files r.words file query
     × DescriptionRefused r.files file query r.taken r.taken')
-    ⊎ ((name : List ℕ) × AsksOf knows r.words (commands.Step name) × LineRefused r.files name r.taken r.taken')
+    ⊎ ((schedule : Schedule) × (name : List ℕ) × AsksToRun knows r.words schedule name
+    × LineRefused r.files name r.taken r.taken')
     ⊎ ((name file : List ℕ) × AsksOf knows r.words (commands.Check name file) × LineRefused r.files name r.taken r.taken')
     ⊎ ((lanes : ℕ) × AsksOf knows r.words (commands.Big lanes) × LineRefused (Some (made_files lanes)) script_name r.taken r.taken')
 

@@ -1,7 +1,7 @@
 -- To be believed (docs/definitions.md).
 -- Changes between two components of one description. A run that starts with the first has to keep the limits of a run;
 -- the change to the second then follows, with what the start made. No state is moved.
-use Rattle.std.specs.Prelude.{◌≡◌, ℕ, ℤ, List, [], length}
+use Rattle.std.specs.Prelude.{◌≡◌, ℕ, ℤ, List, [], length, Option}
 use Rattle.config_graph.specs.Graph.{Graph, ports}
 use Rattle.config_graph.specs.declared.node.Made.{Made}
 use Rattle.change_law.specs.Scripts.{nothing_above}
@@ -13,10 +13,13 @@ use Rattle.change_plan.specs.declared.error.PlanError.{PlanError}
 use Rattle.change_plan.specs.declared.plan_data.Plan.{Plan}
 use Rattle.change_parts_laws.specs.Parts.{AreParts}
 use Rattle.change_parts_laws.specs.declared.part.Part.{Part}
+use Rattle.change_roll_laws.specs.Rolls.{IsRoll, roll_statements, stage_left}
 use Rattle.command_words.specs.declared.words.TopCall.{TopCall}
 use Rattle.command_law.specs.Descriptions.{HasGraph, IsDescriptionRefusal}
-use Rattle.command_answers.specs.PartTexts.{parts_text}
+use Rattle.command_answers.specs.Answers.{roll_status}
+use Rattle.command_answers.specs.PartTexts.{parts_text, roll_text}
 use Rattle.command_answers.specs.RefusalLines.{plan_words}
+use Rattle.command_answers.specs.declared.status.Status.{Status}
 
 -- what was made before a start
 abbrev pub nothing_made : Made
@@ -45,6 +48,16 @@ IsPlanText old new written = (steps : Plan) × IsPlanOf old new [] steps × (wri
 -- the text of the parts of the same change
 abbrev pub IsPartsText : Graph → Graph → List ℕ → Type 0
 IsPartsText old new written = (ps : List Part) × AreParts old new [] ps × (written ≡ parts_text old ps)
+
+-- The text and the status of a roll: the first component is started and runs, and the parts of the change are carried
+-- out, as far as the rounds say.
+pub record IsRollText (run within : ℕ) (call target : TopCall) (own : Status) (old new : Graph) (written : List ℕ) : Type 0 where
+  pub parts : List Part
+  pub are_parts : AreParts old new [] parts
+  pub given_up : Option ℕ
+  pub is_roll : IsRoll (roll_statements call.top call.args old run target.top target.args within parts) given_up
+  pub ended : own ≡ roll_status given_up
+  pub is_text : written ≡ roll_text old parts given_up (stage_left old parts given_up)
 
 -- such a text, where a run has started with the first
 pub record HasSteps (IsText : Graph → Graph → List ℕ → Type 0) (old new : Graph) (written : List ℕ) : Type 0 where

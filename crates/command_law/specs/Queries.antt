@@ -3,6 +3,7 @@
 use Rattle.std.specs.Prelude.{◌≡◌, ℕ, List}
 use Rattle.config_graph.specs.Graph.{Graph}
 use Rattle.config_graph.specs.GraphText.{graph_text}
+use Rattle.command_words.specs.declared.words.TopCall.{TopCall}
 use Rattle.command_law.specs.declared.query.Cut.{Cut}
 use Rattle.command_law.specs.declared.query.Cut.TheVariants as cuts
 use Rattle.command_law.specs.declared.query.Query.{Query}
@@ -10,13 +11,14 @@ use Rattle.command_law.specs.declared.query.Query.TheVariants as queries
 use Rattle.command_answers.specs.declared.status.Status.{Status}
 use Rattle.command_answers.specs.declared.status.Status.TheVariants as status
 use Rattle.command_law.specs.Descriptions.{HasGraph, IsDescriptionRefusal}
-use Rattle.command_law.specs.Plans.{HasChange, IsPartsText, IsPlanText, RefusesPlan, RefusesStart}
+use Rattle.command_law.specs.Plans.{HasChange, IsPartsText, IsPlanText, IsRollText, RefusesPlan, RefusesStart}
 use Rattle.command_law.specs.Replays.{HasReplay}
 
--- the text of a change, by how it is cut
-abbrev pub IsTextBy : Cut → Graph → Graph → List ℕ → Type 0
-IsTextBy cuts.Whole = IsPlanText
-IsTextBy cuts.InParts = IsPartsText
+-- the status and the text of a change, by how it is made
+abbrev pub IsTextBy : Cut → TopCall → TopCall → Status → Graph → Graph → List ℕ → Type 0
+IsTextBy cuts.Whole call target own old new written = (own ≡ status.Ok) × IsPlanText old new written
+IsTextBy cuts.InParts call target own old new written = (own ≡ status.Ok) × IsPartsText old new written
+IsTextBy (cuts.Rolled run within) call target own old new written = IsRollText run within call target own old new written
 
 -- these words say why the bytes are refused
 abbrev pub IsRefused : Query → List ℕ → List (List ℕ) → Type 0
@@ -29,5 +31,5 @@ abbrev pub AnswersQuery : Query → List ℕ → Status → List ℕ → Type 0
 AnswersQuery (queries.Graph call) text own written = (own ≡ status.Ok)
     × ((graph : Graph) × HasGraph text call.top call.args graph × (written ≡ graph_text graph))
 AnswersQuery (queries.Change cut call target) text own written =
-    (own ≡ status.Ok) × HasChange (IsTextBy cut) text call target written
+    HasChange (IsTextBy cut call target own) text call target written
 AnswersQuery (queries.Replay events_file) text own written = HasReplay text events_file own written

@@ -30,6 +30,7 @@ ghost use Rattle.command_words.specs.declared.words.Command.TheVariants as comma
 ghost use Rattle.command_words.specs.declared.words.TopCall.{TopCall};
 ghost use Rattle.command_law.specs.Descriptions.{HasGraph, IsDescriptionRefusal};
 ghost use Rattle.report_types.specs.declared.report.Report.{Report};
+ghost use Rattle.report_writing.specs.Reports.{report_text};
 ghost use Rattle.report_texts.specs.Stages.{IsReportFault};
 ghost use Rattle.report_texts.specs.declared.error.ReportFault.{ReportFault};
 ghost use Rattle.command_law.specs.Commands.{TellsReport, course_of, course_of_query, course_of_script};
@@ -40,9 +41,9 @@ ghost use Rattle.command_law.specs.Leads.{LeadBy, ScriptLeads, falls_short};
 ghost use Rattle.command_law.specs.OneFile.{DescriptionAnswers, EventsAnswers, ReportAnswers, ScriptAnswers};
 ghost use Rattle.command_law.specs.declared.fetched.Fetched.{Fetched};
 ghost use Rattle.command_law.specs.declared.fetched.Fetched.TheVariants.{Held};
-ghost use Rattle.command_law.specs.Outcomes.{HoldsFile, NamesFile, Ends, WroteFront, Flattened, Parted, Planned, Replayed, RefusesDescription, RefusesFile, MustRefuse, MustRefuseEvents, EndsAsRun, IsRunStatus, EndsAsJudged, IsVerdict, Judged, MustRefuseLine, MustRefuseScript, NothingRefuses, NothingRefusesLines, Ran, RanShowing, SummedUp, EndsAsGiven, MustRefuseReport, NothingRefusesReport, ReadFrom, Upgraded, Wants};
+ghost use Rattle.command_law.specs.Outcomes.{AsksForRun, AsksToRun, HoldsFile, NamesFile, Ends, WroteFront, Flattened, Parted, Planned, Replayed, RefusesDescription, RefusesFile, MustRefuse, MustRefuseEvents, EndsAsRun, IsRunStatus, EndsAsJudged, IsVerdict, Judged, MustRefuseLine, MustRefuseScript, NothingRefuses, NothingRefusesLines, RanShowing, IsRollStatus, Rolled, SummedUp, EndsAsGiven, MustRefuseReport, NothingRefusesReport, ReadFrom, Upgraded, Wants};
 ghost use Rattle.command_words.specs.BigFiles.{made_files, script};
-ghost use Rattle.command_law.specs.Plans.{RefusesStart, Starts};
+ghost use Rattle.command_law.specs.Plans.{IsRollText, RefusesStart, Starts};
 ghost use Rattle.command_law.specs.Queries.{AnswersQuery, IsRefused};
 ghost use Rattle.command_law.specs.Runs.{AnswersWords, Run, Runs};
 ghost use Rattle.command_law.specs.Schedules.{Schedule};
@@ -52,6 +53,7 @@ ghost use Rattle.command_law.specs.declared.query.Query.{Query};
 ghost use Rattle.command_law.specs.declared.query.Query.TheVariants as queries;
 
 use change_parts_laws::{there_are_parts, there_is_one_list_of_parts};
+use change_roll_laws::{there_is_a_roll, there_is_one_roll};
 use darwin_types::a_fault_or_none;
 use elaborator::a_graph_or_a_fault;
 use report_texts::{a_text_tells_its_report, one_report_or_one_fault};
@@ -92,18 +94,18 @@ pub fn want_of_memory_has_its_line()
 
 /// A law of runs: the run of a script ends with Ok, Pending or Unfinished, and comes with the text of its report, or
 /// with its summary where the script was made: Pending exactly where the report says that a change was given up,
-/// Unfinished exactly where it names a node that wasn't done and no such change. The two come for no other command.
+/// Unfinished exactly where it names a node that wasn't done and no such change. The two come for no other command, but
+/// that a roll may end with Pending.
 pub fn runs_end_by_their_reports()
     ensures ran { (knows : Command → Bool) (r : Run) → Runs knows r
-        → (name : List ℕ) → AsksOf knows r.words (commands.Step name) → IsRunStatus r.status
-        → Ran r.files name r.status r.taken r.taken' }
+        → (schedule : Schedule) (name : List ℕ) → AsksToRun knows r.words schedule name → IsRunStatus r.status
+        → RanShowing schedule report_text r.files name r.status r.taken r.taken' }
     ensures summed { (knows : Command → Bool) (r : Run) → Runs knows r
         → (lanes : ℕ) → AsksOf knows r.words (commands.Big lanes) → IsRunStatus r.status
         → SummedUp lanes r.status r.taken r.taken' }
     ensures only { (knows : Command → Bool) (r : Run) → Runs knows r
         → (r.status ≡ Pending) ⊎ (r.status ≡ Unfinished)
-        → ((name : List ℕ) × AsksOf knows r.words (commands.Step name))
-        ⊎ ((lanes : ℕ) × AsksOf knows r.words (commands.Big lanes)) }
+        → AsksForRun knows r.words r.status }
     ensures pending { (schedule : Schedule) (show : Report → List ℕ) (files : Option Files) (name : List ℕ)
         (own : Status) (taken taken' : Option (List ℕ))
         (r : RanShowing schedule show files name own taken taken')
@@ -113,6 +115,19 @@ pub fn runs_end_by_their_reports()
         (r : RanShowing schedule show files name own taken taken')
         → (own ≡ Unfinished)
         ↔ ((list_any is_pending r.report.history ≡ false) × (is_some r.report.unfinished ≡ true)) }
+{}
+
+/// A law of runs: a roll ends with Ok or Pending, and comes with its text: Pending exactly where the rounds gave one of its
+/// parts up, which the text says.
+pub fn rolls_end_by_their_rounds()
+    ensures rolled { (knows : Command → Bool) (r : Run) → Runs knows r
+        → (file : List ℕ) (run within : ℕ) (call target : TopCall)
+        → AsksOf knows r.words (commands.Roll file run within call target) → IsRollStatus r.status
+        → Rolled run within r.files file call target r.status r.taken r.taken' }
+    ensures ends { (run within : ℕ) (call target : TopCall) (own : Status) (old new : Graph) (written : List ℕ)
+        → IsRollText run within call target own old new written → IsRollStatus own }
+    ensures pending { (run within : ℕ) (call target : TopCall) (own : Status) (old new : Graph) (written : List ℕ)
+        (t : IsRollText run within call target own old new written) → (own ≡ Pending) ↔ (is_some t.given_up ≡ true) }
 {}
 
 /// A law of runs: a check that judges a report ends with Ok exactly where the report can be one of this machine for the
@@ -197,7 +212,8 @@ pub fn scripts_are_refused_for_their_first_fault()
         → (file : List ℕ) → AsksOf knows r.words (commands.Upgrade file) → MustRefuseReport (files file)
         → Ends r.status Script }
     ensures always_script { (knows : Command → Bool) (r : Run) (files : Files) → Runs knows r → ReadFrom r files
-        → (name : List ℕ) → AsksOf knows r.words (commands.Step name) → MustRefuseScript (files name)
+        → (schedule : Schedule) (name : List ℕ) → AsksToRun knows r.words schedule name
+        → MustRefuseScript (files name)
         → Ends r.status Script }
     ensures always_its_script { (knows : Command → Bool) (r : Run) (files : Files) → Runs knows r → ReadFrom r files
         → (name file : List ℕ) → AsksOf knows r.words (commands.Check name file) → MustRefuseScript (files name)
@@ -223,7 +239,8 @@ pub fn descriptions_are_refused_for_faults_that_hold()
         → MustRefuse query (files file)
         → Ends r.status Description }
     ensures always_line { (knows : Command → Bool) (r : Run) (files : Files) → Runs knows r → ReadFrom r files
-        → (name : List ℕ) → AsksOf knows r.words (commands.Step name) → MustRefuseLine files (files name)
+        → (schedule : Schedule) (name : List ℕ) → AsksToRun knows r.words schedule name
+        → MustRefuseLine files (files name)
         → Ends r.status Description }
     ensures always_its_line { (knows : Command → Bool) (r : Run) (files : Files) → Runs knows r → ReadFrom r files
         → (name file : List ℕ) → AsksOf knows r.words (commands.Check name file) → MustRefuseLine files (files name)
@@ -258,7 +275,7 @@ pub fn what_is_not_refused_is_answered()
         → NothingRefusesReport (files file)
         → Ends r.status Status.Ok }
     ensures complete_script { (knows : Command → Bool) (r : Run) (files : Files) → Runs knows r → ReadFrom r files
-        → (name : List ℕ) → AsksOf knows r.words (commands.Step name)
+        → (schedule : Schedule) (name : List ℕ) → AsksToRun knows r.words schedule name
         → NothingRefusesLines files (files name)
         → EndsAsRun r.status }
     ensures complete_check { (knows : Command → Bool) (r : Run) (files : Files) → Runs knows r → ReadFrom r files
@@ -269,7 +286,9 @@ pub fn what_is_not_refused_is_answered()
         → (lanes : ℕ) → AsksOf knows r.words (commands.Big lanes)
         → NothingRefusesLines (made_files lanes) (Some (script lanes))
         → EndsAsRun r.status }
-{}
+{
+    what_bytes_give_is_one();
+}
 
 /// A law: the course of what is wanted of a description is what is answered of its file, by what one fetch gave,
 /// where memory lasts.
@@ -357,6 +376,7 @@ pub fn what_bytes_give_is_one()
     a_text_tells_its_report();
     one_report_or_one_fault();
     there_is_one_list_of_parts();
+    there_is_one_roll();
 }
 
 /// A law: nothing hides behind want of memory. Of each text a graph of a component stands or a refusal, and a start
@@ -377,4 +397,5 @@ pub fn what_is_wanted_is_refused_or_answered()
     a_graph_or_a_fault();
     one_report_or_one_fault();
     there_are_parts();
+    there_is_a_roll();
 }

@@ -12,9 +12,10 @@ pub use laws::{
     courses_of_reports_are_by_one_file, courses_of_runs_are_by_their_lines,
     denials_are_of_first_events, descriptions_are_refused_for_faults_that_hold,
     lines_that_lead_on_are_statements, own_texts_are_written, read_faults_are_failed_fetches,
-    runs_end_by_their_reports, scripts_are_refused_for_their_first_fault,
-    usage_is_of_words_without_a_form, want_of_memory_has_its_line, what_bytes_give_is_one,
-    what_is_asked_for_is_written, what_is_not_refused_is_answered,
-    what_is_wanted_is_refused_or_answered, write_faults_are_failed_puts,
+    rolls_end_by_their_rounds, runs_end_by_their_reports,
+    scripts_are_refused_for_their_first_fault, usage_is_of_words_without_a_form,
+    want_of_memory_has_its_line, what_bytes_give_is_one, what_is_asked_for_is_written,
+    what_is_not_refused_is_answered, what_is_wanted_is_refused_or_answered,
+    write_faults_are_failed_puts,
 };
 pub use query::{Cut, Query};

@@ -3,11 +3,16 @@
 use change_script::EventFile;
 use command_words::TopCall;
 
-/// Whether a change is made by one plan or in parts.
+/// How a change is made.
 #[derive(Debug, Drop)]
 pub enum Cut {
+    /// By one plan, which is told.
     Whole,
+    /// In parts, which are told.
     InParts,
+    /// In parts, and carried out in a run: the first component is started, and this many transactions end before the
+    /// parts. Each of these waits for so many rounds at most.
+    Rolled { run: u32, within: u32 },
 }
 
 /// What is wanted of a description.

@@ -2,7 +2,6 @@
 use Rattle.std.proofs.Common.{◌≡◌, ◌≤◌, inl, inr, ℕ, ℤ, List, [], ◌∷◌, Option, Some, length, sym, subst}
 use Rattle.cfg_io.specs.Shelf.{Files}
 use Rattle.config_graph.specs.Graph.{Graph}
-use Rattle.report_types.specs.declared.report.Report.{Report}
 use Rattle.report_types.specs.declared.script.Body.{Body}
 use Rattle.report_types.specs.declared.script.Body.TheVariants as bodies
 use Rattle.report_types.specs.declared.script.Script.{Script}
@@ -10,9 +9,7 @@ use Rattle.report_types.specs.declared.script.ScriptLine.{ScriptLine}
 use Rattle.change_script.specs.ScriptFiles.{IsScript}
 use Rattle.change_script.proofs.ScriptFileLaws.{one_script}
 use Rattle.change_law.specs.Consistent.{Consistent}
-use Rattle.change_law.specs.Lawful.{LawfulInRounds}
 use Rattle.change_law.specs.Scripts.{Above, SayAll, Says, StatementsOf, nothing_above}
-use Rattle.change_law.specs.Serial.{Serial}
 use Rattle.change_law.specs.Statements.{Statement}
 use Rattle.change_round_laws.proofs.StatementLaws.{one_list}
 use Rattle.command_answers.specs.declared.status.Status.{Status}
@@ -20,11 +17,14 @@ use Rattle.command_answers.specs.declared.status.Status.TheVariants as status
 use Rattle.report_texts.specs.Stages.{IsReportFault}
 use Rattle.report_texts.specs.declared.error.ReportFault.{ReportFault}
 use Rattle.command_law.specs.Fetches.{report_limit}
-use Rattle.command_law.specs.Outcomes.{Ends, EndsAsJudged, HoldsFile, IsVerdict, Judged, NothingRefusesReport, Ran}
+use Rattle.command_law.specs.Outcomes.{Ends, EndsAsJudged, HoldsFile, IsVerdict, Judged, NothingRefusesReport, RanShowing}
+use Rattle.command_law.specs.Schedules.{Schedule}
 use Rattle.command_law.specs.Ways.{Elaborates}
 use Rattle.command_law.proofs.WayLaws.{one_elaborated}
 use Rattle.command_laws.specs.Telling.{StillHolds}
 use Rattle.command_laws.proofs.OneRun.{one_text}
+use Rattle.command_laws.proofs.ScheduledReports.{AreConsistent}
+use Rattle.report_writing.specs.Reports.{report_text}
 
 -- ---- what is said by one relation of elaboration is said by another
 
@@ -58,7 +58,8 @@ module _ (before after : Files) (still : StillHolds before after) where
   elaborates_still : (file name : List ℕ) (args : List ℤ) (g : Graph) → Elaborates (HoldsFile (Some before)) file name args g → Elaborates (HoldsFile (Some after)) file name args g
   elaborates_still file name args g e = record { text = e.text; is_text = (still file e.text e.is_text.0, e.is_text.1); has_graph = e.has_graph }
 
-  module _ (name file : List ℕ) (own verdict : Status) (taken t also u : Option (List ℕ)) (ran : Ran (Some before) name own taken t) (j : Judged (Some after) name file verdict also u) where
+  module _ (schedule : Schedule) (name file : List ℕ) (own verdict : Status) (taken t also u : Option (List ℕ))
+      (ran : RanShowing schedule report_text (Some before) name own taken t) (j : Judged (Some after) name file verdict also u) where
     -- the statements of the run are those by which the report is judged
     same_statements : ran.statements ≡ j.statements
     same_statements =
@@ -71,11 +72,10 @@ module _ (before after : Files) (still : StillHolds before after) where
 
     -- so the report is consistent, where it is the one that was read
     pub checked_so :
-        ((statements : List Statement) (report : Report) (serial : Serial statements report) → LawfulInRounds statements report serial → Consistent statements report)
-        → ran.report ≡ j.report → Consistent j.statements j.report
+        AreConsistent → ran.report ≡ j.report → Consistent j.statements j.report
     checked_so consistent same =
         subst (λ r. Consistent j.statements r) same
-        (subst (λ ss. Consistent ss ran.report) same_statements (consistent ran.statements ran.report ran.is_report.serial ran.is_report.lawful))
+        (subst (λ ss. Consistent ss ran.report) same_statements (consistent schedule ran.statements ran.report ran.is_report))
 
 -- ---- how such a check ends
 

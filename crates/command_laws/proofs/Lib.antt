@@ -17,3 +17,4 @@ pub mod MadeScripts
 pub mod OneRun
 pub mod Premises
 pub mod Reports
+pub mod ScheduledReports

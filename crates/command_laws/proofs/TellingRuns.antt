@@ -23,16 +23,14 @@ use Rattle.change_script.specs.ScriptLines.{LineMeans, meaning}
 use Rattle.change_script.specs.StatementTexts.{IsInteger, IsWrittenPath}
 use Rattle.report_texts.specs.ReportTexts.{IsReport}
 use Rattle.report_texts.specs.declared.version.Version.TheVariants as versions
-use Rattle.change_law.specs.Consistent.{Consistent}
-use Rattle.change_law.specs.Lawful.{LawfulInRounds}
 use Rattle.change_law.specs.Scripts.{StatementsOf}
-use Rattle.change_law.specs.Serial.{Serial}
 use Rattle.change_law.specs.Statements.{Statement}
 use Rattle.command_answers.specs.declared.status.Status.{Status}
 use Rattle.command_law.specs.Outcomes.{HoldsFile, RanShowing}
-use Rattle.command_law.specs.Schedules.{rounds}
+use Rattle.command_law.specs.Schedules.{Schedule}
 use Rattle.command_law.specs.Ways.{Elaborates}
 use Rattle.command_laws.specs.Telling.{AreStated, HasWords, NumbersFit}
+use Rattle.command_laws.proofs.ScheduledReports.{AreConsistent}
 use Rattle.command_laws.proofs.TellingReports.{tells_itself}
 use Rattle.command_laws.proofs.TellingScripts.{paths_words, script_stated}
 
@@ -53,8 +51,10 @@ module _
   pub stated : (files : Option Files) (bytes : List ℕ) (script : Script) (statements : List Statement) → IsScript bytes script → StatementsOf (Elaborates (HoldsFile files)) script statements → AreStated statements
   stated files = script_stated spelled named meant (Elaborates (HoldsFile files)) (elaborated_words (HoldsFile files))
 
-  module _ (consistent : (statements : List Statement) (report : Report) (serial : Serial statements report) → LawfulInRounds statements report serial → Consistent statements report) where
-    pub ran_tells : (show : Report → List ℕ) (files : Option Files) (name : List ℕ) (own : Status) (taken t : Option (List ℕ)) (ran : RanShowing rounds show files name own taken t) → NumbersFit ran.report → IsReport versions.Second ran.report
-    ran_tells show files name own taken t ran fit =
+  module _ (consistent : AreConsistent) where
+    pub ran_tells :
+        (show : Report → List ℕ) (schedule : Schedule) (files : Option Files) (name : List ℕ) (own : Status) (taken t : Option (List ℕ))
+        (ran : RanShowing schedule show files name own taken t) → NumbersFit ran.report → IsReport versions.Second ran.report
+    ran_tells show schedule files name own taken t ran fit =
         tells_itself ran.statements ran.report (stated files ran.is_script.bytes ran.script ran.statements ran.is_script.is_script ran.have_graphs)
-        (consistent ran.statements ran.report ran.is_report.serial ran.is_report.lawful) fit
+        (consistent schedule ran.statements ran.report ran.is_report) fit

@@ -1,3 +1,4 @@
+pub mod ReportingLaws
 pub mod Running
 mod ScriptRuns
 mod SoundSteps

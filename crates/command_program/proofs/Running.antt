@@ -1,5 +1,5 @@
 -- A run from what its parts answer.
-use Rattle.std.proofs.Common.{◌≡◌, ◌∙◌, ℕ, Bool, List, [], ◌∷◌, ◌++◌, Option, Result, Ok, Err, append-nil, sym, subst, ap}
+use Rattle.std.proofs.Common.{◌≡◌, ◌∙◌, ℕ, Bool, true, false, List, [], ◌∷◌, ◌++◌, Option, Result, Ok, Err, append-nil, sym, subst, ap}
 use Rattle.cfg_io.specs.Shelf.{Files}
 use Rattle.change_script.specs.declared.event_files.EventFile.{EventFile}
 use Rattle.change_script.specs.EventFiles.{IsEventFile}
@@ -8,7 +8,9 @@ use Rattle.command_answers.specs.Answers.{ShowsAnswer, refusal, status_of, text_
 use Rattle.command_answers.specs.declared.status.Status.{Status}
 use Rattle.command_words.specs.declared.words.Command.{Command}
 use Rattle.command_words.specs.declared.words.Command.TheVariants as commands
-use Rattle.command_law.specs.Known.{AsksOf}
+use Rattle.command_words.specs.CommandLine.{Asks}
+use Rattle.command_words.proofs.WordsLaws.{one_command}
+use Rattle.command_law.specs.Known.{AsksOf, HasNoForm}
 use Rattle.command_law.specs.Commands.{course_of, course_of_query}
 use Rattle.command_law.specs.Courses.{FetchCourse}
 use Rattle.command_law.specs.Fetches.{Fetch, fetch_of, failed_name, failed_names, Gave}
@@ -38,6 +40,15 @@ runs_alone knows seen answer none is written = record {
   told = tt;
   written = written;
 }
+
+-- words of a command that the call doesn't know have none of its forms
+pub not_known :
+    (knows : Command → Bool) (words : List (List ℕ)) (command : Command) → knows command ≡ false → Asks words command → HasNoForm knows words
+not_known knows words command unknown asks other known =
+    clash (sym unknown ∙ subst (λ c. knows c ≡ true) (one_command words other command known.1 asks) known.0)
+  where
+    clash : false ≡ true → ⊥
+    clash is = cc
 
 -- one fetch is all that was noted
 one_noted : (names failures failures' : List (List ℕ)) → failures' ≡ failures ++ names → failures' ≡ failures ++ (names ++ [])

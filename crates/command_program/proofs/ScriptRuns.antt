@@ -1,4 +1,4 @@
--- The run of a script, from what was prepared for it.
+-- The run of a script in rounds, from what was prepared for it; and a report that is judged by it.
 use Rattle.std.proofs.Common.{◌≡◌, ◌∙◌, ℕ, Bool, true, false, if◌then◌else◌, List, [], ◌∷◌, ◌++◌, Option, Some, Result, Ok, Err, IfOk, append_assoc, refl, sym, ap, subst}
 use Rattle.std.specs.Prelude.{◌==◌}
 use Rattle.std.specs.List.{AllByRecursion}
@@ -7,7 +7,6 @@ use Rattle.cfg_io.specs.Shelf.{Files}
 use Rattle.change_law.specs.Lawful.{LawfulInRounds}
 use Rattle.change_law.specs.Serial.{Serial}
 use Rattle.change_law.specs.Statements.{Statement}
-use Rattle.report_writing.specs.Reports.{report_text}
 use Rattle.report_types.specs.declared.report.Report.{Report}
 use Rattle.command_answers.specs.Answers as values
 use Rattle.command_words.specs.BigFiles.{made_files, script_name}
@@ -22,7 +21,7 @@ use Rattle.command_law.specs.Fetches.{failed_name, failed_names, Gave}
 use Rattle.command_law.specs.Lines.{behind, running}
 use Rattle.command_law.specs.RunReports.{IsReportOf}
 use Rattle.command_law.specs.Schedules.{rounds}
-use Rattle.command_law.proofs.CourseLaws.{behind_short, script_ends_early, script_judges, script_ran, script_ran_short, script_unjudged}
+use Rattle.command_law.proofs.CourseLaws.{behind_short, script_ends_early, script_judges, script_ran, script_unjudged}
 use Rattle.command_words.specs.declared.words.Command.TheVariants as commands
 use Rattle.command_files.specs.declared.answer.Answer.{Answer}
 use Rattle.command_files.specs.declared.answer.Stop.{Stop}
@@ -30,15 +29,7 @@ use Rattle.command_files.specs.declared.answer.Stop.TheVariants as stops
 use Rattle.command_files.specs.Preparing.{Prepares, statements_in}
 use Rattle.command_files.specs.Refusals.{EndsNoRun}
 use Rattle.command_files.specs.declared.preparing.Prepared.{Prepared}
-use Rattle.command_program.specs.Coming.{ComesBy, EndsBy, EndsInReport, EndsInSummary}
-
-module _ {E : Type 0} where
-  -- the report of a run is answered
-  pub shown : (statements : List Statement) (report : Report) (r : Result Answer E) → IsReportOf statements report → IfOk r (λ a. a.status ≡ run_status report.status)
-      → IfOk r (λ a. a.text.items ≡ report_text report) → IfOk r (λ a. ShowsAnswer (EndsInReport statements) a.status a.text.items)
-  shown statements report (Ok a) is status text =
-      record { answer = ran report; is = (report, is, refl); has_status = status; has_text = text }
-  shown statements report (Err e) is status text = tt
+use Rattle.command_program.specs.Coming.{ComesBy, EndsBy, EndsInSummary}
 
 module _ {E : Type 0} where
   -- a report of rounds that is lawful too
@@ -54,52 +45,6 @@ module _ {E : Type 0} (lanes : ℕ) where
   summed statements report (Ok a) is status text =
       record { answer = summary lanes report; is = (report, is, refl); has_status = status; has_text = text }
   summed statements report (Err e) is status text = tt
-
-module _ (files : Option Files) (name : List ℕ) (failures failures' : List (List ℕ)) where
-  module _ (asked : Prepared) (p : Prepares files name failures failures' (Ok asked)) where
-    -- what a script asks for was run
-    pub ran_by : (answer : Answer) → ShowsAnswer (EndsInReport (statements_in asked)) answer.status answer.text.items
-        → ComesBy files (course_of (commands.Step name)) failures failures' (Ok answer)
-    ran_by answer shows = record {
-      fetches = p.fetches;
-      noted = p.noted;
-      told = p.told;
-      ends = record {
-        answer = ran shows.is.0;
-        is = script_ran rounds name p.fetches p.lead.0 (statements_in asked) shows.is.0 p.lead.1 p.lead.2 shows.is.1;
-        has_status = shows.has_status ∙ ap status_of shows.is.2;
-        has_text = shows.has_text ∙ ap values.text_of shows.is.2;
-      };
-    }
-
-    -- or there was no memory for it
-    pub short_by : ComesBy files (course_of (commands.Step name)) failures failures' (Err stops.NoMemory)
-    short_by = record {
-      fetches = p.fetches;
-      noted = p.noted;
-      told = p.told;
-      ends = script_ran_short (running rounds) name p.fetches p.lead.0 p.lead.1;
-    }
-
-  -- a script that is refused
-  pub stopped_by : (stop : Stop) → Prepares files name failures failures' (Err stop) → ComesBy files (course_of (commands.Step name)) failures failures' (Err stop)
-  stopped_by (stops.Refused answer) p = record {
-    fetches = p.fetches;
-    noted = p.noted;
-    told = p.told;
-    ends = record {
-      answer = p.lead.answer;
-      is = script_ends_early (behind (running rounds)) (behind_short (running rounds)) name p.fetches p.lead.answer p.lead.is;
-      has_status = p.lead.has_status;
-      has_text = p.lead.has_text;
-    };
-  }
-  stopped_by stops.NoMemory p = record {
-    fetches = p.fetches;
-    noted = p.noted;
-    told = p.told;
-    ends = script_ends_early (behind (running rounds)) (behind_short (running rounds)) name p.fetches (refusal values.no_memory) p.lead;
-  }
 
 -- ---- a report that is judged
 
@@ -178,6 +123,7 @@ as_it_is lanes values.version none = refl
 as_it_is lanes (values.graph g) none = refl
 as_it_is lanes (values.plan old new steps) none = refl
 as_it_is lanes (values.parts old ps) none = refl
+as_it_is lanes (values.rolled old ps given_up left) none = refl
 as_it_is lanes (values.denied number rule) none = refl
 as_it_is lanes (values.replay count s settled) none = refl
 as_it_is lanes (values.report r) none = refl

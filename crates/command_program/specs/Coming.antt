@@ -5,11 +5,12 @@ use Rattle.cfg_io.specs.Shelf.{Files}
 use Rattle.change_law.specs.Statements.{Statement}
 use Rattle.report_types.specs.declared.report.Report.{Report}
 use Rattle.command_answers.specs.Answers as values
-use Rattle.command_answers.specs.Answers.{ShowsAnswer, no_memory, no_memory_line, ran, refusal, summary}
+use Rattle.command_answers.specs.Answers.{ShowsAnswer, no_memory, no_memory_line, refusal, summary}
 use Rattle.command_answers.specs.declared.status.Status.{Status}
 use Rattle.command_answers.specs.declared.status.Status.TheVariants as status
 use Rattle.command_law.specs.Courses.{FetchCourse}
 use Rattle.command_law.specs.Fetches.{Fetch, failed_names, Gave}
+use Rattle.command_law.specs.Lines.{IsRunAnswer}
 use Rattle.command_law.specs.RunReports.{IsReportOf}
 use Rattle.command_files.specs.declared.answer.Answer.{Answer}
 use Rattle.command_files.specs.declared.answer.Stop.{Stop}
@@ -48,7 +49,7 @@ pub record ComesBy (files : Option Files) (course : FetchCourse) (failures failu
 
 -- the answer by which a run of these statements ends
 abbrev pub EndsInReport : List Statement → values.Answer → Type 0
-EndsInReport statements answer = (r : Report) × IsReportOf statements r × (answer ≡ ran r)
+EndsInReport statements answer = IsRunAnswer IsReportOf statements answer
 
 -- and that of a run of so many lanes
 abbrev pub EndsInSummary : ℕ → List Statement → values.Answer → Type 0

@@ -1,9 +1,9 @@
 -- To be believed (docs/definitions.md).
 -- Which words name no file of the shelf.
-use Rattle.std.specs.Prelude.{⊤, ℕ, List}
-use Rattle.command_words.specs.CommandLine.{Asks}
+use Rattle.std.specs.Prelude.{⊤, ℕ, Bool, List}
 use Rattle.command_words.specs.declared.words.Command.{Command}
 use Rattle.command_words.specs.declared.words.Command.TheVariants as commands
+use Rattle.command_law.specs.Known.{AsksOf}
 
 -- `big` makes its own.
 abbrev pub NamesNoFile : Command → Type 0
@@ -12,12 +12,14 @@ NamesNoFile commands.Version = ⊤
 NamesNoFile (commands.Flat file call) = ⊥
 NamesNoFile (commands.Plan file call target) = ⊥
 NamesNoFile (commands.Parts file call target) = ⊥
+NamesNoFile (commands.Roll file run rounds call target) = ⊥
 NamesNoFile (commands.Replay file events) = ⊥
 NamesNoFile (commands.Upgrade file) = ⊥
 NamesNoFile (commands.Step script) = ⊥
+NamesNoFile (commands.Live script workers) = ⊥
 NamesNoFile (commands.Check script report) = ⊥
 NamesNoFile (commands.Big lanes) = ⊤
 
--- they ask for nothing, or for such a command
-abbrev pub AskForNoFile : List (List ℕ) → Type 0
-AskForNoFile words = (command : Command) → Asks words command → NamesNoFile command
+-- they ask for nothing that the call knows, or for such a command
+abbrev pub AskForNoFile : (Command → Bool) → List (List ℕ) → Type 0
+AskForNoFile knows words = (command : Command) → AsksOf knows words command → NamesNoFile command

@@ -1,6 +1,6 @@
 //! What is done for words and for commands, by fetches.
 
-ghost use Rattle.std.specs.Prelude.{◌≡◌, ℕ, List, [], map, string_bytes, IfOk};
+ghost use Rattle.std.specs.Prelude.{◌≡◌, ℕ, true, List, [], map, string_bytes, IfOk};
 ghost use Rattle.report_writing.specs.Reports.{LogsAreMade};
 ghost use Rattle.command_answers.specs.Answers.{ShowsAnswer};
 ghost use Rattle.command_words.specs.CommandLine.{Asks};
@@ -13,8 +13,8 @@ ghost use Rattle.command_files.specs.Preparing.{CanRun, statements_in};
 ghost use Rattle.command_program.specs.Coming.{ComesBy, EndsBy, EndsInReport, EndsInSummary};
 ghost use Rattle.command_program.specs.Naming.{AskForNoFile, NamesNoFile};
 
-use crate::writing::{finish, no_memory, write};
-use crate::{HELP, USAGE, VERSION};
+use crate::writing::{write_answer, write_no_memory, write_text, write_usage};
+use crate::{HELP, VERSION};
 use cfg_io::{Shelf, Sink};
 use change_round_laws::reports_of_rounds_are_lawful;
 use command_answers::Status;
@@ -42,16 +42,16 @@ pub fn run_words<H: Shelf, K: Sink>(
     ensures runs { Runs on_one_thread (run_of H.Shelf K.Sink (map string_bytes words.now)
         shelf.old shelf.new out.old out.new result) }
     ensures kept { H.files shelf.new ≡ H.files shelf.old }
-    ensures untouched { AskForNoFile (map string_bytes words.now) → shelf.new ≡ shelf.old }
+    ensures untouched { AskForNoFile on_one_thread (map string_bytes words.now) → shelf.new ≡ shelf.old }
 {
     match read_words(alloc, words) {
-        Ok(None) => write(out, Status::Usage, USAGE.as_bytes()),
+        Ok(None) => write_usage(out),
         Ok(Some(command)) => run_command(alloc, shelf, out, command),
-        Err(_) => no_memory(out),
+        Err(_) => write_no_memory(out),
     }
 }
 
-/// Does what a command asks for.
+/// Does what a command asks for, where it runs on one thread.
 fn run_command<H: Shelf, K: Sink>(
     alloc: Global,
     shelf: &mut H,
@@ -61,16 +61,16 @@ fn run_command<H: Shelf, K: Sink>(
     ensures runs { (words : List (List ℕ)) → Asks words command.entry
         → Runs on_one_thread (run_of H.Shelf K.Sink words shelf.old shelf.new out.old out.new result) }
     ensures kept { H.files shelf.new ≡ H.files shelf.old }
-    ensures untouched { NamesNoFile command.entry → shelf.new ≡ shelf.old }
+    ensures untouched { (on_one_thread command.entry ≡ true → NamesNoFile command.entry) → shelf.new ≡ shelf.old }
 {
     match command {
-        Command::Help => write(out, Status::Ok, HELP.as_bytes()),
-        Command::Version => write(out, Status::Ok, VERSION.as_bytes()),
-        Command::Flat { file, call } => finish(
+        Command::Help => write_text(out, Status::Ok, HELP.as_bytes()),
+        Command::Version => write_text(out, Status::Ok, VERSION.as_bytes()),
+        Command::Flat { file, call } => write_answer(
             out,
             answer_description(alloc, shelf, file.as_str(), &Query::Graph(call)),
         ),
-        Command::Plan { file, call, target } => finish(
+        Command::Plan { file, call, target } => write_answer(
             out,
             answer_description(
                 alloc,
@@ -79,7 +79,7 @@ fn run_command<H: Shelf, K: Sink>(
                 &Query::Change(Cut::Whole, call, target),
             ),
         ),
-        Command::Parts { file, call, target } => finish(
+        Command::Parts { file, call, target } => write_answer(
             out,
             answer_description(
                 alloc,
@@ -88,17 +88,40 @@ fn run_command<H: Shelf, K: Sink>(
                 &Query::Change(Cut::InParts, call, target),
             ),
         ),
-        Command::Replay { file, events } => finish(
+        Command::Roll {
+            file,
+            run,
+            rounds,
+            call,
+            target,
+        } => write_answer(
+            out,
+            answer_description(
+                alloc,
+                shelf,
+                file.as_str(),
+                &Query::Change(
+                    Cut::Rolled {
+                        run,
+                        within: rounds,
+                    },
+                    call,
+                    target,
+                ),
+            ),
+        ),
+        Command::Replay { file, events } => write_answer(
             out,
             answer_replay(alloc, shelf, file.as_str(), events.as_str()),
         ),
-        Command::Upgrade { file } => finish(out, answer_report(alloc, shelf, file.as_str())),
-        Command::Step { script } => finish(out, answer_script(alloc, shelf, script.as_str())),
-        Command::Check { script, report } => finish(
+        Command::Upgrade { file } => write_answer(out, answer_report(alloc, shelf, file.as_str())),
+        Command::Step { script } => write_answer(out, answer_script(alloc, shelf, script.as_str())),
+        Command::Live { .. } => write_usage(out),
+        Command::Check { script, report } => write_answer(
             out,
             answer_check(alloc, shelf, script.as_str(), report.as_str()),
         ),
-        Command::Big { lanes } => finish(out, answer_big(alloc, lanes)),
+        Command::Big { lanes } => write_answer(out, answer_big(alloc, lanes)),
     }
 }
 

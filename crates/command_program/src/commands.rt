@@ -8,7 +8,7 @@ ghost use Rattle.command_words.specs.CommandLine.{Asks};
 ghost use Rattle.command_law.specs.Known.{on_one_thread};
 ghost use Rattle.command_words.specs.declared.words.Command.TheVariants as commands;
 ghost use Rattle.command_words.specs.declared.words.TopCall.{TopCall};
-ghost use Rattle.command_law.specs.Outcomes.{Flattened, Parted, Planned, Replayed, Upgraded, NothingRefuses, EndsAsGiven, Wants, Ends, EndsAsJudged, EndsAsRun, IsRunStatus, IsVerdict, Judged, NothingRefusesLines, Ran, SummedUp, NothingRefusesReport};
+ghost use Rattle.command_law.specs.Outcomes.{Flattened, IsRollStatus, Parted, Planned, Replayed, Rolled, Upgraded, NothingRefuses, EndsAsGiven, Wants, Ends, EndsAsJudged, EndsAsRun, IsRunStatus, IsVerdict, Judged, NothingRefusesLines, Ran, SummedUp, NothingRefusesReport};
 ghost use Rattle.command_law.specs.Runs.{Runs, run_of};
 ghost use Rattle.command_law.specs.declared.query.Query.{Query};
 ghost use Rattle.command_program.specs.Naming.{AskForNoFile};
@@ -16,6 +16,7 @@ ghost use Rattle.command_program.specs.Naming.{AskForNoFile};
 use crate::answering::run_words;
 use cfg_io::{Shelf, Sink};
 use command_answers::Status;
+use command_law::rolls_end_by_their_rounds;
 use command_laws::made_runs_are_not_refused;
 use std::alloc::Global;
 
@@ -43,6 +44,11 @@ pub fn still<H: Shelf, K: Sink>(
     ensures parted { (file : List ℕ) (call target : TopCall)
         → Asks (map string_bytes words.now) (commands.Parts file call target) → result ≡ Status.Ok
         → Parted (H.files shelf.old) file call target (K.taken out.old) (K.taken out.new) }
+    // Of `roll` the text of the parts, and what carrying them out comes to: the graph that is left, and the part that the
+    // rounds give up, with which the run ends with Pending.
+    ensures rolled { (file : List ℕ) (run within : ℕ) (call target : TopCall)
+        → Asks (map string_bytes words.now) (commands.Roll file run within call target) → IsRollStatus result
+        → Rolled run within (H.files shelf.old) file call target result (K.taken out.old) (K.taken out.new) }
     ensures replayed { (file events : List ℕ) → Asks (map string_bytes words.now) (commands.Replay file events)
         → result ≡ Status.Ok → Replayed (H.files shelf.old) file events Status.Ok (K.taken out.old) (K.taken out.new) }
     ensures upgraded { (file : List ℕ) → Asks (map string_bytes words.now) (commands.Upgrade file) → result ≡ Status.Ok
@@ -87,8 +93,9 @@ pub fn still<H: Shelf, K: Sink>(
         → NothingRefusesLines files (files name) → NothingRefusesReport (files file)
         → EndsAsJudged result }
     // Words that name no file, as those of `big`, fetch none: the shelf is as it was.
-    ensures untouched { AskForNoFile (map string_bytes words.now) → shelf.new ≡ shelf.old }
+    ensures untouched { AskForNoFile on_one_thread (map string_bytes words.now) → shelf.new ≡ shelf.old }
 {
     made_runs_are_not_refused();
+    rolls_end_by_their_rounds();
     run_words(alloc, words, shelf, out)
 }

@@ -12,7 +12,7 @@ ghost use Rattle.command_program.specs.Exits.{Exits};
 ghost use Rattle.command_program.specs.Naming.{AskForNoFile};
 
 use crate::answering::run_words;
-use crate::writing::no_memory;
+use crate::writing::write_no_memory;
 use cfg_io::{Shelf, Sink};
 use command_answers::Status;
 use config_graph::NoMemory;
@@ -44,7 +44,7 @@ pub fn run_program<H: Shelf, K: Sink>(
         × (H.failed shelf.new ≡ H.failed shelf.old)) }
     // No fetch changes the files. Words that name no file fetch none: the shelf is as it was.
     ensures kept { H.files shelf.new ≡ H.files shelf.old }
-    ensures untouched { IfOk args (λ args. AskForNoFile (map string_bytes (drop 1 (into_iter_items args)))
+    ensures untouched { IfOk args (λ args. AskForNoFile on_one_thread (map string_bytes (drop 1 (into_iter_items args)))
         → shelf.new ≡ shelf.old) }
     ensures unread { OnErr args (shelf.new ≡ shelf.old) }
 {
@@ -67,13 +67,13 @@ fn run_args<H: Shelf, K: Sink>(
         → Written Status.NoMemory no_memory_line (run_of H.Shelf K.Sink [] shelf.old shelf.new out.old out.new result)
         × (H.failed shelf.new ≡ H.failed shelf.old)) }
     ensures kept { H.files shelf.new ≡ H.files shelf.old }
-    ensures untouched { IfOk args (λ args. AskForNoFile (map string_bytes (drop 1 (into_iter_items args)))
+    ensures untouched { IfOk args (λ args. AskForNoFile on_one_thread (map string_bytes (drop 1 (into_iter_items args)))
         → shelf.new ≡ shelf.old) }
     ensures unread { OnErr args (shelf.new ≡ shelf.old) }
 {
     match args {
         Ok(args) => run_given(alloc, args, shelf, out),
-        Err(fault) if fault.kind() == ErrorKind::OutOfMemory => no_memory(out),
+        Err(fault) if fault.kind() == ErrorKind::OutOfMemory => write_no_memory(out),
         Err(_) => run_words(alloc, &[], shelf, out),
     }
 }
@@ -84,11 +84,11 @@ fn run_given<H: Shelf, K: Sink>(alloc: Global, args: Args, shelf: &mut H, out: &
         (run_of H.Shelf K.Sink (map string_bytes (drop 1 (into_iter_items args)))
         shelf.old shelf.new out.old out.new result) }
     ensures kept { H.files shelf.new ≡ H.files shelf.old }
-    ensures untouched { AskForNoFile (map string_bytes (drop 1 (into_iter_items args))) → shelf.new ≡ shelf.old }
+    ensures untouched { AskForNoFile on_one_thread (map string_bytes (drop 1 (into_iter_items args))) → shelf.new ≡ shelf.old }
 {
     match words_behind_name(alloc, args) {
         Ok(words) => run_words(alloc, words.as_slice(), shelf, out),
-        Err(_) => no_memory(out),
+        Err(_) => write_no_memory(out),
     }
 }
 

@@ -1,12 +1,14 @@
 -- Words behind a keyword that aren't its body ask for nothing.
-use Rattle.std.proofs.Common.{◌≡◌, ◌∙◌, ℕ, List, ◌∷◌, Some, codes, sym, ap, subst}
+use Rattle.std.proofs.Common.{◌≡◌, ◌≤◌, ◌<◌, ◌∙◌, ℕ, List, [], ◌∷◌, Option, None, Some, IfSome, length, map, codes, get_or, refl, sym, ap, subst, arith}
 use Rattle.std.proofs.lemmas.Option.{same_Some}
 use Rattle.std.specs.List.{AllByRecursion}
+use Rattle.std.specs.Option.{SomeIff}
+use Rattle.std.specs.Str.Parse.{digits_value}
 use Rattle.command_words.specs.declared.words.Command.{Command}
 use Rattle.command_words.specs.declared.words.TopCall.{TopCall}
-use Rattle.command_words.specs.CommandLine.{IsBody, IsCall, IsChange, Asks}
-use Rattle.command_words.proofs.Asking.{tail_is, call_has_parts, one_parting, no_parting, IsPart, Parted}
-use Rattle.command_words.proofs.WordsLaws.{Form, flat, plan, parts, form, form_of, form_is, flat_word, plan_word, parts_word, Carried, command, of_form}
+use Rattle.command_words.specs.CommandLine.{IsBody, IsCall, IsChange, IsNumber, IsWorkerCount, SaysWorkers, Asks}
+use Rattle.command_words.proofs.Asking.{head_is, tail_is, call_has_parts, one_parting, no_parting, IsPart, Parted}
+use Rattle.command_words.proofs.WordsLaws.{Form, flat, plan, parts, roll, form, form_of, form_is, flat_word, plan_word, parts_word, roll_word, Carried, command, of_form}
 
 -- what words of a form's keyword ask for
 asked :
@@ -40,6 +42,29 @@ no_parted_change file words none c asks =
     let a = asked parts (codes "parts") (file ∷ words) c parts_word asks in
     none a.0.1 a.0.2 (subst (λ ws. IsChange ws a.0.1 a.0.2) (sym (tail_is file a.0.0 words a.1.0 a.1.1)) a.1.3)
 
+-- a change behind a file and two numbers
+of_body :
+    (file run rounds : List ℕ) (words : List (List ℕ)) (f k n : List ℕ) (ws : List (List ℕ))
+    → file ∷ run ∷ rounds ∷ words ≡ f ∷ k ∷ n ∷ ws → (call target : TopCall)
+    → ((t v : TopCall) → IsNumber run → IsNumber rounds → IsChange words t v → ⊥)
+    → IsNumber k → IsNumber n → IsChange ws call target → ⊥
+of_body file run rounds words f k n ws is call target none first second change =
+    let behind = tail_is file f (run ∷ rounds ∷ words) (k ∷ n ∷ ws) is in
+    let last = tail_is run k (rounds ∷ words) (n ∷ ws) behind in
+    none call target
+    (subst IsNumber (sym (head_is run k (rounds ∷ words) (n ∷ ws) behind)) first)
+    (subst IsNumber (sym (head_is rounds n words ws last)) second)
+    (subst (λ xs. IsChange xs call target) (sym (tail_is rounds n words ws last)) change)
+
+-- words of the word `roll` of which one is no number, or that are no change
+pub no_rolled_change :
+    (file run rounds : List ℕ) (words : List (List ℕ))
+    → ((call target : TopCall) → IsNumber run → IsNumber rounds → IsChange words call target → ⊥)
+    → (c : Command) → Asks (codes "roll" ∷ file ∷ run ∷ rounds ∷ words) c → ⊥
+no_rolled_change file run rounds words none c asks =
+    let a = asked roll (codes "roll") (file ∷ run ∷ rounds ∷ words) c roll_word asks in
+    of_body file run rounds words a.0.0 a.1.0 a.1.1 a.1.2 a.1.3 a.0.3 a.0.4 none a.1.5 a.1.7 a.1.9
+
 -- words that nothing parts
 pub not_parted : (words : List (List ℕ)) → AllByRecursion IsPart words → (call target : TopCall) → IsChange words call target → ⊥
 not_parted words all call target is = no_parting is.0 is.1 (subst (AllByRecursion IsPart) is.2 all)
@@ -55,3 +80,15 @@ module _ (words call target : List (List ℕ)) (parts : Parted words call target
 
   pub no_target : ((asked : TopCall) → IsCall target asked → ⊥) → (first second : TopCall) → IsChange words first second → ⊥
   no_target none first second is = none second (subst (λ ws. IsCall ws second) (same_parts first second is).1 is.4)
+
+-- two words that say a number of workers
+pub says_workers :
+    {A : Type 0} (f : A → List ℕ) (words : List A) (option count default other : A) → 2 ≤ length words → length words < 3
+    → option ≡ get_or words 0 default → count ≡ get_or words 1 other → f option ≡ codes "--workers" → (said : Option ℕ)
+    → SomeIff said (IsWorkerCount (f count)) (digits_value 10 (f count)) → IfSome said (SaysWorkers (map f words))
+says_workers f [] option count default other low high first second names said by = absurd (omega (arith, low))
+says_workers f (x ∷ []) option count default other low high first second names said by = absurd (omega (arith, low))
+says_workers f (x ∷ y ∷ z ∷ words) option count default other low high first second names said by = absurd (omega (arith, high))
+says_workers f (x ∷ y ∷ []) option count default other low high first second names None by = tt
+says_workers f (x ∷ y ∷ []) option count default other low high first second names (Some workers) by =
+    (ap f (sym first) ∙ names, f y, refl, subst (λ c. IsWorkerCount (f c)) second by.0, by.1 ∙ ap (λ c. digits_value 10 (f c)) second)

@@ -6,7 +6,7 @@ use Rattle.std.specs.Str.Parse.{digits_value}
 use Rattle.command_words.specs.declared.words.Command.{Command}
 use Rattle.command_words.specs.declared.words.Command.TheVariants as commands
 use Rattle.command_words.specs.declared.words.TopCall.{TopCall}
-use Rattle.command_words.specs.CommandLine.{keyword, IsBody, IsChange, Asks}
+use Rattle.command_words.specs.CommandLine.{keyword, IsBody, IsChange, SaysWorkers, Asks}
 use Rattle.command_words.proofs.Asking.{head_is, tail_is, one_call, call_has_parts, one_parting}
 
 pub data Form : Type 0 where
@@ -15,9 +15,11 @@ pub data Form : Type 0 where
   flat : Form
   plan : Form
   parts : Form
+  roll : Form
   replay : Form
   upgrade : Form
   step : Form
+  live : Form
   check : Form
   big : Form
 
@@ -27,9 +29,11 @@ form commands.Version = version
 form (commands.Flat file call) = flat
 form (commands.Plan file call target) = plan
 form (commands.Parts file call target) = parts
+form (commands.Roll file run rounds call target) = roll
 form (commands.Replay file events) = replay
 form (commands.Upgrade file) = upgrade
 form (commands.Step script) = step
+form (commands.Live script workers) = live
 form (commands.Check script report) = check
 form (commands.Big lanes) = big
 
@@ -39,9 +43,11 @@ Carried version = Unit {0}
 Carried flat = List ℕ × TopCall
 Carried plan = List ℕ × TopCall × TopCall
 Carried parts = List ℕ × TopCall × TopCall
+Carried roll = List ℕ × ℕ × ℕ × TopCall × TopCall
 Carried replay = List ℕ × List ℕ
 Carried upgrade = List ℕ
 Carried step = List ℕ
+Carried live = List ℕ × ℕ
 Carried check = List ℕ × List ℕ
 Carried big = ℕ
 
@@ -51,9 +57,11 @@ command version p = commands.Version
 command flat p = commands.Flat p.0 p.1
 command plan p = commands.Plan p.0 p.1 p.2
 command parts p = commands.Parts p.0 p.1 p.2
+command roll p = commands.Roll p.0 p.1 p.2 p.3 p.4
 command replay p = commands.Replay p.0 p.1
 command upgrade p = commands.Upgrade p
 command step p = commands.Step p
+command live p = commands.Live p.0 p.1
 command check p = commands.Check p.0 p.1
 command big p = commands.Big p
 
@@ -63,9 +71,11 @@ carried commands.Version = tt
 carried (commands.Flat file call) = (file, call)
 carried (commands.Plan file call target) = (file, call, target)
 carried (commands.Parts file call target) = (file, call, target)
+carried (commands.Roll file run rounds call target) = (file, run, rounds, call, target)
 carried (commands.Replay file events) = (file, events)
 carried (commands.Upgrade file) = file
 carried (commands.Step script) = script
+carried (commands.Live script workers) = (script, workers)
 carried (commands.Check script report) = (script, report)
 carried (commands.Big lanes) = lanes
 
@@ -75,9 +85,11 @@ is_command commands.Version = refl
 is_command (commands.Flat file call) = refl
 is_command (commands.Plan file call target) = refl
 is_command (commands.Parts file call target) = refl
+is_command (commands.Roll file run rounds call target) = refl
 is_command (commands.Replay file events) = refl
 is_command (commands.Upgrade file) = refl
 is_command (commands.Step script) = refl
+is_command (commands.Live script workers) = refl
 is_command (commands.Check script report) = refl
 is_command (commands.Big lanes) = refl
 
@@ -89,9 +101,11 @@ form_of word =
     if bytes_eq word (codes "flat") then Some flat else
     if bytes_eq word (codes "plan") then Some plan else
     if bytes_eq word (codes "parts") then Some parts else
+    if bytes_eq word (codes "roll") then Some roll else
     if bytes_eq word (codes "replay") then Some replay else
     if bytes_eq word (codes "upgrade") then Some upgrade else
     if bytes_eq word (codes "step") then Some step else
+    if bytes_eq word (codes "live") then Some live else
     if bytes_eq word (codes "check") then Some check else
     if bytes_eq word (codes "big") then Some big else None
 
@@ -102,9 +116,11 @@ form_is commands.Version = refl
 form_is (commands.Flat file call) = refl
 form_is (commands.Plan file call target) = refl
 form_is (commands.Parts file call target) = refl
+form_is (commands.Roll file run rounds call target) = refl
 form_is (commands.Replay file events) = refl
 form_is (commands.Upgrade file) = refl
 form_is (commands.Step script) = refl
+form_is (commands.Live script workers) = refl
 form_is (commands.Check script report) = refl
 form_is (commands.Big lanes) = refl
 
@@ -120,6 +136,10 @@ pub parts_word : form_of (codes "parts") ≡ Some parts
 unfolding form_of
 parts_word = refl
 
+pub roll_word : form_of (codes "roll") ≡ Some roll
+unfolding form_of
+roll_word = refl
+
 pub same_form : (c d : Command) → keyword c ≡ keyword d → form c ≡ form d
 same_form c d is = same_Some (form c) (form d) (sym (form_is c) ∙ ap form_of is ∙ form_is d)
 
@@ -133,6 +153,15 @@ one_change :
 one_change xs ys t v u w x y same =
     let split = one_parting x.0 y.0 x.1 y.1 (call_has_parts x.0 t x.3) (call_has_parts y.0 u y.3) (sym x.2 ∙ same ∙ y.2) in
     (one_call x.0 y.0 t u x.3 y.3 split.0, one_call x.1 y.1 v w x.4 y.4 split.1)
+
+-- the options of a run tell its workers
+one_workers : (xs ys : List (List ℕ)) (w v : ℕ) → SaysWorkers xs w → SaysWorkers ys v → xs ≡ ys → w ≡ v
+one_workers [] [] w v x y same = x ∙ sym y
+one_workers [] (b ∷ ys) w v x y same = cc
+one_workers (a ∷ xs) [] w v x y same = cc
+one_workers (a ∷ xs) (b ∷ ys) w v x y same =
+    let counts = head_is x.1 y.1 [] [] (sym x.2 ∙ tail_is a b xs ys same ∙ y.2) in
+    x.4 ∙ ap (digits_value 10) counts ∙ sym y.4
 
 -- the words behind the first tell it
 one_body : (f : Form) (p q : Carried f) (body : List (List ℕ)) → IsBody (command f p) body → IsBody (command f q) body → command f p ≡ command f q
@@ -158,6 +187,17 @@ one_body parts (f, t, v) (g, u, w) body x y =
   where
     same : f ≡ g → t ≡ u → v ≡ w → commands.Parts f t v ≡ commands.Parts g u w
     same file call target = rw (file, call, target) refl
+one_body roll (f, k, n, t, v) (g, m, o, u, w) body x y =
+    let is = sym x.3 ∙ y.3 in
+    let first = tail_is f g (x.0 ∷ x.1 ∷ x.2) (y.0 ∷ y.1 ∷ y.2) is in
+    let second = tail_is x.0 y.0 (x.1 ∷ x.2) (y.1 ∷ y.2) first in
+    let runs = x.6 ∙ ap (digits_value 10) (head_is x.0 y.0 (x.1 ∷ x.2) (y.1 ∷ y.2) first) ∙ sym y.6 in
+    let rounds = x.8 ∙ ap (digits_value 10) (head_is x.1 y.1 x.2 y.2 second) ∙ sym y.8 in
+    let calls = one_change x.2 y.2 t v u w x.9 y.9 (tail_is x.1 y.1 x.2 y.2 second) in
+    same (head_is f g (x.0 ∷ x.1 ∷ x.2) (y.0 ∷ y.1 ∷ y.2) is) runs rounds calls.0 calls.1
+  where
+    same : f ≡ g → k ≡ m → n ≡ o → t ≡ u → v ≡ w → commands.Roll f k n t v ≡ commands.Roll g m o u w
+    same file run rounds call target = rw (file, run, rounds, call, target) refl
 one_body replay (f, e) (g, h) body x y =
     let is = sym x.0 ∙ y.0 in
     same (head_is f g (e ∷ []) (h ∷ []) is) (head_is e h [] [] (tail_is f g (e ∷ []) (h ∷ []) is))
@@ -172,6 +212,12 @@ one_body step f g body x y = same (head_is f g [] [] (sym x.0 ∙ y.0))
   where
     same : f ≡ g → commands.Step f ≡ commands.Step g
     same script = rw script refl
+one_body live (f, w) (g, v) body x y =
+    let is = sym x.1 ∙ y.1 in
+    same (head_is f g x.0 y.0 is) (one_workers x.0 y.0 w v x.3 y.3 (tail_is f g x.0 y.0 is))
+  where
+    same : f ≡ g → w ≡ v → commands.Live f w ≡ commands.Live g v
+    same script workers = rw (script, workers) refl
 one_body check (f, e) (g, h) body x y =
     let is = sym x.0 ∙ y.0 in
     same (head_is f g (e ∷ []) (h ∷ []) is) (head_is e h [] [] (tail_is f g (e ∷ []) (h ∷ []) is))

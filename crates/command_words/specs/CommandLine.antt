@@ -1,6 +1,6 @@
 -- To be believed (docs/definitions.md).
 -- The words of a command line, and which command they ask for: the first word names it, and the others are its body.
-use Rattle.std.specs.Prelude.{◌≡◌, ◌≢◌, ◌≤◌, ℕ, ℤ, List, [], ◌∷◌, ◌++◌, map, codes, slice_index, FitsSigned, Bool, not, bytes_eq}
+use Rattle.std.specs.Prelude.{◌≡◌, ◌≢◌, ◌≤◌, ◌<◌, ◌^◌, ℕ, ℤ, List, [], ◌∷◌, ◌++◌, map, codes, slice_index, FitsSigned, Bool, not, bytes_eq}
 use Rattle.std.specs.Int.{w32}
 use Rattle.std.specs.List.{AllByRecursion}
 use Rattle.std.specs.Str.Parse.{IsNumeral, digits_value, signed_digits_value, without_leading_sign}
@@ -23,6 +23,21 @@ integer_of word = signed_digits_value 10 word
 abbrev pub IsLaneCount : List ℕ → Type 0
 IsLaneCount word = IsNumeral 10 word × (1 ≤ digits_value 10 word) × (digits_value 10 word ≤ MAX_LANES)
 
+-- one digit or more, and nothing else, with a value up to 4294967295
+abbrev pub IsNumber : List ℕ → Type 0
+IsNumber word = IsNumeral 10 word × (digits_value 10 word < 2 ^ 32)
+
+-- one digit or more, and nothing else, with a value from 1 to 8
+abbrev pub IsWorkerCount : List ℕ → Type 0
+IsWorkerCount word = IsNumeral 10 word × (1 ≤ digits_value 10 word) × (digits_value 10 word ≤ 8)
+
+-- the options of a run on threads: four workers where they say nothing
+abbrev pub SaysWorkers : List (List ℕ) → ℕ → Type 0
+SaysWorkers [] workers = workers ≡ 4
+SaysWorkers (option ∷ words) workers =
+    (option ≡ codes "--workers")
+    × (count : List ℕ) × (words ≡ count ∷ []) × IsWorkerCount count × (workers ≡ digits_value 10 count)
+
 -- the words of a component and its arguments
 abbrev pub IsCall : List (List ℕ) → TopCall → Type 0
 IsCall words call =
@@ -41,9 +56,11 @@ keyword commands.Version = codes "--version"
 keyword (commands.Flat file call) = codes "flat"
 keyword (commands.Plan file call target) = codes "plan"
 keyword (commands.Parts file call target) = codes "parts"
+keyword (commands.Roll file run rounds call target) = codes "roll"
 keyword (commands.Replay file events) = codes "replay"
 keyword (commands.Upgrade file) = codes "upgrade"
 keyword (commands.Step script) = codes "step"
+keyword (commands.Live script workers) = codes "live"
 keyword (commands.Check script report) = codes "check"
 keyword (commands.Big lanes) = codes "big"
 
@@ -57,9 +74,15 @@ IsBody (commands.Plan file call target) body =
     (parts : List (List ℕ)) × (body ≡ file ∷ parts) × (file ≢ []) × IsChange parts call target
 IsBody (commands.Parts file call target) body =
     (parts : List (List ℕ)) × (body ≡ file ∷ parts) × (file ≢ []) × IsChange parts call target
+IsBody (commands.Roll file run rounds call target) body =
+    (first second : List ℕ) × (parts : List (List ℕ)) × (body ≡ file ∷ first ∷ second ∷ parts) × (file ≢ [])
+    × IsNumber first × (run ≡ digits_value 10 first) × IsNumber second × (rounds ≡ digits_value 10 second)
+    × IsChange parts call target
 IsBody (commands.Replay file events) body = (body ≡ file ∷ events ∷ []) × (file ≢ []) × (events ≢ [])
 IsBody (commands.Upgrade file) body = (body ≡ file ∷ []) × (file ≢ [])
 IsBody (commands.Step script) body = (body ≡ script ∷ []) × (script ≢ [])
+IsBody (commands.Live script workers) body =
+    (options : List (List ℕ)) × (body ≡ script ∷ options) × (script ≢ []) × SaysWorkers options workers
 IsBody (commands.Check script report) body = (body ≡ script ∷ report ∷ []) × (script ≢ []) × (report ≢ [])
 IsBody (commands.Big lanes) body = (count : List ℕ) × (body ≡ count ∷ []) × IsLaneCount count × (lanes ≡ digits_value 10 count)
 

@@ -1,10 +1,10 @@
 //! The words of a command line.
 
-ghost use Rattle.std.specs.Prelude.{◌≡◌, ◌≢◌, ◌∷◌, [], ◌<◌, length, codes, map, string_bytes, IfOk, IfSome, IfNone};
+ghost use Rattle.std.specs.Prelude.{◌≡◌, ◌≢◌, ◌∷◌, [], ◌<◌, ℕ, length, codes, map, string_bytes, IfOk, IfSome, IfNone};
 ghost use Rattle.std.specs.List.{AllByRecursion, prefix_len};
 ghost use Rattle.std.specs.Option.{SomeIff};
 ghost use Rattle.std.specs.Str.Parse.{digits_value};
-ghost use Rattle.command_words.specs.CommandLine.{IsInteger, IsLaneCount, integer_of, IsCall, IsChange, Asks, HasNoForm, is_part};
+ghost use Rattle.command_words.specs.CommandLine.{IsInteger, IsLaneCount, IsNumber, IsWorkerCount, SaysWorkers, integer_of, IsCall, IsChange, Asks, HasNoForm, is_part};
 ghost use Rattle.command_words.specs.declared.words.TopCall.{TopCall};
 
 use crate::MAX_LANES;
@@ -12,6 +12,12 @@ use config_graph::{List, NoMemory};
 use darwin_lexer::is_name;
 use std::alloc::Global;
 use std::marker::Model;
+
+/// The most worker threads that words may ask for.
+pub const MAX_WORKERS: u32 = 8;
+
+/// The worker threads of a run whose words say nothing of them.
+pub const USUAL_WORKERS: u32 = 4;
 
 /// A word of the command line, which contracts see as its bytes.
 #[derive(Debug, Drop)]
@@ -77,6 +83,16 @@ pub enum Command<'a> {
         call: TopCall<'a>,
         target: TopCall<'a>,
     },
+    /// What making these parts one after the other comes to.
+    Roll {
+        file: Word<'a>,
+        /// The transactions that are run before the first part.
+        run: u32,
+        /// The rounds that each part has to come to rest.
+        rounds: u32,
+        call: TopCall<'a>,
+        target: TopCall<'a>,
+    },
     /// The events of a file, over a component of a description.
     Replay {
         file: Word<'a>,
@@ -89,6 +105,11 @@ pub enum Command<'a> {
     /// The report of a run of the script of a file.
     Step {
         script: Word<'a>,
+    },
+    /// The same on worker threads, from 1 to [`MAX_WORKERS`] of them.
+    Live {
+        script: Word<'a>,
+        workers: u32,
     },
     /// Whether a report can be one of this machine for the script of a file.
     Check {
@@ -132,9 +153,11 @@ fn read_command<'a>(
         "big" => Ok(read_big(file, &words[1..])),
         "check" => Ok(read_check(file, &words[1..])),
         "flat" => read_flat(alloc, file, &words[1..]),
+        "live" => Ok(read_live(file, &words[1..])),
         "parts" => read_parts(alloc, file, &words[1..]),
         "plan" => read_plan(alloc, file, &words[1..]),
         "replay" => Ok(read_replay(file, &words[1..])),
+        "roll" => read_roll(alloc, file, &words[1..]),
         "step" => Ok(read_step(file, &words[1..])),
         "upgrade" => Ok(read_upgrade(file, &words[1..])),
         _ => Ok(None),
@@ -220,6 +243,75 @@ fn read_parts<'a>(
     }
 }
 
+/// What the word `roll` asks for with a file and these words behind it.
+fn read_roll<'a>(
+    alloc: Global,
+    file: &'a str,
+    words: &'a [String],
+) -> Result<Option<Command<'a>>, NoMemory>
+    requires { file.now ≢ [] }
+    ensures found { IfOk result (λ found. IfSome found
+        (λ command. Asks (codes "roll" ∷ file.now ∷ map string_bytes words.now) command)) }
+    ensures none { IfOk result (λ found. IfNone found
+        (HasNoForm (codes "roll" ∷ file.now ∷ map string_bytes words.now))) }
+{
+    match words {
+        [] => Ok(None),
+        [run, ..] => read_run(alloc, file, run.as_str(), &words[1..]),
+    }
+}
+
+/// What the word `roll` asks for with a file, a number and these words behind it.
+fn read_run<'a>(
+    alloc: Global,
+    file: &'a str,
+    run: &str,
+    words: &'a [String],
+) -> Result<Option<Command<'a>>, NoMemory>
+    requires { file.now ≢ [] }
+    ensures found { IfOk result (λ found. IfSome found
+        (λ command. Asks (codes "roll" ∷ file.now ∷ run.now ∷ map string_bytes words.now) command)) }
+    ensures none { IfOk result (λ found. IfNone found
+        (HasNoForm (codes "roll" ∷ file.now ∷ run.now ∷ map string_bytes words.now))) }
+{
+    match words {
+        [] => Ok(None),
+        [rounds, ..] => read_rolled(alloc, file, run, rounds.as_str(), &words[1..]),
+    }
+}
+
+/// What the word `roll` asks for with a file, two numbers and these words behind them.
+fn read_rolled<'a>(
+    alloc: Global,
+    file: &'a str,
+    run: &str,
+    rounds: &str,
+    words: &'a [String],
+) -> Result<Option<Command<'a>>, NoMemory>
+    requires { file.now ≢ [] }
+    ensures found { IfOk result (λ found. IfSome found
+        (λ command. Asks (codes "roll" ∷ file.now ∷ run.now ∷ rounds.now ∷ map string_bytes words.now) command)) }
+    ensures none { IfOk result (λ found. IfNone found
+        (HasNoForm (codes "roll" ∷ file.now ∷ run.now ∷ rounds.now ∷ map string_bytes words.now))) }
+{
+    let Some(run) = number(run) else {
+        return Ok(None);
+    };
+    let Some(rounds) = number(rounds) else {
+        return Ok(None);
+    };
+    match read_change(alloc, words)? {
+        Some(change) => Ok(Some(Command::Roll {
+            file: Word::of(file),
+            run,
+            rounds,
+            call: change.call,
+            target: change.target,
+        })),
+        None => Ok(None),
+    }
+}
+
 /// The two calls that these words are, with `--` between them.
 fn read_change(alloc: Global, words: &[String]) -> Result<Option<Change<'_>>, NoMemory>
     ensures found { IfOk result (λ found. IfSome found
@@ -296,6 +388,43 @@ fn read_step<'a>(script: &'a str, words: &[String]) -> Option<Command<'a>>
     }
 }
 
+/// What the word `live` asks for with a script and these words behind it.
+fn read_live<'a>(script: &'a str, words: &[String]) -> Option<Command<'a>>
+    requires { script.now ≢ [] }
+    ensures found { IfSome result (λ command. Asks (codes "live" ∷ script.now ∷ map string_bytes words.now) command) }
+    ensures none { IfNone result (HasNoForm (codes "live" ∷ script.now ∷ map string_bytes words.now)) }
+{
+    match said_workers(words) {
+        Some(workers) => Some(Command::Live {
+            script: Word::of(script),
+            workers,
+        }),
+        None => None,
+    }
+}
+
+/// How many workers these words say, which say nothing or are an option and its number.
+fn said_workers(words: &[String]) -> Option<u32>
+    ensures found { IfSome result (SaysWorkers (map string_bytes words.now)) }
+    ensures none { IfNone result ((workers : ℕ) → SaysWorkers (map string_bytes words.now) workers → ⊥) }
+{
+    match words {
+        [] => Some(USUAL_WORKERS),
+        [option, count] if option.as_str() == "--workers" => worker_count(count.as_str()),
+        _ => None,
+    }
+}
+
+/// The value of a word that is digits, where it is from 1 to [`MAX_WORKERS`].
+fn worker_count(word: &str) -> Option<u32>
+    ensures { SomeIff result (IsWorkerCount word.now) (digits_value 10 word.now) }
+{
+    match number(word) {
+        Some(workers) if 1 <= workers && workers <= MAX_WORKERS => Some(workers),
+        _ => None,
+    }
+}
+
 /// What the word `check` asks for with a script and these words behind it.
 fn read_check<'a>(script: &'a str, words: &'a [String]) -> Option<Command<'a>>
     requires { script.now ≢ [] }
@@ -350,8 +479,8 @@ fn read_lanes<'a>(count: &'a str) -> Option<Command<'a>>
 fn lane_count(word: &str) -> Option<u32>
     ensures { SomeIff result (IsLaneCount word.now) (digits_value 10 word.now) }
 {
-    match word.parse::<u32>() {
-        Ok(lanes) if !word.starts_with('+') && 1 <= lanes && lanes <= MAX_LANES => Some(lanes),
+    match number(word) {
+        Some(lanes) if 1 <= lanes && lanes <= MAX_LANES => Some(lanes),
         _ => None,
     }
 }
@@ -403,6 +532,16 @@ fn integers(alloc: Global, words: &[String]) -> Result<Option<Vec<i32>>, NoMemor
         }
     }
     Ok(Some(values))
+}
+
+/// The value of a word that is digits, where it is in the range of a `u32`.
+fn number(word: &str) -> Option<u32>
+    ensures { SomeIff result (IsNumber word.now) (digits_value 10 word.now) }
+{
+    match word.parse() {
+        Ok(value) if !word.starts_with('+') => Some(value),
+        _ => None,
+    }
 }
 
 /// The value of a word that is an optional `-` and digits, where it is in the range of an `i32`.

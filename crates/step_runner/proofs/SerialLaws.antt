@@ -56,21 +56,21 @@ piece_played stays folds before t show rounds d = show_played true before t roun
 
 -- ---- all of them
 
-abbrev part_of : List Piece → Piece → Played
+abbrev pub part_of : List Piece → Piece → Played
 part_of before p = record { statement = p.statement; lines = lines p.items; world = world_behind (items_of (before ++ p ∷ [])) }
 
-abbrev parts_of : List Piece → List Piece → List Played
+abbrev pub parts_of : List Piece → List Piece → List Played
 parts_of before [] = []
 parts_of before (p ∷ ps) = part_of before p ∷ parts_of (before ++ p ∷ []) ps
 
-statements_of : (before ps : List Piece) → map (λ (p : Played). p.statement) (parts_of before ps) ≡ map (λ (p : Piece). p.statement) ps
+pub statements_of : (before ps : List Piece) → map (λ (p : Played). p.statement) (parts_of before ps) ≡ map (λ (p : Piece). p.statement) ps
 statements_of before [] = refl
 statements_of before (p ∷ ps) = ap (λ ss. p.statement ∷ ss) (statements_of (before ++ p ∷ []) ps)
 
 -- parts that come to the same lines and the same world as pieces
-record AreAlike (before : List Piece) (qs : List Played) : Type 0 where
-  lines_are : lines_played qs ≡ lines (items_of before)
-  world_is : world_after qs ≡ world_behind (items_of before)
+pub record AreAlike (before : List Piece) (qs : List Played) : Type 0 where
+  pub lines_are : lines_played qs ≡ lines (items_of before)
+  pub world_is : world_after qs ≡ world_behind (items_of before)
 
 alike_next : (before : List Piece) (p : Piece) (qs : List Played) → AreAlike before qs → AreAlike (before ++ p ∷ []) (qs ++ part_of before p ∷ [])
 alike_next before p qs h =
@@ -88,7 +88,7 @@ alike_all before (p ∷ ps) qs h =
     (subst (AreAlike ((before ++ p ∷ []) ++ ps)) (append_assoc qs (part_of before p ∷ []) (parts_of (before ++ p ∷ []) ps))
     (alike_all (before ++ p ∷ []) ps (qs ++ part_of before p ∷ []) (alike_next before p qs h)))
 
-abbrev IsDonePiece : List Piece → Piece → Type 0
+abbrev pub IsDonePiece : List Piece → Piece → Type 0
 IsDonePiece before p = IsDone true (items_of before) p.statement p.items
 
 front_with : (before : List Piece) (p : Piece) (ps : List Piece) → AreByRounds (items_of (before ++ p ∷ ps)) → AreByRounds (items_of (before ++ p ∷ []))
@@ -96,7 +96,7 @@ front_with before p ps h =
     front_of_rounds (items_of (before ++ p ∷ [])) (items_of ps)
     (subst AreByRounds (ap items_of (sym (append_assoc before (p ∷ []) ps)) ∙ flat_map-append (λ (q : Piece). q.items) (before ++ p ∷ []) ps) h)
 
-all_played : RestStays → AreFolds → (before ps : List Piece) (qs : List Played) → AreAlike before qs → AreByRounds (items_of (before ++ ps)) → EachAfter IsDonePiece before ps
+pub all_played : RestStays → AreFolds → (before ps : List Piece) (qs : List Played) → AreAlike before qs → AreByRounds (items_of (before ++ ps)) → EachAfter IsDonePiece before ps
     → EachAfter IsPlayed qs (parts_of before ps)
 all_played stays folds before [] qs alike rounds done = tt
 all_played stays folds before (p ∷ ps) qs alike rounds done =

@@ -1,5 +1,8 @@
 -- A change is refused with the start, with the second component, or for want of room.
+use Rattle.std.proofs.Common.{ℕ, List}
 use Rattle.std.proofs.lemmas.Result.{err_from_is_err_and}
+use Rattle.config_graph.specs.Graph.{Graph}
+use Rattle.command_answers.specs.declared.status.Status.{Status}
 use Rattle.command_law.specs.Descriptions.{IsDescriptionRefusal}
 use Rattle.command_law.specs.Queries.{IsTextBy}
 use Rattle.command_law.specs.Plans.{RefusesStart, HasChange, HasSteps, RefusesPlan, starts_not, leads_nowhere, made_of_graph}
@@ -14,10 +17,10 @@ returns-clause-change c text checked =
     let target = c.args.target.now in
     let old = c.in_ok-old.old in
     let new = c.in_ok-new.new in
-    let IsText = IsTextBy c.args.cut.now in
-    if_ok c.steps_between.result (λ written. HasSteps IsText old new written.items) (λ written. HasChange IsText text call target written.items)
-    (λ written steps. changed_by_steps IsText text call target old new written.items (c.in_ok-old.ensures.starts text checked) (c.in_ok-new.ensures.graph text checked) steps)
-    c.steps_between.ensures.steps
+    let IsText : Status → Graph → Graph → List ℕ → Type 0 = IsTextBy c.args.cut.now call target in
+    if_ok c.change_graphs.result (λ answer. HasSteps (IsText answer.status) old new answer.text.items) (λ answer. HasChange (IsText answer.status) text call target answer.text.items)
+    (λ answer steps. changed_by_steps (IsText answer.status) text call target old new answer.text.items (c.in_ok-old.ensures.starts text checked) (c.in_ok-new.ensures.graph text checked) steps)
+    c.change_graphs.ensures.steps
 
 pub returns-clause-refused : goal.returns-clause-refused
 returns-clause-refused c text checked =
@@ -25,10 +28,10 @@ returns-clause-refused c text checked =
     let target = c.args.target.now in
     let old = c.in_ok-old.old in
     let new = c.in_ok-new.new in
-    if_err c.steps_between.result (MayRefuse (IsFull old new (made_of_graph old))) (MayRefuse (RefusesPlan text call target))
+    if_err c.change_graphs.result (MayRefuse (IsFull old new (made_of_graph old))) (MayRefuse (RefusesPlan text call target))
     (λ e. refused_through (IsFull old new (made_of_graph old)) (RefusesPlan text call target) e
     (λ words full. plan_refused text call target old new words (c.in_ok-old.ensures.starts text checked) (c.in_ok-new.ensures.graph text checked) full))
-    c.steps_between.ensures.full
+    c.change_graphs.ensures.full
 
 pub returns-in_err-new-clause-refused : goal.returns-in_err-new-clause-refused
 returns-in_err-new-clause-refused c text checked =

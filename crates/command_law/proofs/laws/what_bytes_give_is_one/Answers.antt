@@ -7,7 +7,7 @@ use Rattle.command_law.proofs.laws.what_bytes_give_is_one.Goals as goal
 
 pub returns : goal.returns
 returns c = record {
-  one_answer = one_answer c.there_is_one_list_of_parts.ensures c.a_graph_or_a_fault.ensures;
+  one_answer = one_answer c.there_is_one_list_of_parts.ensures c.there_is_one_roll.ensures c.a_graph_or_a_fault.ensures;
   never_both = never_both;
   one_plan = λ old new. one_plan old new [];
   one_report = reports.one_report c.a_text_tells_its_report.ensures;

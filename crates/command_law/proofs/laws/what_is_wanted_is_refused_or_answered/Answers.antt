@@ -11,5 +11,5 @@ returns c =
       starts = starts_or_refusals names graphs;
       room = room_for;
       reports = one_or_fault c.one_report_or_one_fault.ensures.always_one;
-      queries = refused_or_answered names graphs c.there_are_parts.ensures;
+      queries = refused_or_answered names graphs c.there_are_parts.ensures c.there_is_a_roll.ensures;
     }

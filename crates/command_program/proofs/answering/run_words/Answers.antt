@@ -8,9 +8,9 @@ use Rattle.command_program.proofs.answering.run_words.Goals as goal
 
 pub returns-in-Ok-None-clause-runs : goal.returns-in-Ok-None-clause-runs
 returns-in-Ok-None-clause-runs g c =
-    let seen = run_of g.H.Shelf g.K.Sink (map string_bytes c.args.words.now) c.args.shelf.now c.args.shelf.now c.args.out.now c.write.new.out c.write.result in
+    let seen = run_of g.H.Shelf g.K.Sink (map string_bytes c.args.words.now) c.args.shelf.now c.args.shelf.now c.args.out.now c.write_usage.new.out c.write_usage.result in
     runs_alone on_one_thread seen (refusal usage) refl (no_form (λ command asks. (rw c.in-Ok-None.field-0-is at c.in-Ok-None.ensures.none) command asks.1))
-    (rw c.as_bytes.ensures.value at c.write.ensures seen)
+    (c.write_usage.ensures seen)
 
 pub returns-in-Ok-Some-clause-runs : goal.returns-in-Ok-Some-clause-runs
 returns-in-Ok-Some-clause-runs g c =
@@ -18,9 +18,9 @@ returns-in-Ok-Some-clause-runs g c =
 
 pub returns-in-Err-clause-runs : goal.returns-in-Err-clause-runs
 returns-in-Err-clause-runs g c =
-    let seen = run_of g.H.Shelf g.K.Sink (map string_bytes c.args.words.now) c.args.shelf.now c.args.shelf.now c.args.out.now c.no_memory.new.out c.no_memory.result in
-    runs_alone on_one_thread seen (refusal no_memory) refl not_read (c.no_memory.ensures seen)
+    let seen = run_of g.H.Shelf g.K.Sink (map string_bytes c.args.words.now) c.args.shelf.now c.args.shelf.now c.args.out.now c.write_no_memory.new.out c.write_no_memory.result in
+    runs_alone on_one_thread seen (refusal no_memory) refl not_read (c.write_no_memory.ensures seen)
 
 pub returns-in-Ok-Some-clause-untouched : goal.returns-in-Ok-Some-clause-untouched
 returns-in-Ok-Some-clause-untouched g c none =
-    c.run_command.ensures.untouched (none _ (rw c.in-Ok-Some.field-0-is at c.in-Ok-Some.ensures.found))
+    c.run_command.ensures.untouched (λ known. none _ (known, rw c.in-Ok-Some.field-0-is at c.in-Ok-Some.ensures.found))

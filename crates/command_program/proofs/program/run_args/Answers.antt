@@ -8,10 +8,10 @@ use Rattle.command_program.proofs.program.run_args.Goals as goal
 
 pub returns-in-Err-clause-unreadable : goal.returns-in-Err-clause-unreadable
 returns-in-Err-clause-unreadable g c =
-    let seen = run_of g.H.Shelf g.K.Sink [] c.args.shelf.now c.args.shelf.now c.args.out.now c.no_memory.new.out c.no_memory.result in
-    rw c.in-Err.is (runs_alone on_one_thread seen (refusal no_memory) refl not_read (c.no_memory.ensures seen))
+    let seen = run_of g.H.Shelf g.K.Sink [] c.args.shelf.now c.args.shelf.now c.args.out.now c.write_no_memory.new.out c.write_no_memory.result in
+    rw c.in-Err.is (runs_alone on_one_thread seen (refusal no_memory) refl not_read (c.write_no_memory.ensures seen))
 
 pub returns-in-Err-clause-no_memory : goal.returns-in-Err-clause-no_memory
 returns-in-Err-clause-no_memory g c =
-    let seen = run_of g.H.Shelf g.K.Sink [] c.args.shelf.now c.args.shelf.now c.args.out.now c.no_memory.new.out c.no_memory.result in
-    rw c.in-Err.is (λ none. (c.no_memory.ensures seen, refl))
+    let seen = run_of g.H.Shelf g.K.Sink [] c.args.shelf.now c.args.shelf.now c.args.out.now c.write_no_memory.new.out c.write_no_memory.result in
+    rw c.in-Err.is (λ none. (c.write_no_memory.ensures seen, refl))

@@ -9,5 +9,5 @@ use Rattle.command_program.proofs.program.run_given.Goals as goal
 
 pub returns-in-Err-clause-runs : goal.returns-in-Err-clause-runs
 returns-in-Err-clause-runs g c =
-    let seen = run_of g.H.Shelf g.K.Sink (map string_bytes (drop 1 (into_iter_items c.args.args))) c.args.shelf.now c.args.shelf.now c.args.out.now c.no_memory.new.out c.no_memory.result in
-    runs_alone on_one_thread seen (refusal no_memory) refl not_read (c.no_memory.ensures seen)
+    let seen = run_of g.H.Shelf g.K.Sink (map string_bytes (drop 1 (into_iter_items c.args.args))) c.args.shelf.now c.args.shelf.now c.args.out.now c.write_no_memory.new.out c.write_no_memory.result in
+    runs_alone on_one_thread seen (refusal no_memory) refl not_read (c.write_no_memory.ensures seen)

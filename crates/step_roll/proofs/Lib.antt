@@ -1,0 +1,3 @@
+pub mod BeginLemmas
+pub mod PieceLemmas
+pub mod PlayedLemmas
