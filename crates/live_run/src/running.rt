@@ -74,7 +74,7 @@ where
     requires ready { IsReady gates.now seat start steps.items }
     requires doors { 1 ≤ length doors.items }
     requires hands { 1 ≤ length hands.items }
-    ensures { IfOk result (λ x. CarriedOut J.gates (statements_of start steps.items) x.0 x.1) }
+    ensures { IfOk result (λ x. CarriedOut gates.now.words.shared.table_id (statements_of start steps.items) x.0 x.1) }
 {
     let door = own_way(&mut doors);
     let hand = own_way(&mut hands);
