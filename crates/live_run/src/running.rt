@@ -140,9 +140,9 @@ where
 }
 
 /// Carries a script out on these gates: this thread changes the system, and so many workers beside it give nodes their
-/// turns, before each of which it calls the turnstile. A worker that can't be started is left out. Gives the report, and
-/// the seat, which agrees with it: the report is lawful on threads, the seat's record bears it, and its logs are what
-/// the seat took in, slot by slot. It may wait for nodes, and a `run` may never end where some node is never done.
+/// turns. The turnstile is called before each turn. A worker that can't be started is left out. Gives the report, and the
+/// seat, which agrees with it: the report is lawful on threads, the seat's record bears it, and its logs are what the
+/// seat took in, slot by slot. It may wait for nodes, and a `run` may never end where some node is never done.
 pub fn run_on_threads<R, T>(
     rt: R,
     alloc: Global,
