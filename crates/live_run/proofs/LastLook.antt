@@ -1,0 +1,40 @@
+-- A look behind all else changes nothing of what a report and its seat agree on.
+use Rattle.std.proofs.Common.{◌≡◌, ◌∙◌, ℕ, List, [], ◌∷◌, ◌++◌, length, map, refl, ap, sym}
+use Rattle.std.specs.List.{range_with_len}
+use Rattle.std.proofs.lemmas.List.{append-nil}
+use Rattle.std.proofs.lemmas.List.Elements.{filter_map-append}
+use Rattle.base.proofs.EachLaws.{each_pushed}
+use Rattle.change_board.specs.Bearing.{Bears, IsBorne}
+use Rattle.change_board.specs.Transcripts.{entry_in, line_in, lines, silent}
+use Rattle.change_law.specs.Statements.{Statement}
+use Rattle.live_laws.specs.Ended.{AgreesWith}
+use Rattle.quiesce_commit_laws.specs.Steps.{change_all}
+use Rattle.quiesce_core.specs.State.{Configuration, empty}
+use Rattle.report_types.specs.declared.report.HistoryLine.{HistoryLine}
+use Rattle.report_types.specs.declared.report.Report.{Report}
+use Rattle.txn_law.specs.Views.{log_in}
+use Rattle.txn_law.specs.declared.view.NodeView.{NodeView}
+use Rattle.txn_records.specs.Entries.{config_of, event_in, events_in}
+use Rattle.txn_records.specs.declared.entry.Entry.{Entry}
+use Rattle.txn_records.specs.declared.entry.Entry.TheVariants.{Looked}
+
+config_kept : (r : List Entry) (p w : ℕ) → config_of (r ++ Looked p w ∷ []) ≡ config_of r
+config_kept r p w = ap (change_all empty.config) (filter_map-append event_in r (Looked p w ∷ []) ∙ append-nil (events_in r))
+
+bears_still : (r : List Entry) (p w : ℕ) (history : List HistoryLine) → Bears r history → Bears (r ++ Looked p w ∷ []) history
+bears_still r p w history b = record {
+  items = b.items ++ silent (Looked p w) ∷ [];
+  entries_are = filter_map-append entry_in b.items (silent (Looked p w) ∷ []) ∙ ap (λ q. q ++ Looked p w ∷ []) b.entries_are;
+  lines_are = filter_map-append line_in b.items (silent (Looked p w) ∷ []) ∙ append-nil (lines b.items) ∙ b.lines_are;
+  borne = (each_pushed IsBorne b.items (silent (Looked p w))).1 (b.borne, refl);
+}
+
+pub agrees_still : (statements : List Statement) (report : Report) (r : List Entry) (p w : ℕ) (nodes : List NodeView) → AgreesWith statements report r nodes
+    → AgreesWith statements report (r ++ Looked p w ∷ []) nodes
+agrees_still statements report r p w nodes a = record {
+  lawful = a.lawful;
+  at_once = a.at_once;
+  bears = bears_still r p w report.history a.bears;
+  logs_are = a.logs_are ∙ ap (λ (c : Configuration). map (log_in nodes) (range_with_len 0 (length c.slots))) (sym (config_kept r p w));
+  early = a.early;
+}

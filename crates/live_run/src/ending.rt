@@ -1,0 +1,26 @@
+//! The end of a script on threads: the last look of the change's seat.
+
+ghost use Rattle.std.specs.Prelude.{◌≡◌, List};
+ghost use Rattle.change_law.specs.Statements.{Statement};
+ghost use Rattle.live_laws.specs.Ended.{AgreesWith};
+ghost use Rattle.live_run.specs.Carried.{CarriedOut};
+ghost use Rattle.report_types.specs.declared.report.Report.{Report};
+ghost use Rattle.txn_gate.specs.Seats.{IsChangeSeatOf, collected_in, record_of};
+
+use live_laws::reports_agree_with_their_seat;
+use txn_gate::{ChangeSeat, Gates};
+
+/// The last look of the seat, by which its record and what it took in are of one run. So the report of what was carried
+/// out agrees with the seat.
+pub fn look_last(gates: &Gates, seat: &mut ChangeSeat)
+    requires here { IsChangeSeatOf seat.old gates.now }
+    requires carried { (statements : List Statement) × (report : Report)
+        × CarriedOut gates.now.words.shared.table_id statements report seat.old }
+    ensures here { IsChangeSeatOf seat.new gates.now }
+    ensures agrees { (statements : List Statement) (report : Report)
+        → CarriedOut gates.now.words.shared.table_id statements report seat.old
+        → AgreesWith statements report (record_of seat.new) (collected_in seat.new) }
+{
+    reports_agree_with_their_seat();
+    gates.finish(seat);
+}

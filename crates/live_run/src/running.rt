@@ -1,0 +1,170 @@
+//! The script, carried out by one thread beside its workers.
+
+ghost use Rattle.std.specs.Prelude.{◌≡◌, ◌≤◌, ◌<◌, ◌+◌, ◌^◌, [], IfOk, length};
+ghost use Rattle.change_law.specs.Asked.{CanDoAll, CanStart, after_start, statements_of};
+ghost use Rattle.live_laws.specs.Ended.{AgreesWith};
+ghost use Rattle.live_run.specs.Carried.{CarriedOut, IsReady};
+ghost use Rattle.report_writing.specs.Reports.{LogsAreMade};
+ghost use Rattle.txn_gate.specs.Seats.{IsChangeSeatOf, change_in, collected_in, record_of};
+ghost use Rattle.txn_law.specs.Views.{nothing_done};
+
+use crate::ending::look_last;
+use crate::working::{Flags, work};
+use change_board::Board;
+use change_law::{Start, Step};
+use change_runner::{NoOne, run_statements};
+use config_graph::NoMemory;
+use live_board::{LiveBoard, Turnstile, scripts_leave_all_taken_in};
+use live_hall::{Door, Hall, Named};
+use live_hands::{Hand, Inboxes};
+use report_types::Report;
+use std::alloc::Global;
+use std::marker::Brand;
+use std::sync::Wait;
+use std::sync::atomic::{AtomicBool, Ordering};
+use std::thread;
+use std::thread::Threads;
+use txn_gate::{ChangeSeat, Gates};
+
+/// Carries the script out on a board over the gates. Gives its report, and the seat of the change.
+fn carry_out<'g, J: Named, R: Wait + Copy, T: Turnstile>(
+    alloc: Global,
+    board: LiveBoard<'g, J, R, T>,
+    start: Start,
+    steps: Vec<Step>,
+) -> Result<(Report, ChangeSeat), NoMemory>
+    requires fresh { ⟦<LiveBoard<'g, J, R, T> as Board>⟧.stands_for board [] }
+    requires start { CanStart start }
+    requires steps { CanDoAll (after_start start) steps.items }
+    ensures { IfOk result (λ x. CarriedOut J.gates (statements_of start steps.items) x.0 x.1) }
+{
+    scripts_leave_all_taken_in::<J, R, T>();
+    let (report, board, _listener) = run_statements(alloc, board, start, steps, NoOne)?;
+    Ok((report, board.into_seat()))
+}
+
+/// The way in of the thread of the change, which is the last of them.
+fn own_way<W>(ways: &mut Vec<W>) -> W
+    requires { 1 ≤ length ways.old.items }
+{
+    let Some(way) = ways.pop() else {
+        unreachable!()
+    };
+    way
+}
+
+/// Carries the script out beside workers, one for each of these doors and hands but the last. One that can't be started
+/// is left out: the scans of the board give its turns. All have ended when this returns.
+fn carry_out_beside<J, R, T>(
+    rt: R,
+    alloc: Global,
+    gates: &Gates,
+    seat: ChangeSeat,
+    stile: &T,
+    mut doors: Vec<Door<J, R>>,
+    mut hands: Vec<Hand<R>>,
+    start: Start,
+    steps: Vec<Step>,
+) -> Result<(Report, ChangeSeat), NoMemory>
+where
+    J: Named + Send + Sync,
+    R: Threads + Wait + Copy + Send + Sync,
+    T: Turnstile + Sync,
+    requires named { J.gates ≡ gates.now.words.shared.table_id }
+    requires ready { IsReady gates.now seat start steps.items }
+    requires doors { 1 ≤ length doors.items }
+    requires hands { 1 ≤ length hands.items }
+    ensures { IfOk result (λ x. CarriedOut gates.now.words.shared.table_id (statements_of start steps.items) x.0 x.1) }
+{
+    let door = own_way(&mut doors);
+    let hand = own_way(&mut hands);
+    let flags = Flags {
+        stop: AtomicBool::new(false),
+        short: AtomicBool::new(false),
+    };
+    let told = &flags;
+    thread::scope(
+        thread::scope_env(),
+        &rt,
+        move |scope| -> Result<(Report, ChangeSeat), NoMemory>
+            requires named { J.gates ≡ gates.now.words.shared.table_id }
+            requires ready { IsReady gates.now seat start steps.items }
+            ensures { IfOk result (λ x. CarriedOut J.gates (statements_of start steps.items) x.0 x.1) }
+        {
+            let mut worker = 0_u32;
+            for (door, hand) in doors.into_iter().zip(hands) {
+                worker = worker.wrapping_add(1);
+                let _ = scope.spawn(move || work(&rt, gates, door, hand, told, stile, worker));
+            }
+            let board = LiveBoard::new(rt, alloc, gates, seat, door, hand, stile, &told.short);
+            let ran = carry_out(alloc, board, start, steps);
+            told.stop.store(true, Ordering::SeqCst);
+            ran
+        },
+    )
+}
+
+/// The same with doors and hands for so many workers, in a hall of its own, at whose end the seat has its last look.
+fn run_beside<J, R, T>(
+    rt: R,
+    alloc: Global,
+    gates: &Gates,
+    seat: ChangeSeat,
+    stile: &T,
+    workers: u32,
+    start: Start,
+    steps: Vec<Step>,
+) -> Result<(Report, ChangeSeat), NoMemory>
+where
+    J: Named + Send + Sync,
+    R: Threads + Wait + Copy + Send + Sync,
+    T: Turnstile + Sync,
+    requires named { J.gates ≡ gates.now.words.shared.table_id }
+    requires here { IsChangeSeatOf seat gates.now }
+    requires fresh { (change_in seat ≡ nothing_done) × (collected_in seat ≡ []) × (seat.spare ≡ 0) }
+    requires workers { workers + 1 < 2 ^ 32 }
+    requires start { CanStart start }
+    requires steps { CanDoAll (after_start start) steps.items }
+    ensures here { IfOk result (λ x. IsChangeSeatOf x.1 gates.now) }
+    ensures agrees { IfOk result (λ x. AgreesWith (statements_of start steps.items) x.0 (record_of x.1)
+        (collected_in x.1)) }
+    ensures logs { IfOk result (λ x. LogsAreMade x.0) }
+{
+    let doors = Hall::with_doors::<J, R>(rt, alloc, workers + 1)?;
+    let hands = Inboxes::with_hands(rt, alloc, workers + 1)?;
+    let (report, mut seat) = carry_out_beside(
+        rt, alloc, gates, seat, stile, doors, hands, start, steps,
+    )?;
+    look_last(gates, &mut seat);
+    Ok((report, seat))
+}
+
+/// Carries a script out on these gates: this thread changes the system, and so many workers beside it give nodes their
+/// turns. The turnstile is called before each turn. A worker that can't be started is left out. Gives the report, and the
+/// seat, which agrees with it: the report is lawful on threads, the seat's record bears it, and its logs are what the
+/// seat took in, slot by slot. It may wait for nodes, and a `run` may never end where some node is never done.
+pub fn run_on_threads<R, T>(
+    rt: R,
+    alloc: Global,
+    gates: &Gates,
+    seat: ChangeSeat,
+    stile: &T,
+    workers: u32,
+    start: Start,
+    steps: Vec<Step>,
+) -> Result<(Report, ChangeSeat), NoMemory>
+where
+    R: Threads + Wait + Copy + Send + Sync,
+    T: Turnstile + Sync,
+    requires here { IsChangeSeatOf seat gates.now }
+    requires fresh { (change_in seat ≡ nothing_done) × (collected_in seat ≡ []) × (seat.spare ≡ 0) }
+    requires workers { workers + 1 < 2 ^ 32 }
+    requires start { CanStart start }
+    requires steps { CanDoAll (after_start start) steps.items }
+    ensures here { IfOk result (λ x. IsChangeSeatOf x.1 gates.now) }
+    ensures agrees { IfOk result (λ x. AgreesWith (statements_of start steps.items) x.0 (record_of x.1)
+        (collected_in x.1)) }
+    ensures logs { IfOk result (λ x. LogsAreMade x.0) }
+{
+    run_beside::<Brand, R, T>(rt, alloc, gates, seat, stile, workers, start, steps)
+}
