@@ -20,6 +20,18 @@ component Pair(int k, int j) {
 }
 ";
 
+/// Two lines, of which the second is longer.
+pub const UNEVEN: &str = "component source(int n) { require out; }
+component map(int k) { provide in; require next; }
+component sink { provide in; }
+component Uneven(int k, int j) {
+  inst a:source(9); b:map(k); c:sink;
+       d:source(9); e:map(j); f:map(0); g:map(0); h:sink;
+  bind a.out -- b.in; b.next -- c.in;
+       d.out -- e.in; e.next -- f.in; f.next -- g.in; g.next -- h.in;
+}
+";
+
 /// Two maps, of which the one leads to the other, or the other to the one.
 pub const TURN: &str = "component map(int k) { provide in; require next; }
 component Turn(int w) {

@@ -24,6 +24,8 @@ mod plan_rows;
 #[cfg(test)]
 mod replay_rows;
 #[cfg(test)]
+mod roll_rows;
+#[cfg(test)]
 mod running;
 #[cfg(test)]
 mod upgrade_rows;

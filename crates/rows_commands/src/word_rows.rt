@@ -22,7 +22,7 @@ static HELP: [Words; 7] = [
     Words {
         words: &["--help"],
         status: 0,
-        written: "darwin_run --help                             write this text\ndarwin_run --version                          write the program's name and version\ndarwin_run flat FILE NAME INT*                write the graph of a component\ndarwin_run plan FILE NAME INT* -- NAME INT*   write the change from the first to the second\ndarwin_run parts FILE NAME INT* -- NAME INT*  write the parts into which that change is cut\ndarwin_run replay FILE EVENTS                 apply events to the system that they start\ndarwin_run step SCRIPT                        run a script on one thread, write its report\ndarwin_run check SCRIPT REPORT                say whether a report can be one of this machine\ndarwin_run big N                              run and change a system of N lanes (1 to 40)\ndarwin_run upgrade FILE                       write a report in version 2\n\nstatus\n  0  what was asked for is written\n  1  the words have no form\n  2  a description is refused\n  3  a script, a file of events or a report is refused\n  4  a file can't be read\n  5  standard output failed\n  6  memory ran out\n  7  a change was given up\n  8  a node isn't done behind finish\n  9  an event is denied\n 10  a report can't be one of this machine\n\n/dev/stdin serves for a file.\n",
+        written: "darwin_run --help                             write this text\ndarwin_run --version                          write the program's name and version\ndarwin_run flat FILE NAME INT*                write the graph of a component\ndarwin_run plan FILE NAME INT* -- NAME INT*   write the change from the first to the second\ndarwin_run parts FILE NAME INT* -- NAME INT*  write the parts into which that change is cut\ndarwin_run roll FILE NUM NUM NAME INT* -- NAME INT*\n                                              start the first, run it, and carry those parts out\ndarwin_run replay FILE EVENTS                 apply events to the system that they start\ndarwin_run step SCRIPT                        run a script on one thread, write its report\ndarwin_run check SCRIPT REPORT                say whether a report can be one of this machine\ndarwin_run big N                              run and change a system of N lanes (1 to 40)\ndarwin_run upgrade FILE                       write a report in version 2\n\nstatus\n  0  what was asked for is written\n  1  the words have no form\n  2  a description is refused\n  3  a script, a file of events or a report is refused\n  4  a file can't be read\n  5  standard output failed\n  6  memory ran out\n  7  a change was given up\n  8  a node isn't done behind finish\n  9  an event is denied\n 10  a report can't be one of this machine\n\n/dev/stdin serves for a file.\n",
     },
     Words {
         words: &["--version"],
@@ -254,6 +254,81 @@ static PARTS: [Words; 5] = [
     },
 ];
 
+static ROLL: [Words; 6] = [
+    Words {
+        words: &[
+            "roll",
+            "f.dar",
+            "4294967295",
+            "007",
+            "Line",
+            "3",
+            "10",
+            "--",
+            "Line",
+            "-0",
+            "010",
+        ],
+        status: 0,
+        written: "part 1\nfreeze s\nunlink s.out\nremove s\ncreate s source(0)\nlink s.out m.in\ndone\nnode m map(10)\nport m.next t.in\nnode s source(0)\nport s.out m.in\nnode t sink()\n",
+    },
+    Words {
+        words: &[
+            "roll",
+            "f.dar",
+            "4294967296",
+            "7",
+            "Line",
+            "3",
+            "10",
+            "--",
+            "Line",
+            "3",
+            "10",
+        ],
+        status: 1,
+        written: "usage\n",
+    },
+    Words {
+        words: &[
+            "roll",
+            "f.dar",
+            "7",
+            "4294967296",
+            "Line",
+            "3",
+            "10",
+            "--",
+            "Line",
+            "3",
+            "10",
+        ],
+        status: 1,
+        written: "usage\n",
+    },
+    Words {
+        words: &[
+            "roll", "f.dar", "7", "-1", "Line", "3", "10", "--", "Line", "3", "10",
+        ],
+        status: 1,
+        written: "usage\n",
+    },
+    Words {
+        words: &[
+            "roll", "f.dar", "7", "+1", "Line", "3", "10", "--", "Line", "3", "10",
+        ],
+        status: 1,
+        written: "usage\n",
+    },
+    Words {
+        words: &[
+            "roll", "f.dar", "7", "Line", "3", "10", "--", "Line", "3", "10",
+        ],
+        status: 1,
+        written: "usage\n",
+    },
+];
+
 static REPLAY: [Words; 5] = [
     Words {
         words: &["replay"],
@@ -318,6 +393,11 @@ fn words_of_plan_have_forms(rt: HostRuntime) -> Result<(), Fail> {
 #[test]
 fn words_of_parts_have_forms(rt: HostRuntime) -> Result<(), Fail> {
     run_all(&rt, rt.alloc(), &PARTS)
+}
+
+#[test]
+fn words_of_roll_have_forms(rt: HostRuntime) -> Result<(), Fail> {
+    run_all(&rt, rt.alloc(), &ROLL)
 }
 
 #[test]
