@@ -68,7 +68,7 @@ fn one_viewer(rt: HostRuntime) -> Result<(), Fail> {
     let alloc = rt.alloc();
     let nothing = Graph::build(alloc, Vec::new(alloc), Vec::new(alloc))?;
     let graph = one_sink(alloc)?;
-    let (writer, mut viewers) = Views::new(alloc, rt, 1)?;
+    let (writer, mut viewers) = Views::new(rt, alloc, 1)?;
     let Some(Some(viewer)) = viewers.pop() else {
         return Err(Fail::new("a viewer"));
     };
@@ -134,7 +134,7 @@ fn at_once<R: Threads + Wait + Copy + Send + Sync>(
 #[test]
 fn beside_the_writer(rt: HostRuntime) -> Result<(), Fail> {
     let graph = one_sink(rt.alloc())?;
-    let (writer, mut viewers) = Views::new(rt.alloc(), rt, 1)?;
+    let (writer, mut viewers) = Views::new(rt, rt.alloc(), 1)?;
     let Some(Some(viewer)) = viewers.pop() else {
         return Err(Fail::new("a viewer"));
     };

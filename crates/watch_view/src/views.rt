@@ -17,8 +17,8 @@ impl Views {
     /// A writer, and for each of so many observers a viewer, or `None` where there is none to be had. `rt` is what
     /// the writer waits by.
     pub fn new<R: Wait + Copy>(
-        alloc: Global,
         rt: R,
+        alloc: Global,
         observers: u32,
     ) -> Result<(ViewWriter<R>, Vec<Option<Viewer>>), NoMemory>
         requires { (0 < observers) × (observers ≤ 4) }
