@@ -111,6 +111,7 @@ help_text =
     ++ codes "                                              start the first, run it, and carry those parts out\n"
     ++ codes "darwin_run replay FILE EVENTS                 apply events to the system that they start\n"
     ++ codes "darwin_run step SCRIPT                        run a script on one thread, write its report\n"
+    ++ codes "darwin_run live SCRIPT [--workers W]          run a script on W worker threads (1 to 8, or 4)\n"
     ++ codes "darwin_run check SCRIPT REPORT                say whether a report can be one of this machine\n"
     ++ codes "darwin_run big N                              run and change a system of N lanes (1 to 40)\n"
     ++ codes "darwin_run upgrade FILE                       write a report in version 2\n"

@@ -1,4 +1,4 @@
 pub mod ReportingLaws
-pub mod Running
+pub mod RunningLaws
 mod ScriptRuns
 mod SoundSteps

@@ -5,7 +5,7 @@ use Rattle.command_law.specs.Commands.{course_of_query}
 use Rattle.command_law.specs.Fetches.{fetch_of}
 use Rattle.command_law.proofs.CourseLaws.{described_in_part, describes, undescribed}
 use Rattle.command_files.specs.declared.answer.Stop.TheVariants as stops
-use Rattle.command_program.proofs.Running.{by_fetch, by_no_fetch}
+use Rattle.command_program.proofs.RunningLaws.{by_fetch, by_no_fetch}
 use Rattle.command_program.proofs.answering.answer_description.Goals as goal
 
 pub returns-in_err-fetched-clause-answers : goal.returns-in_err-fetched-clause-answers

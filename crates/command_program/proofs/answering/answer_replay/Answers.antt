@@ -5,7 +5,7 @@ use Rattle.command_law.specs.Commands.{course_of}
 use Rattle.command_law.specs.Fetches.{fetch_of}
 use Rattle.command_law.proofs.CourseLaws.{script_unfetched}
 use Rattle.command_words.specs.declared.words.Command.TheVariants as commands
-use Rattle.command_program.proofs.Running.{by_fetch, by_no_fetch, events_stop, replay_read}
+use Rattle.command_program.proofs.RunningLaws.{by_fetch, by_no_fetch, events_stop, replay_read}
 use Rattle.command_program.proofs.answering.answer_replay.Goals as goal
 
 pub returns-clause-answers : goal.returns-clause-answers

@@ -6,7 +6,7 @@ use Rattle.command_law.specs.Fetches.{report_fetch}
 use Rattle.command_law.proofs.CourseLaws.{report_unfetched, report_unread, upgrades}
 use Rattle.command_words.specs.declared.words.Command.TheVariants as commands
 use Rattle.command_files.specs.declared.answer.Stop.TheVariants as stops
-use Rattle.command_program.proofs.Running.{by_fetch, by_no_fetch}
+use Rattle.command_program.proofs.RunningLaws.{by_fetch, by_no_fetch}
 use Rattle.command_program.proofs.answering.answer_report.Goals as goal
 
 pub returns-in_err-fetched-clause-answers : goal.returns-in_err-fetched-clause-answers

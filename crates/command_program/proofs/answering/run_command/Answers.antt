@@ -4,7 +4,7 @@ use Rattle.command_answers.specs.Answers.{help, refusal, usage, version}
 use Rattle.command_law.specs.Known.{on_one_thread}
 use Rattle.command_words.specs.declared.words.Command.TheVariants as commands
 use Rattle.command_law.specs.Runs.{asked, no_form, run_of}
-use Rattle.command_program.proofs.Running.{not_known, runs_alone, runs_by, runs_unfetched}
+use Rattle.command_program.proofs.RunningLaws.{not_known, runs_alone, runs_by, runs_unfetched}
 use Rattle.command_program.proofs.answering.run_command.Goals as goal
 
 pub returns-in-Help-clause-runs : goal.returns-in-Help-clause-runs

@@ -3,7 +3,7 @@ use Rattle.std.proofs.Common.{map, refl, string_bytes}
 use Rattle.command_answers.specs.Answers.{refusal, usage, no_memory}
 use Rattle.command_law.specs.Runs.{no_form, not_read, run_of}
 use Rattle.command_law.specs.Known.{on_one_thread}
-use Rattle.command_program.proofs.Running.{runs_alone}
+use Rattle.command_program.proofs.RunningLaws.{runs_alone}
 use Rattle.command_program.proofs.answering.run_words.Goals as goal
 
 pub returns-in-Ok-None-clause-runs : goal.returns-in-Ok-None-clause-runs

@@ -1,6 +1,6 @@
 -- The code is that of the status with which it was written that memory ran out.
 use Rattle.std.proofs.lemmas.Result.{MatchResult-weaker}
-use Rattle.command_program.proofs.program.run_program.Goals as goal
+use Rattle.command_live.proofs.program.run_program.Goals as goal
 
 pub returns-clause-no_memory : goal.returns-clause-no_memory
 returns-clause-no_memory g c =

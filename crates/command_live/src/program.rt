@@ -7,35 +7,44 @@ ghost use Rattle.std.specs.Vec.Iter.{into_iter_items};
 ghost use Rattle.command_answers.specs.Answers.{no_memory_line};
 ghost use Rattle.command_answers.specs.Statuses.{status_number};
 ghost use Rattle.command_law.specs.Runs.{Runs, Written, run_of};
-ghost use Rattle.command_law.specs.Known.{on_one_thread};
-ghost use Rattle.command_program.specs.Exits.{Exits};
+ghost use Rattle.command_law.specs.Known.{all_commands};
+ghost use Rattle.command_live.specs.Exits.{Exits};
 ghost use Rattle.command_program.specs.Naming.{AskForNoFile};
 
-use crate::answering::run_words;
-use crate::writing::write_no_memory;
+use crate::all_commands::top;
 use cfg_io::{Shelf, Sink};
 use command_answers::Status;
+use command_program::write_no_memory;
 use config_graph::NoMemory;
+use live_board::Turnstile;
 use std::alloc::Global;
 use std::env::Args;
 use std::io;
 use std::io::ErrorKind;
 use std::process::ExitCode;
+use std::sync::Wait;
+use std::thread::Threads;
+use txn_gate::Gates;
 
 /// Does what the words of a command line ask for, of which the first is the program's name, and says with which code
 /// to exit: the number of the status. Words that can't be read, as one that isn't UTF-8, are of no form, as no words
-/// are.
-pub fn run_program<H: Shelf, K: Sink>(
+/// are. The gates of a run on threads are made first; where there is no memory for them, the line says so.
+pub fn run_program<H: Shelf, K: Sink, R, T>(
+    rt: R,
     alloc: Global,
     args: io::Result<Args>,
     shelf: &mut H,
     out: &mut K,
+    stile: &T,
 ) -> ExitCode
+where
+    R: Threads + Wait + Copy + Send + Sync,
+    T: Turnstile + Sync,
     // All words but the first are asked, and none is left out.
-    ensures given { IfOk args (λ args. Exits (λ own. Runs on_one_thread
+    ensures given { IfOk args (λ args. Exits (λ own. Runs all_commands
         (run_of H.Shelf K.Sink (map string_bytes (drop 1 (into_iter_items args)))
         shelf.old shelf.new out.old out.new own)) result) }
-    ensures unreadable { IfErr args (λ fault. Exits (λ own. Runs on_one_thread
+    ensures unreadable { IfErr args (λ fault. Exits (λ own. Runs all_commands
         (run_of H.Shelf K.Sink [] shelf.old shelf.new out.old out.new own)) result) }
     // With no memory for the words nothing is fetched.
     ensures no_memory { IfErr args (λ fault. error_kind fault ≡ ErrorKind.OutOfMemory
@@ -44,50 +53,93 @@ pub fn run_program<H: Shelf, K: Sink>(
         × (H.failed shelf.new ≡ H.failed shelf.old)) }
     // No fetch changes the files. Words that name no file fetch none: the shelf is as it was.
     ensures kept { H.files shelf.new ≡ H.files shelf.old }
-    ensures untouched { IfOk args (λ args. AskForNoFile on_one_thread (map string_bytes (drop 1 (into_iter_items args)))
+    ensures untouched { IfOk args (λ args. AskForNoFile all_commands (map string_bytes (drop 1 (into_iter_items args)))
         → shelf.new ≡ shelf.old) }
     ensures unread { OnErr args (shelf.new ≡ shelf.old) }
 {
-    exit_code(run_args(alloc, args, shelf, out))
+    exit_code(run_args(rt, alloc, args, shelf, out, stile))
 }
 
 /// The same, and the status.
-fn run_args<H: Shelf, K: Sink>(
+fn run_args<H: Shelf, K: Sink, R, T>(
+    rt: R,
     alloc: Global,
     args: io::Result<Args>,
     shelf: &mut H,
     out: &mut K,
+    stile: &T,
 ) -> Status
-    ensures given { IfOk args (λ args. Runs on_one_thread
+where
+    R: Threads + Wait + Copy + Send + Sync,
+    T: Turnstile + Sync,
+    ensures given { IfOk args (λ args. Runs all_commands
         (run_of H.Shelf K.Sink (map string_bytes (drop 1 (into_iter_items args)))
         shelf.old shelf.new out.old out.new result)) }
-    ensures unreadable { IfErr args (λ fault. Runs on_one_thread
+    ensures unreadable { IfErr args (λ fault. Runs all_commands
         (run_of H.Shelf K.Sink [] shelf.old shelf.new out.old out.new result)) }
     ensures no_memory { IfErr args (λ fault. error_kind fault ≡ ErrorKind.OutOfMemory
         → Written Status.NoMemory no_memory_line (run_of H.Shelf K.Sink [] shelf.old shelf.new out.old out.new result)
         × (H.failed shelf.new ≡ H.failed shelf.old)) }
     ensures kept { H.files shelf.new ≡ H.files shelf.old }
-    ensures untouched { IfOk args (λ args. AskForNoFile on_one_thread (map string_bytes (drop 1 (into_iter_items args)))
+    ensures untouched { IfOk args (λ args. AskForNoFile all_commands (map string_bytes (drop 1 (into_iter_items args)))
         → shelf.new ≡ shelf.old) }
     ensures unread { OnErr args (shelf.new ≡ shelf.old) }
 {
     match args {
-        Ok(args) => run_given(alloc, args, shelf, out),
+        Ok(args) => run_given(rt, alloc, args, shelf, out, stile),
         Err(fault) if fault.kind() == ErrorKind::OutOfMemory => write_no_memory(out),
-        Err(_) => run_words(alloc, &[], shelf, out),
+        Err(_) => run_on_gates(rt, alloc, &[], shelf, out, stile),
     }
 }
 
 /// The same for words that can be read.
-fn run_given<H: Shelf, K: Sink>(alloc: Global, args: Args, shelf: &mut H, out: &mut K) -> Status
-    ensures runs { Runs on_one_thread
+fn run_given<H: Shelf, K: Sink, R, T>(
+    rt: R,
+    alloc: Global,
+    args: Args,
+    shelf: &mut H,
+    out: &mut K,
+    stile: &T,
+) -> Status
+where
+    R: Threads + Wait + Copy + Send + Sync,
+    T: Turnstile + Sync,
+    ensures runs { Runs all_commands
         (run_of H.Shelf K.Sink (map string_bytes (drop 1 (into_iter_items args)))
         shelf.old shelf.new out.old out.new result) }
     ensures kept { H.files shelf.new ≡ H.files shelf.old }
-    ensures untouched { AskForNoFile on_one_thread (map string_bytes (drop 1 (into_iter_items args))) → shelf.new ≡ shelf.old }
+    ensures untouched { AskForNoFile all_commands (map string_bytes (drop 1 (into_iter_items args)))
+        → shelf.new ≡ shelf.old }
 {
     match words_behind_name(alloc, args) {
-        Ok(words) => run_words(alloc, words.as_slice(), shelf, out),
+        Ok(words) => run_on_gates(rt, alloc, words.as_slice(), shelf, out, stile),
+        Err(_) => write_no_memory(out),
+    }
+}
+
+/// Does what the words ask for, on gates that are made for it.
+fn run_on_gates<H: Shelf, K: Sink, R, T>(
+    rt: R,
+    alloc: Global,
+    words: &[String],
+    shelf: &mut H,
+    out: &mut K,
+    stile: &T,
+) -> Status
+where
+    R: Threads + Wait + Copy + Send + Sync,
+    T: Turnstile + Sync,
+    ensures runs { Runs all_commands (run_of H.Shelf K.Sink (map string_bytes words.now)
+        shelf.old shelf.new out.old out.new result) }
+    ensures kept { H.files shelf.new ≡ H.files shelf.old }
+    ensures untouched { AskForNoFile all_commands (map string_bytes words.now) → shelf.new ≡ shelf.old }
+    ensures unread { words.now ≡ [] → shelf.new ≡ shelf.old }
+{
+    match Gates::new(alloc) {
+        Ok((gates, seat)) => {
+            let (status, _seat) = top(rt, alloc, words, shelf, out, stile, &gates, seat);
+            status
+        }
         Err(_) => write_no_memory(out),
     }
 }

@@ -1,6 +1,6 @@
 use Rattle.std.proofs.Common.{◌≡◌, ◌++◌, drop}
 use Rattle.std.specs.Vec.Iter.{into_iter_items, into_iter_len}
-use Rattle.command_program.proofs.program.words_behind_name.Given as goal
+use Rattle.command_live.proofs.program.words_behind_name.Given as goal
 
 -- what was taken, and what is to come
 abbrev pub invariant-loop-word : goal.invariant-loop-word

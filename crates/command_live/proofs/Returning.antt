@@ -1,0 +1,45 @@
+-- Which seat comes back, and when.
+use Rattle.std.proofs.Common.{◌≡◌, ◌≤◌, ℕ, Bool, true, false, List, [], ◌∷◌, Option, Some, None, Result, Err, IfSome, IsTrue, is_some, if◌then◌else◌, refl, sym, subst, ap, ◌∙◌}
+use Rattle.std.specs.Prelude.{◌==◌}
+use native.Mathlib.Omega.{arith}
+use Rattle.command_answers.specs.Answers.{no_memory_line, run_status}
+use Rattle.command_answers.specs.Statuses.{is_of_run}
+use Rattle.command_answers.specs.declared.status.Status.{Status}
+use Rattle.command_answers.specs.declared.status.Status.TheVariants as status
+use Rattle.command_words.specs.CommandLine.{Asks, SaysWorkers}
+use Rattle.command_words.specs.declared.words.Command.TheVariants as commands
+use Rattle.command_files.specs.Refusals.{EndsNoRun}
+use Rattle.command_files.specs.declared.answer.Answer.{Answer}
+use Rattle.command_files.specs.declared.answer.Stop.{Stop}
+use Rattle.command_files.specs.declared.answer.Stop.TheVariants as stops
+use Rattle.command_law.specs.Outcomes.{IsRunStatus}
+use Rattle.command_program.specs.Coming.{result_status, result_text}
+use Rattle.command_law.specs.Runs.{Run, Written, whole, stopped}
+
+pub false_is_not_true : false ≡ true → ⊥
+false_is_not_true is = cc
+
+-- no run ended where a text was written with another status
+pub ends_no_run : (own : Status) (text : List ℕ) (seen : Run) → is_of_run own ≡ false → Written own text seen → IsRunStatus seen.status → ⊥
+ends_no_run own text seen none (whole took same ends) is = false_is_not_true (sym none ∙ ap is_of_run (sym ends) ∙ is)
+ends_no_run own text seen none (stopped n short took rose ends) is = false_is_not_true (ap is_of_run (sym ends) ∙ is)
+
+-- nor where a call stopped that no run was of
+pub stop_no_run :
+    (stop : Stop) (seen : Run) → EndsNoRun stop → Written (result_status (Err stop)) (result_text (Err stop)) seen → IsRunStatus seen.status → ⊥
+stop_no_run (stops.Refused answer) seen none written is = ends_no_run answer.status answer.text.items seen none written is
+stop_no_run stops.NoMemory seen none written is = ends_no_run status.NoMemory no_memory_line seen refl written is
+
+-- what holds of the one that may come back holds of the one that does
+pub of_back : {S : Type 0} (P : S → Type 0) (seat : S) (back : Option S) → IfSome back (λ s. s ≡ seat) → (IsTrue (is_some back) → P seat) → IfSome back P
+of_back P seat (Some s) is holds = subst P (sym is) (holds refl)
+of_back P seat None is holds = tt
+
+-- at most eight workers are asked for
+few_said : (options : List (List ℕ)) (workers : ℕ) → SaysWorkers options workers → workers ≤ 8
+few_said [] workers said = subst (λ n. n ≤ 8) (sym said) (omega arith)
+few_said (option ∷ words) workers said = subst (λ n. n ≤ 8) (sym said.4) said.3.2
+
+pub few_workers : (words : List (List ℕ)) (script : List ℕ) (workers : ℕ) → Asks words (commands.Live script workers) → workers ≤ 8
+few_workers [] script workers asks = absurd asks
+few_workers (word ∷ body) script workers asks = few_said asks.1.0 workers asks.1.3

@@ -1,0 +1,54 @@
+-- What was answered is written, and the seat comes back where it is a report.
+use Rattle.std.proofs.Common.{Ok, Err, map, refl, string_bytes, subst}
+use Rattle.command_law.specs.Known.{on_threads}
+use Rattle.command_law.specs.Runs.{run_of}
+use Rattle.command_law.specs.Schedules.{IsReportBy, threads}
+use Rattle.command_words.specs.CommandLine.{Asks}
+use Rattle.command_words.specs.declared.words.Command.TheVariants as commands
+use Rattle.command_live.specs.Agreeing.{AgreesWithSeat, ComesBack}
+use Rattle.command_program.proofs.ReportingLaws.{comes_wider, reports_so}
+use Rattle.command_program.proofs.RunningLaws.{runs_by}
+use Rattle.command_live.proofs.Returning.{false_is_not_true, of_back, stop_no_run}
+use Rattle.command_live.proofs.on_threads.run_request.Goals as goal
+
+pub returns-in-Ok-clause-runs : goal.returns-in-Ok-clause-runs
+returns-in-Ok-clause-runs g c =
+    let words = map string_bytes c.args.words.now in
+    let name = c.script_named-name.result.now in
+    let asked = c.requires.asked in
+    let asks = subst (λ s. Asks words (commands.Live s c.args.workers)) (c.script_named-name.ensures asked.0 c.args.workers asked.1) asked.1 in
+    let seen = run_of g.H.Shelf g.K.Sink words c.args.shelf.now c.answer_script.new.shelf c.args.out.now c.write_text-status.new.out c.write_text-status.result in
+    runs_by on_threads seen (commands.Live name c.args.workers) (Ok c.in-Ok.answer) (refl, asks)
+    (comes_wider (AgreesWithSeat c.in-Ok.seat) _ name _ _ (IsReportBy threads) (λ statements r agrees. agrees.lawful) (Ok c.in-Ok.answer) c.in-Ok.ensures.answers)
+    (rw c.as_slice.ensures.value at c.write_text-status.ensures seen)
+
+pub returns-in-Ok-clause-agrees : goal.returns-in-Ok-clause-agrees
+returns-in-Ok-clause-agrees g c =
+    let words = map string_bytes c.args.words.now in
+    let name = c.script_named-name.result.now in
+    let asked = c.requires.asked in
+    let asks = subst (λ s. Asks words (commands.Live s c.args.workers)) (c.script_named-name.ensures asked.0 c.args.workers asked.1) asked.1 in
+    let seen = run_of g.H.Shelf g.K.Sink words c.args.shelf.now c.answer_script.new.shelf c.args.out.now c.write_text-status.new.out c.write_text-status.result in
+    of_back (ComesBack c.args.gates.now.words.shared.table_id seen) c.in-Ok.seat c.seat_back.result c.seat_back.ensures.seat
+    (λ some. record {
+      name = name;
+      workers = c.args.workers;
+      asks = asks;
+      here = c.in-Ok.ensures.here;
+      reported = reports_so (AgreesWithSeat c.in-Ok.seat) seen name (Ok c.in-Ok.answer) c.in-Ok.ensures.answers (rw c.as_slice.ensures.value at c.write_text-status.ensures seen) (c.seat_back.ensures.back.0 some);
+    })
+
+pub returns-in-Err-clause-runs : goal.returns-in-Err-clause-runs
+returns-in-Err-clause-runs g c =
+    let words = map string_bytes c.args.words.now in
+    let name = c.script_named-name.result.now in
+    let asked = c.requires.asked in
+    let asks = subst (λ s. Asks words (commands.Live s c.args.workers)) (c.script_named-name.ensures asked.0 c.args.workers asked.1) asked.1 in
+    let seen = run_of g.H.Shelf g.K.Sink words c.args.shelf.now c.answer_script.new.shelf c.args.out.now c.write_answer.new.out c.write_answer.result in
+    runs_by on_threads seen (commands.Live name c.args.workers) (Err c.in-Err.stop) (refl, asks) c.in-Err.ensures.answers (c.write_answer.ensures seen)
+
+pub returns-in-Err-clause-back : goal.returns-in-Err-clause-back
+returns-in-Err-clause-back g c =
+    let words = map string_bytes c.args.words.now in
+    let seen = run_of g.H.Shelf g.K.Sink words c.args.shelf.now c.answer_script.new.shelf c.args.out.now c.write_answer.new.out c.write_answer.result in
+    (λ some. absurd (false_is_not_true some), λ is. absurd (stop_no_run c.in-Err.stop seen c.in-Err.ensures.no_run (c.write_answer.ensures seen) is))

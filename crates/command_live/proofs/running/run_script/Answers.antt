@@ -1,0 +1,11 @@
+-- The report of the run is answered, and agrees with the seat.
+use Rattle.std.proofs.Common.{Ok}
+use Rattle.command_files.specs.Preparing.{statements_in}
+use Rattle.command_live.specs.Agreeing.{AgreesWithSeat}
+use Rattle.command_program.proofs.ReportingLaws.{shown}
+use Rattle.command_live.proofs.running.run_script.Goals as goal
+
+pub returns-clause-answer : goal.returns-clause-answer
+returns-clause-answer g c =
+    shown (AgreesWithSeat c.in_ok-report.seat) {E = ⊥} (statements_in c.args.asked) c.in_ok-report.report (Ok c.in_ok-answer.answer)
+    c.in_ok-report.ensures.agrees c.in_ok-answer.ensures.status c.in_ok-answer.ensures.text

@@ -1,0 +1,28 @@
+-- To be believed (docs/definitions.md).
+-- What comes back of a run on threads: the seat of the change, which agrees with the report that was written.
+use Rattle.std.specs.Prelude.{◌≡◌, ℕ, List}
+use Rattle.atomic_table.specs.Seated.{TableId}
+use Rattle.change_law.specs.Statements.{Statement}
+use Rattle.report_types.specs.declared.report.Report.{Report}
+use Rattle.report_writing.specs.Reports.{report_text}
+use Rattle.txn_gate.specs.Seats.{collected_in, record_of, table_of_change}
+use Rattle.txn_gate.specs.declared.change_seat.ChangeSeat.{ChangeSeat}
+use Rattle.live_laws.specs.Ended.{AgreesWith}
+use Rattle.command_words.specs.CommandLine.{Asks}
+use Rattle.command_words.specs.declared.words.Command.TheVariants as commands
+use Rattle.command_law.specs.Outcomes.{Reported}
+use Rattle.command_law.specs.Runs.{Run}
+
+-- the report of these statements is lawful on threads, the record of the seat bears it, and its logs are what the seat
+-- took in, slot by slot
+abbrev pub AgreesWithSeat : ChangeSeat → List Statement → Report → Type 0
+AgreesWithSeat seat statements report = AgreesWith statements report (record_of seat) (collected_in seat)
+
+-- The words ask for a run on threads, and there is one report of it: its text was written, the run ended as it says, and
+-- the seat, which is of these gates, agrees with it.
+pub record ComesBack (gates : TableId) (r : Run) (seat : ChangeSeat) : Type 0 where
+  pub name : List ℕ
+  pub workers : ℕ
+  pub asks : Asks r.words (commands.Live name workers)
+  pub here : table_of_change seat ≡ gates
+  pub reported : Reported (AgreesWithSeat seat) report_text r.files name r.status r.taken r.taken'

@@ -1,0 +1,4 @@
+pub mod Agreeing
+pub mod Coming
+pub mod Exits
+pub mod Requests

@@ -1,0 +1,13 @@
+//! All commands, those that run on one thread and the one that runs on threads.
+#![tactic(auto)]
+
+mod all_commands;
+mod on_threads;
+mod program;
+mod request;
+mod running;
+
+pub use all_commands::top;
+pub use command_program::Status;
+pub use on_threads::live;
+pub use program::run_program;
