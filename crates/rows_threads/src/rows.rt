@@ -1,0 +1,133 @@
+//! The rows.
+
+use crate::held::Held;
+use crate::meeting::Meeting;
+use crate::running::{Row, run_row};
+use command_program::Status;
+use live_board::Free;
+use std::process::Abort;
+use std::str::from_utf8;
+use std::test::Fail;
+
+const TABLE: &str = "component philosopher(int meals) { require dine; }
+component place(int first) { provide dine; require left, right; }
+component fork { provide hold; }
+component Table(int n, int meals, int skip) {
+  array ph[n]:philosopher(meals); pl[n]:place; f[n]:fork;
+  forall i:0..n-1 {
+    inst ph[i]; pl[i](i == 0);
+    bind ph[i].dine -- pl[i].dine;
+    when i != skip {
+      inst f[i];
+      bind pl[i].left -- f[i].hold;
+           pl[(i+n-1) % n].right -- f[i].hold;
+    }
+  }
+}
+";
+
+const LINES: &str = "component source(int n) { require out; }
+component map(int k) { provide in; require next; }
+component sink { provide in; }
+component Line(int n, int k) {
+  inst s:source(n); m:map(k); t:sink;
+  bind s.out -- m.in; m.next -- t.in;
+}
+component Lines(int k) {
+  inst a:source(3); b:map(k); c:sink; d:source(3); e:map(1); f:sink;
+  bind a.out -- b.in; b.next -- c.in; d.out -- e.in; e.next -- f.in;
+}
+";
+
+/// The text between two lines, the first of which begins so.
+fn between<'a>(text: &'a str, from: &str, to: &str) -> Option<&'a str> {
+    let (_, behind) = text.split_once(from)?;
+    let (found, _) = behind.split_once(to)?;
+    Some(found)
+}
+
+/// How many lines begin so.
+fn count_lines(text: &str, start: &str) -> u32 {
+    let mut count = 0_u32;
+    for line in text.lines() {
+        if line.starts_with(start) {
+            count = count.wrapping_add(1);
+        }
+    }
+    count
+}
+
+/// Whether each log of a node of this name ends with this line.
+fn all_end_so(text: &str, name: &str, end: &str) -> bool {
+    let mut of_name = false;
+    for line in text.lines() {
+        if line.starts_with("log ") {
+            of_name = line.contains(name);
+        }
+        if of_name && line.starts_with("state") && line != end {
+            return false;
+        }
+    }
+    true
+}
+
+#[test]
+fn live_dine(rt: HostRuntime) -> Result<(), Fail> {
+    let row = Row {
+        file: "table.dar",
+        description: TABLE,
+        script: "use table.dar\nstart Table(5,3,9)\nrun 10\nchange to Table(6,3,9) within 1000000\nshow\nfinish within 1000000\nend\n",
+        workers: "4",
+    };
+    let (status, sink) = run_row(rt, rt.alloc(), &row, &Free)?;
+    assert_eq!(rt; status, Status::Ok);
+    let Ok(text) = from_utf8(sink.bytes()) else {
+        return Err(Fail::new("a text"));
+    };
+    assert_eq!(rt; count_lines(text, "make "), 18);
+    let change = between(text, "change Table(6,3,9)\n", "commit\n").unwrap_or("");
+    // ph[4].dine, pl[4].left and pl[4].right
+    assert!(rt; change.starts_with("close 4\nclose 13\nclose 14\n"));
+    assert_eq!(rt; count_lines(change, "close "), 3);
+    assert!(rt; all_end_so(text, " ph[", "state 3"));
+    assert!(rt; all_end_so(text, " f[", "state 0"));
+    assert_eq!(rt; count_lines(text, "finish 1000000 "), 1);
+    assert_eq!(rt; count_lines(text, "finish 1000000 1000000"), 0);
+    Ok(())
+}
+
+#[test]
+fn two_workers(rt: HostRuntime) -> Result<(), Fail> {
+    let row = Row {
+        file: "line.dar",
+        description: LINES,
+        script: "use line.dar\nstart Line(3,10)\nfinish within 1000000\nend\n",
+        workers: "2",
+    };
+    let meeting = Meeting::new();
+    let (status, _sink) = run_row(rt, rt.alloc(), &row, &meeting)?;
+    assert_eq!(rt; status, Status::Ok);
+    assert!(rt; meeting.is_held());
+    Ok(())
+}
+
+#[test]
+fn outside_goes_on(rt: HostRuntime) -> Result<(), Fail> {
+    let row = Row {
+        file: "line.dar",
+        description: LINES,
+        script: "use line.dar\nstart Lines(1)\nrun 1\nchange to Lines(2) within 3\nfinish within 1000000\nend\n",
+        workers: "3",
+    };
+    let held = Held::new();
+    let (status, sink) = run_row(rt, rt.alloc(), &row, &held)?;
+    assert_eq!(rt; status, Status::Pending);
+    assert!(rt; held.is_held());
+    let Ok(text) = from_utf8(sink.bytes()) else {
+        return Err(Fail::new("a text"));
+    };
+    // transactions of the other line ended, while the source of this one waits for its map
+    assert_eq!(rt; count_lines(text, "run 1 0"), 0);
+    assert!(rt; text.contains("pending 3\nopen 0 1\n"));
+    Ok(())
+}
