@@ -18,10 +18,10 @@ use live_board::{LiveBoard, Turnstile, scripts_leave_all_taken_in};
 use live_hall::{Door, Hall, Named};
 use live_hands::{Hand, Inboxes};
 use report_types::Report;
-use std::alloc::Global;
+use std::alloc::{AllocError, Global};
 use std::marker::Brand;
 use std::sync::Wait;
-use std::sync::atomic::{AtomicBool, Ordering};
+use std::sync::atomic::Ordering;
 use std::thread;
 use std::thread::Threads;
 use txn_gate::{ChangeSeat, Gates};
@@ -65,6 +65,7 @@ fn carry_out_beside<J, R, T>(
     mut hands: Vec<Hand<R>>,
     start: Start,
     steps: Vec<Step>,
+    told: &Flags,
 ) -> Result<(Report, ChangeSeat), NoMemory>
 where
     J: Named + Send + Sync,
@@ -78,11 +79,6 @@ where
 {
     let door = own_way(&mut doors);
     let hand = own_way(&mut hands);
-    let flags = Flags {
-        stop: AtomicBool::new(false),
-        short: AtomicBool::new(false),
-    };
-    let told = &flags;
     thread::scope(
         thread::scope_env(),
         &rt,
@@ -132,9 +128,14 @@ where
 {
     let doors = Hall::with_doors::<J, R>(rt, alloc, workers + 1)?;
     let hands = Inboxes::with_hands(rt, alloc, workers + 1)?;
+    let flags = Flags::new();
     let (report, mut seat) = carry_out_beside(
-        rt, alloc, gates, seat, stile, doors, hands, start, steps,
+        rt, alloc, gates, seat, stile, doors, hands, start, steps, &flags,
     )?;
+    // no scan may have come behind a worker's want of memory
+    if flags.short.load(Ordering::SeqCst) {
+        return Err(AllocError);
+    }
     look_last(gates, &mut seat);
     Ok((report, seat))
 }

@@ -25,6 +25,15 @@ pub struct Flags {
     pub short: AtomicBool,
 }
 
+impl Flags {
+    pub fn new() -> Flags {
+        Flags {
+            stop: AtomicBool::new(false),
+            short: AtomicBool::new(false),
+        }
+    }
+}
+
 /// What came of a round.
 #[derive(Drop)]
 struct Round {
