@@ -1,3 +1,4 @@
+-- To be believed (docs/definitions.md).
 -- Rest on threads: all at rest at one place, and what follows behind it.
 use Rattle.std.specs.Prelude.{◌≡◌, ◌≤◌, ◌<◌, ◌⊎◌, ◌++◌, ◌∷◌, ⊤, ℕ, false, List, map, Some, None, IsTrue}
 use Rattle.std.specs.List.{AllByRecursion, list_any}

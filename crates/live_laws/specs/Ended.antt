@@ -1,3 +1,4 @@
+-- To be believed (docs/definitions.md).
 -- What a system on threads leaves behind: a report, and the seat of its change, with its record and the nodes that it
 -- took in for good.
 use Rattle.std.specs.Prelude.{◌≡◌, false, List, None, map, length, All}
