@@ -4,7 +4,7 @@ pub mod StageLaws
 pub mod FreezeLemmas
 pub mod PartLaws
 pub mod OneLemmas
-pub mod CountLemmas
+pub mod CountLaws
 pub mod MovingLemmas
 pub mod RoomLaws
 pub mod MissingLemmas

@@ -42,6 +42,9 @@ module _ (old new : Graph) (old_graph : IsGraph old) (new_graph : IsGraph new) (
     leads_to : (k : ℕ) (h : Graph) → After (done ++ front k) old h → After (front k) stage h
     leads_to k h all = stage_split old new old_graph new_graph moves done (front k) (apart k) stage stage_is h all
 
+    pub after_there : (k : ℕ) → ¬ ((g : Graph) → ¬ After (front k) stage g)
+    after_there k none = stage_there old new old_graph new_graph moves (done ++ front k) (λ h. none h.0 (leads_to k h.0 h.1))
+
     one_after : (k : ℕ) (g h : Graph) → After (front k) stage g → After (front k) stage h → g ≡ h
     one_after k g h a b = one_graph (IsNodeAfter old new moves (front k) stage) (AreLinkedAfter old new moves (front k) stage) g h a b
 

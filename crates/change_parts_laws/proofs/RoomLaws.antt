@@ -34,8 +34,8 @@ use Rattle.change_parts_laws.proofs.PartLaws.{apart_groups, front_rises, next_st
 use Rattle.change_parts_laws.proofs.StageLaws.{first_stage, stage_sound}
 use Rattle.change_parts_laws.specs.Carrying.{CanCarryOutAll, made_with}
 use Rattle.change_parts_laws.proofs.MovingLemmas.{part_may_move}
-use Rattle.change_parts_laws.proofs.CountLemmas.{Distinct, distinct_both, sum_within}
-use Rattle.change_parts_laws.proofs.CountLemmas.Distinct.{nil, cons}
+use Rattle.change_parts_laws.proofs.CountLaws.{Distinct, distinct_both, sum_within}
+use Rattle.change_parts_laws.proofs.CountLaws.Distinct.{nil, cons}
 
 -- the nodes at these places
 abbrev pub nodes_at : List Node → List ℕ → List Node

@@ -1,6 +1,6 @@
 //! What parts are for: laws that hold of each change in parts.
 
-ghost use Rattle.std.specs.Prelude.{◌≡◌, ◌⊎◌, ◌<◌, ℕ, List, Some, length, slice_get, All, Contains};
+ghost use Rattle.std.specs.Prelude.{◌≡◌, ◌⊎◌, ◌<◌, ◌++◌, ℕ, List, Some, length, slice_get, take, All, Contains};
 ghost use Rattle.config_graph.specs.Graph.{Graph, IsGraph};
 ghost use Rattle.config_graph.specs.Sound.{Sound};
 ghost use Rattle.config_graph.specs.declared.node.Made.{Made};
@@ -9,8 +9,9 @@ ghost use Rattle.change_plan.specs.Refusals.{CanPlan};
 ghost use Rattle.change_plan.specs.declared.plan_data.Move.{Move};
 ghost use Rattle.change_parts_laws.specs.Carrying.{CanCarryOutAll};
 ghost use Rattle.change_parts_laws.specs.Freezing.{IsFrozenAt};
+ghost use Rattle.change_parts_laws.specs.Groups.{AreGroups};
 ghost use Rattle.change_parts_laws.specs.Parts.{AreParts, CreatedBy, RemovedBy, StandsInOne, stage_after};
-ghost use Rattle.change_parts_laws.specs.Stages.{HasLinksOf};
+ghost use Rattle.change_parts_laws.specs.Stages.{HasLinksOf, IsAfter};
 ghost use Rattle.change_parts_laws.specs.Ties.{IsCreated, IsRemoved};
 ghost use Rattle.change_parts_laws.specs.declared.part.Part.{Part};
 
@@ -18,6 +19,14 @@ ghost use Rattle.change_parts_laws.specs.declared.part.Part.{Part};
 pub fn there_are_parts()
     ensures { (old new : Graph) (moves : List Move) (made : Made) → IsGraph old → IsGraph new
         → Sound new → CanPlan old new moves made → ¬ ((ps : List Part) → ¬ AreParts old new moves ps) }
+{}
+
+/// A law: behind a stage there is one after any number of the groups that are left. So to take the fewest of them says
+/// something of each part.
+pub fn stages_are_there()
+    ensures { (old new : Graph) (moves : List Move) (made : Made) (done left : List (List ℕ)) (stage : Graph) (k : ℕ)
+        → IsGraph old → IsGraph new → Sound new → CanPlan old new moves made → AreGroups old new moves (done ++ left)
+        → IsAfter old new moves done old stage → ¬ ((g : Graph) → ¬ IsAfter old new moves (take k left) stage g) }
 {}
 
 /// A law: there is one list of parts.
