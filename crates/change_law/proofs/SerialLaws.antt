@@ -93,7 +93,8 @@ module _ (w : World) (lines lines' : List HistoryLine) (v v' : World) where
   one_play before (finish n) a b = one_finish n a b
   one_play before show a b = one_show a b
 
-one_course : (before parts parts' : List Played) → EachAfter IsPlayed before parts → EachAfter IsPlayed before parts'
+-- statements lead through one course of lines and worlds
+pub one_course : (before parts parts' : List Played) → EachAfter IsPlayed before parts → EachAfter IsPlayed before parts'
     → map (λ (p : Played). p.statement) parts ≡ map (λ (p : Played). p.statement) parts' → parts ≡ parts'
 one_course before [] [] a b same = refl
 one_course before [] (q ∷ parts') a b same = absurd (cc same)

@@ -1,12 +1,11 @@
 -- Stages of a change for which there is room have few nodes and ports, and so are graphs.
-use Rattle.std.proofs.Common.{◌≡◌, ◌≤◌, ◌+◌, ℕ, suc, List, [], ◌∷◌, ◌++◌, length, refl, ap, sym, subst, inl, inr, arith, Contains}
+use Rattle.std.proofs.Common.{◌≡◌, ◌≤◌, ◌+◌, ℕ, suc, List, [], ◌∷◌, ◌++◌, length, refl, subst, inl, inr, arith, Contains}
 use Rattle.std.specs.List.{sum_by}
 use Rattle.std.specs.Cmp.Lexicographic.{slice_cmp}
 use Rattle.std.specs.Ordering.{nat_cmp}
 use Rattle.std.specs.declared.cmp.Ordering.TheVariants.{Less}
-use Rattle.std.proofs.lemmas.List.Elements.{Contains-append_cases, Contains-append_left, Contains-append_right}
+use Rattle.std.proofs.lemmas.List.Elements.{Contains-append_left, Contains-append_right}
 use Rattle.std.proofs.lemmas.List.Sums.{sum_by-append, sum_by-cons}
-use Rattle.base.proofs.ContainsLaws.{Contains-cons_cases, Contains-here, Contains-nil, Contains-there}
 use Rattle.config_graph.specs.Graph.{Graph, IsGraph, PathsRise, ports, requires_of}
 use Rattle.config_graph.specs.Sound.{Sound}
 use Rattle.config_graph.specs.declared.node.Made.{Made}
@@ -17,6 +16,8 @@ use Rattle.config_graph.proofs.PathLaws.{irreflexive}
 use Rattle.change_plan.specs.Refusals.{CanPlan}
 use Rattle.change_plan.specs.declared.plan_data.Move.{Move}
 use Rattle.change_parts_laws.specs.Stages.{IsAfter}
+use Rattle.change_parts_laws.proofs.CountLaws.{Distinct, sum_within}
+use Rattle.change_parts_laws.proofs.CountLaws.Distinct.{nil, cons}
 use Rattle.change_parts_laws.proofs.RoomLaws.{gone_length, gone_sum, is_gone, ns}
 
 -- ---- nodes in the order of their paths stand once, so there are no more of them than in a list that has them all
@@ -28,40 +29,9 @@ not_later : (n : Node) (nodes : List Node) → PathsRise (n ∷ nodes) → ¬ Co
 not_later n nodes rise (k, below, is) =
     irreflexive n.path (subst (λ (m : Node). slice_cmp nat_cmp n.path m.path ≡ Less) is (rise 0 (suc k) n (omega arith) (omega (arith, below))))
 
--- a list parted at one of its elements
-record Parted {A : Type 0} (x : A) (ys : List A) : Type 0 where
-  front : List A
-  back : List A
-  whole : ys ≡ front ++ x ∷ back
-
-parted : {A : Type 0} (x : A) (ys : List A) → Contains ys x → Parted x ys
-parted x [] held = absurd (Contains-nil x held)
-parted x (y ∷ ys) held =
-    elim (Contains-cons_cases y ys x held) [
-      | inl same ↦ record { front = []; back = ys; whole = ap (λ z. z ∷ ys) (sym same) }
-      | inr later ↦ let w = parted x ys later in record { front = y ∷ w.front; back = w.back; whole = ap (λ zs. y ∷ zs) w.whole }
-    ]
-
-summed_with : {A : Type 0} (f : A → ℕ) (front back : List A) (x : A) → sum_by f (front ++ x ∷ back) ≡ f x + sum_by f (front ++ back)
-summed_with f [] back x = sum_by-cons f x back
-summed_with f (y ∷ front) back x = omega (arith, sum_by-cons f y (front ++ x ∷ back), summed_with f front back x, sum_by-cons f y (front ++ back))
-
-sum_within : (f : Node → ℕ) (xs ys : List Node) → PathsRise xs → ((n : Node) → Contains xs n → Contains ys n) → sum_by f xs ≤ sum_by f ys
-sum_within f [] ys rise inside = omega arith
-sum_within f (x ∷ xs) ys rise inside =
-    let w = parted x ys (inside x (Contains-here x xs)) in
-    let below = sum_within f xs (w.front ++ w.back) (rest_rises x xs rise) (λ z held. left w z held) in
-    omega (arith, sum_by-cons f x xs, below, summed_with f w.front w.back x, ap (sum_by f) w.whole)
-  where
-    left : (w : Parted x ys) (z : Node) → Contains xs z → Contains (w.front ++ w.back) z
-    left w z held =
-        elim (Contains-append_cases w.front (x ∷ w.back) z (subst (λ l. Contains l z) w.whole (inside z (Contains-there x z xs held)))) [
-          | inl before ↦ Contains-append_left w.front w.back z before
-          | inr then ↦ elim (Contains-cons_cases x w.back z then) [
-            | inl same ↦ absurd (not_later x xs rise (subst (Contains xs) same held))
-            | inr behind ↦ Contains-append_right w.front w.back z behind
-          ]
-        ]
+distinct : (nodes : List Node) → PathsRise nodes → Distinct nodes
+distinct [] rise = nil
+distinct (n ∷ nodes) rise = cons (not_later n nodes rise) (distinct nodes (rest_rises n nodes rise))
 
 one_each : (nodes : List Node) → sum_by (λ (n : Node). 1) nodes ≡ length nodes
 one_each [] = refl
@@ -89,7 +59,7 @@ module _ (old new : Graph) (new_graph : IsGraph new) (moves : List Move) (made :
       let one : Node → ℕ = λ n. 1 in
       omega (
         arith,
-        sum_within one stage.nodes (old.nodes ++ created) stage_is.paths_rise in_both,
+        sum_within one stage.nodes (old.nodes ++ created) (distinct stage.nodes stage_is.paths_rise) in_both,
         sum_by-append one old.nodes created,
         one_each stage.nodes,
         one_each old.nodes,
@@ -104,7 +74,7 @@ module _ (old new : Graph) (new_graph : IsGraph new) (moves : List Move) (made :
   unfolding created
   few_ports = omega (
     arith,
-    sum_within requires_of stage.nodes (old.nodes ++ created) stage_is.paths_rise in_both,
+    sum_within requires_of stage.nodes (old.nodes ++ created) (distinct stage.nodes stage_is.paths_rise) in_both,
     sum_by-append requires_of old.nodes created,
     length-ports stage.nodes,
     length-ports old.nodes,

@@ -12,7 +12,6 @@ ghost use Rattle.change_plan.specs.declared.plan_data.Move.{Move};
 ghost use Rattle.change_roll_laws.specs.Rolls.{IsRoll, roll_statements};
 ghost use Rattle.change_round_laws.specs.SoundStatements.{made_of_graph, nothing_made};
 
-use change_law::a_first_number_is_one;
 use change_parts_laws::{
     no_link_is_lost, parts_may_be_carried_out, stages_are_sound_and_lead_to_the_new_graph,
 };
@@ -21,9 +20,7 @@ use change_round_laws::a_sound_script_has_a_report;
 /// A law: what the rounds of these statements make is determined. They come to an end at one part, or at none.
 pub fn there_is_one_roll()
     ensures { (statements : List Statement) (a b : Option ℕ) → IsRoll statements a → IsRoll statements b → a ≡ b }
-{
-    a_first_number_is_one();
-}
+{}
 
 /// A law: where a system may be started, and there is a plan and room for the change, its parts behind the start and a
 /// run are a roll.

@@ -2,4 +2,4 @@ use Rattle.change_roll_laws.proofs.CourseLemmas.{one_roll}
 use Rattle.change_roll_laws.proofs.laws.there_is_one_roll.Goals as goal
 
 pub returns : goal.returns
-returns c = one_roll c.a_first_number_is_one.ensures.one
+returns c = one_roll
