@@ -1,5 +1,5 @@
 -- A layout tells which ports are live, and a started system has its graph's.
-use Rattle.std.proofs.Common.{◌≡◌, ℕ, ◌+◌, ◌<◌, ◌≤◌, suc, Bool, true, false, cond, List, [], ◌∷◌, length, map, get_or, Option, Some, None, refl, sym, ap, ◌∙◌, subst, inl, inr, ⊎_elim, arith}
+use Rattle.std.proofs.Common.{◌≡◌, ℕ, ◌+◌, ◌<◌, ◌≤◌, suc, Bool, true, false, cond, List, [], ◌∷◌, length, map, get_or, Option, Some, None, refl, sym, ap, ◌∙◌, subst, inl, inr, arith}
 use Rattle.std.specs.Prelude.{◌&&◌, filter, is_some, option_and_then, option_map, slice_get}
 use Rattle.std.specs.List.{enumerate_from, range_with_len}
 use Rattle.std.specs.Option.{option_map_or}
@@ -7,7 +7,7 @@ use Rattle.std.specs.Cmp.Lexicographic.{slice_cmp}
 use Rattle.std.specs.Ordering.{nat_cmp}
 use Rattle.std.specs.declared.cmp.Ordering.TheVariants.{Less}
 use Rattle.std.proofs.Math.Path.{fun_ext}
-use Rattle.std.proofs.lemmas.Bool.{and_parts, both_ways, cases_lt, le-ltb, lt-ltb, or_cases}
+use Rattle.std.proofs.lemmas.Bool.{cases_lt, le-ltb, lt-ltb}
 use Rattle.std.proofs.lemmas.List.{length-map}
 use Rattle.std.proofs.lemmas.Option.{get_or_from_slice_get, slice_get-map, slice_get_past, slice_get_within}
 use Rattle.base.proofs.MapLaws.{map-map}
@@ -18,11 +18,10 @@ use Rattle.config_graph.specs.declared.node.Port.{Port}
 use Rattle.config_graph.proofs.PathLaws.{irreflexive}
 use Rattle.change_plan.proofs.NodeLaws.{index_found, index_missing, path_missing}
 use Rattle.quiesce_commit_laws.specs.Steps.{live_ports}
-use Rattle.change_plan_laws.specs.Commit.{is_at, is_one_of, node_path, stands_in}
 use Rattle.quiesce_core.specs.Live.{IsGraphOf}
 use Rattle.quiesce_core.specs.Rules.{is_live_port}
 use Rattle.quiesce_core.specs.Start.{gate_of, slot_of, started}
-use Rattle.quiesce_core.specs.State.{Configuration, fresh_gate, is_live, owner, slot}
+use Rattle.quiesce_core.specs.State.{Configuration, fresh_gate, is_live, owner}
 use Rattle.quiesce_core.specs.declared.state.Gate.{Gate}
 use Rattle.quiesce_core.specs.declared.state.Slot.{Slot}
 use Rattle.change_lists.specs.Layouts.{IsLayoutOf, is_live_at, live_at, place_at, place_in, port_of}
@@ -98,18 +97,6 @@ module _ (c : Configuration) (g : Graph) (is : IsGraphOf c g) where
       ap (λ xs. live_at xs l.ports.items) h.places_are ∙ ap (live_at (map (place_in g) c.slots)) h.ports_are
       ∙ ap (λ n. filter (is_live_at (map (place_in g) c.slots) (map port_of c.gates)) (range_with_len 0 n)) (length-map c.gates port_of)
       ∙ ap (λ test. filter test (range_with_len 0 (length c.gates))) (fun_ext ports_live)
-
--- A node is live that is one of those at some places of a graph.
-stands_live : (g : Graph) (i : ℕ) (c : Configuration) (n : ℕ) → stands_in g i c n ≡ true → is_live c n ≡ true
-stands_live g i c n h = by (slot c n) h
-  where
-    by : (o : Option Slot) → option_map_or (is_at (node_path g i)) o false ≡ true → option_map_or (λ (m : Slot). m.live) o false ≡ true
-    by None h = h
-    by (Some m) h = (and_parts m.live _ h).0
-
-pub one_live : (g : Graph) (places : List ℕ) (c : Configuration) (n : ℕ) → is_one_of g places c n ≡ true → is_live c n ≡ true
-one_live g [] c n h = absurd (both_ways false refl h)
-one_live g (i ∷ places) c n h = ⊎_elim (stands_live g i c n) (one_live g places c n) (or_cases (stands_in g i c n) (is_one_of g places c n) h)
 
 -- The layout of a started system.
 places_from : (g : Graph) (k : ℕ) (ms : List Node) → ((i : ℕ) (m : Node) → slice_get ms i ≡ Some m → index_of g.nodes m.path ≡ Some (k + i))

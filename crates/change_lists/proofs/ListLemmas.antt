@@ -35,8 +35,9 @@ use Rattle.change_lists.specs.declared.layout.Layout.{Layout}
 use Rattle.change_lists.specs.Layouts.{IsLayoutOf, is_among, is_place, place_at, place_in, port_of}
 use Rattle.change_lists.specs.PlanIn.{IsPlanIn}
 use Rattle.change_lists.specs.Lists.{closed_by, commit_by, is_link_at, is_port_at, is_reopened_at, is_unlinked_at, link_at, link_to, links_by, makes_by, owner_place, place_after, places_after, ports_after, ports_from, ports_in, removes_by, reopens_by, slot_of, source_by, unlinks_by}
-use Rattle.change_lists.proofs.LayoutLaws.{has_place, one_live, place_there}
+use Rattle.change_lists.proofs.LayoutLaws.{has_place, place_there}
 use Rattle.change_lists.proofs.StandLemmas.{one_by_place, path_there, slot_is, stands_by_place}
+use Rattle.change_plan_laws.proofs.StandingLaws.{one_live}
 
 -- tests that agree below a bound pass the same numbers below it
 pub same_below : (f g : ℕ → Bool) (n : ℕ) → ((p : ℕ) → p < n → f p ≡ g p) → filter f (range_with_len 0 n) ≡ filter g (range_with_len 0 n)

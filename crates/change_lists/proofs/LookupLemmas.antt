@@ -11,6 +11,7 @@ use Rattle.std.proofs.lemmas.Bool.Decides.{nat_tests}
 use Rattle.std.proofs.lemmas.List.{length-take-le, take_more}
 use Rattle.std.proofs.Math.Seq.{drop-cons}
 use Rattle.std.proofs.lemmas.List.Folds.{find-append, list_any_more}
+use Rattle.base.proofs.NumberLaws.{eqb_flips}
 
 abbrev pub are_same_keys : ℕ × ℕ → ℕ × ℕ → Bool
 are_same_keys a b = eqb a.0 b.0 && eqb a.1 b.1
@@ -82,9 +83,6 @@ source_more moves k j d low = ap (option_map (λ (s : Shift). s.old)) (find_more
     by None false = refl
     by (Some s) b = refl
 
-flip : (a b : ℕ) → eqb a b ≡ eqb b a
-flip a b = grind (arith, nat_tests)
-
 -- one port more
 pub ports_more : (ports : List Port) (k i r : ℕ) (d : Port) (before after : Bool) → k < length ports
     → before ≡ list_any (λ (q : Port). eqb i q.node && eqb r q.require) (take k ports)
@@ -93,7 +91,7 @@ pub ports_more : (ports : List Port) (k i r : ℕ) (d : Port) (before after : Bo
 ports_more ports k i r d before after low so_far grown =
     let x = get_or ports k d in
     let t : Port → Bool = λ (q : Port). eqb i q.node && eqb r q.require in
-    grown ∙ ap (λ b. cond b true before) ((λ j. flip x.node i j && flip x.require r j)) ∙ or_first (t x) before ∙ ap (λ b. b || t x) so_far ∙ sym (list_any_more t ports k d low)
+    grown ∙ ap (λ b. cond b true before) ((λ j. eqb_flips x.node i j && eqb_flips x.require r j)) ∙ or_first (t x) before ∙ ap (λ b. b || t x) so_far ∙ sym (list_any_more t ports k d low)
   where
     or_first : (b c : Bool) → cond b true c ≡ (c || b)
     or_first true true = refl
@@ -113,7 +111,7 @@ links_before links k i r d before after low so_far grown =
     let place : length links - (k + 1) ≡ n = omega arith in
     let next : suc n ≡ length links - k = omega arith in
     let within : n < length links = omega arith in
-    grown ∙ ap (λ b. cond b (Some x) before) ((λ j. flip x.from i j && flip x.require r j)) ∙ ap (λ o. cond (t x) (Some x) o) (so_far ∙ ap (λ m. find t (drop m links)) (sym next))
+    grown ∙ ap (λ b. cond b (Some x) before) ((λ j. eqb_flips x.from i j && eqb_flips x.require r j)) ∙ ap (λ o. cond (t x) (Some x) o) (so_far ∙ ap (λ m. find t (drop m links)) (sym next))
     ∙ ap (find t) (sym (drop-cons links n d within)) ∙ ap (λ m. find t (drop m links)) (sym place)
 
 -- no node, no port and no link
