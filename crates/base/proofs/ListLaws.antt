@@ -1,6 +1,6 @@
 -- Lists by the tests that their elements pass: all of them, some, and how many.
-use Rattle.std.proofs.Common.{◌≡◌, ◌∙◌, ℕ, ◌+◌, ◌<◌, ◌≤◌, Bool, true, false, cond, ◌||◌, slice_get, Some, List, [], ◌∷◌, refl, sym, ap, subst, zero-add, ⊎_elim, arith, Contains}
-use Rattle.std.specs.List.{count_by, list_all, list_any}
+use Rattle.std.proofs.Common.{◌≡◌, ◌∙◌, ◌++◌, ℕ, ◌+◌, ◌<◌, ◌≤◌, Bool, true, false, cond, ◌||◌, slice_get, Some, List, [], ◌∷◌, refl, sym, ap, subst, zero-add, ⊎_elim, arith, Contains}
+use Rattle.std.specs.List.{count_by, list_all, list_any, AllByRecursion}
 use Rattle.std.proofs.lemmas.Bool.{and_parts, both_ways, eqb-true, or_cases, or_parts}
 use Rattle.std.proofs.lemmas.Option.{same_Some}
 use Rattle.std.specs.Prelude.{◌==◌}
@@ -53,3 +53,11 @@ one_left cases place at_place clear c left d refuted =
     (λ (same : (place d == place c) ≡ true). same_Some d c (sym (at_place d) ∙ ap (slice_get cases) (eqb-true (place d) (place c) same) ∙ at_place c))
     (λ (holds : clear d ≡ true). absurd (refuted holds))
     (or_cases (place d == place c) (clear d) (all_have (λ e. place e == place c || clear e) cases left d (Contains-at cases (place d) d (at_place d))))
+
+-- what each of two lists has, each has of both together
+pub AllByRecursion-append : {A : Type 0} (P : A → Type 0) (xs ys : List A) → AllByRecursion P xs → AllByRecursion P ys → AllByRecursion P (xs ++ ys)
+AllByRecursion-append P [] ys these those = those
+AllByRecursion-append P (x ∷ xs) ys these those = (these.0, AllByRecursion-append P xs ys these.1 those)
+
+pub AllByRecursion-push : {A : Type 0} (P : A → Type 0) (xs : List A) (x : A) → AllByRecursion P xs → P x → AllByRecursion P (xs ++ x ∷ [])
+AllByRecursion-push P xs x these one = AllByRecursion-append P xs (x ∷ []) these (one, tt)

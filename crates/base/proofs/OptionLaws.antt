@@ -54,3 +54,12 @@ None-from_is_none (Some x) h = absurd (false≢true h)
 pub Some-from_is_some : {A : Type 0} (o : Option A) → is_some o ≡ true → (x : A) × (o ≡ Some x)
 Some-from_is_some None h = absurd (false≢true h)
 Some-from_is_some (Some x) h = (x, refl)
+
+pub None-from_map : {A B : Type 0} (f : A → B) (o : Option A) → option_map f o ≡ None → o ≡ None
+None-from_map f None h = refl
+None-from_map f (Some x) h = absurd (none-some (f x) (sym h))
+
+-- a value that is made of another is there where that is
+pub made_of_one : {A B : Type 0} (f : A → Option B) (o : Option A) (y : B) → option_and_then f o ≡ Some y → (x : A) × (o ≡ Some x) × (f x ≡ Some y)
+made_of_one f None y h = absurd (none-some y h)
+made_of_one f (Some x) y h = (x, refl, h)

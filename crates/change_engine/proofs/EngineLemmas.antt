@@ -1,6 +1,5 @@
 -- An engine between changes.
 use Rattle.std.proofs.Common.{◌≡◌, ◌≤◌, ◌-◌, ◌^◌, ℕ, true, List, [], ◌∷◌, ◌++◌, length, map, refl, sym, ap, ◌∙◌, subst}
-use Rattle.std.specs.Prelude.{IfOk, Result, Ok, Err}
 use Rattle.std.specs.List.{AllByRecursion, range_with_len}
 use Rattle.base.specs.Each.{Each}
 use Rattle.change_law.specs.Endings.{status_of}
@@ -99,10 +98,6 @@ quiet_silently es l quiet = ap events_in (entries_both (silent_items es) (said l
 
 pub looks_and_scans_quiet : (looks : List Found) (scans : List ScanSeen) → events_in (map look_entry looks ++ all_entries scans) ≡ []
 looks_and_scans_quiet looks scans = filter_map-append event_in (map look_entry looks) (all_entries scans) ∙ ap (λ es. es ++ events_in (all_entries scans)) (looks_quiet looks) ∙ all_quiet scans
-
-pub in_ok : {A E : Type 0} (P Q : A → Type 0) → ((x : A) → P x → Q x) → (r : Result A E) → IfOk r P → IfOk r Q
-in_ok P Q f (Ok x) h = f x h
-in_ok P Q f (Err e) h = tt
 
 module _ {B : Type 0} (W : BoardWords B) where
   pub has_finished : (e f : Engine B) (n rounds : ℕ) → f.graph ≡ e.graph → f.layout ≡ e.layout → f.change ≡ e.change

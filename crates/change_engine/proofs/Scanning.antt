@@ -23,10 +23,7 @@ use Rattle.change_engine.proofs.Growing.{adds_both}
 use Rattle.change_engine.proofs.Passing.{config_quiet, scan_quiet}
 use Rattle.change_engine.specs.Growing.{telling}
 use Rattle.change_engine.proofs.ItemLaws.{entries_both, lines_both, silent_entries, silent_lines}
-
-pub all_push : {A : Type 0} (P : A → Type 0) (xs : List A) (x : A) → AllByRecursion P xs → P x → AllByRecursion P (xs ++ x ∷ [])
-all_push P [] x h p = (p, tt)
-all_push P (y ∷ xs) x h p = (h.0, all_push P xs x h.1 p)
+use Rattle.base.proofs.ListLaws.{AllByRecursion-push}
 
 pub entries_pushed : (scans : List ScanSeen) (w : ScanSeen) → all_entries (scans ++ w ∷ []) ≡ all_entries scans ++ seen_entries w
 entries_pushed scans w = flat_map-append seen_entries scans (w ∷ []) ∙ ap (λ es. all_entries scans ++ es) (append-nil (seen_entries w))
@@ -56,7 +53,7 @@ module _ {B : Type 0} (W : BoardWords B) where
       let w = seen_by b c s x in
       let q = r ++ all_entries scans in
       let there : IsScanIn W.alone (config_of q) w = record { all_sighted = λ is. x.all_sighted is q (adds r h); at_ports = x.at_ports q (adds r h); done = λ is. x.done is q (adds r h); at_rest = x.at_rest q (adds r h); ended = x.ended } in
-      all_push (IsScanIn W.alone (config_of r)) scans w (are r h) (subst (λ c. IsScanIn W.alone c w) (config_quiet r (all_entries scans) (all_quiet scans)) there)
+      AllByRecursion-push (IsScanIn W.alone (config_of r)) scans w (are r h) (subst (λ c. IsScanIn W.alone c w) (config_quiet r (all_entries scans) (all_quiet scans)) there)
 
   -- and where one saw all at rest on a board that isn't alone, it saw it twice
   pub scans_twice : (a b c : B) (scans : List ScanSeen) (s : Scan) (x : AddsScan W.stands_for W.alone b c true s) → Adds W.stands_for a b (all_entries scans)

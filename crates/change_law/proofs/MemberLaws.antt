@@ -1,6 +1,6 @@
 -- Lists of members: their places and parts, their events and their lines, and what their configuration comes from.
 use Rattle.std.proofs.Common.{◌≡◌, ◌∙◌, Bool, true, false, ◌||◌, cond, List, [], ◌∷◌, ◌++◌, append_assoc, Option, Some, None, map, refl, ap, sym, subst, inl, inr}
-use Rattle.std.specs.Prelude.{◌⊎◌, filter, filter_map, fold, not, All}
+use Rattle.std.specs.Prelude.{◌⊎◌, filter, filter_map, fold, not, All, ℕ}
 use Rattle.std.specs.List.{cons_option, list_any}
 use Rattle.std.proofs.lemmas.Bool.{both_ways, or_parts}
 use Rattle.std.proofs.lemmas.List.{append-nil}
@@ -14,9 +14,11 @@ use Rattle.quiesce_core.specs.State.{empty}
 use Rattle.quiesce_core.proofs.RunLaws.{changes_make_the_configuration}
 use Rattle.report_types.specs.declared.report.HistoryLine.{HistoryLine}
 use Rattle.report_types.specs.declared.report.HistoryLine.TheVariants as to
-use Rattle.change_law.specs.Lawful.{IsOfItsKind}
+use Rattle.change_law.specs.Lawful.{IsOfItsKind, EndsAs}
 use Rattle.change_law.specs.Members.{Member, by_node, of_history, event_in, event_of, events, is_root, line_in, lines, state_at, without_roots}
 use Rattle.change_law.specs.Scene.{config_after}
+use Rattle.component_trait.specs.States.{NodeState}
+use Rattle.report_types.specs.declared.report.Last.{Last}
 
 -- what is shown at each place holds at each place
 pub each_if : {A : Type 0} (P : List A → A → Type 0) (before xs : List A) → ((ys zs : List A) (x : A) → xs ≡ ys ++ x ∷ zs → P (before ++ ys) x) → EachAfter P before xs
@@ -173,3 +175,9 @@ at_line (of_history x ∷ m) (y ∷ a) l b h =
       parts = ap (λ k. of_history x ∷ k) w.parts;
       lines_before = ap (λ z. z ∷ lines w.before) (heads_are x y (lines m) (a ++ l ∷ b) h) ∙ ap (λ zs. y ∷ zs) w.lines_before;
     }
+
+-- where a node ends there is a fold of it
+pub ended_there : (o : Option NodeState) (j : Option ℕ) (l : Last) → EndsAs o j l → (s : NodeState) × (o ≡ Some s)
+ended_there None None l h = absurd h
+ended_there None (Some j) l h = absurd h
+ended_there (Some s) j l h = (s, refl)

@@ -1,11 +1,10 @@
 -- The ports that a change closes: they are live, they rise, and closing them leaves which they are. And configurations
 -- behind lines.
-use Rattle.std.proofs.Common.{◌≡◌, ◌∙◌, ℕ, zero, suc, ◌+◌, ◌<◌, ◌≤◌, Bool, true, false, cond, List, [], ◌∷◌, ◌++◌, length, map, Option, Some, None, refl, sym, ap, subst, ⊎_elim, arith}
+use Rattle.std.proofs.Common.{◌≡◌, ◌∙◌, ℕ, zero, suc, ◌+◌, ◌<◌, ◌≤◌, Bool, true, false, cond, List, [], ◌∷◌, ◌++◌, length, map, refl, sym, ap, subst, arith}
 use Rattle.std.specs.Prelude.{All, filter, filter_map, nat_lt}
 use Rattle.std.specs.List.{AllByRecursion, range_with_len}
 use Rattle.std.specs.List.Sorted.{IsStrictlyIncreasing}
-use Rattle.std.specs.Option.{option_map_or}
-use Rattle.std.proofs.lemmas.Bool.{and_from, and_parts, both_ways, lt-ltb, or_cases}
+use Rattle.std.proofs.lemmas.Bool.{and_from, lt-ltb}
 use Rattle.std.proofs.lemmas.List.Elements.{All-from_recursion, All-head, All-tail, filter_agree, filter_map-append}
 use Rattle.std.proofs.lemmas.List.Kept.{IsStrictlyIncreasing-filter}
 use Rattle.std.proofs.lemmas.List.Sums.{fold-append}
@@ -13,10 +12,10 @@ use Rattle.quiesce_commit_laws.specs.Steps.{change_all}
 use Rattle.quiesce_commit_laws.proofs.TurningLaws.{SameLinks, live_port, same_turned}
 use Rattle.config_graph.specs.Graph.{Graph}
 use Rattle.change_plan.specs.declared.plan_data.Plan.{Plan}
-use Rattle.change_plan_laws.specs.Commit.{is_at, is_one_of, node_path, ports_to_close, stands_in}
+use Rattle.change_plan_laws.specs.Commit.{is_one_of, ports_to_close}
 use Rattle.quiesce_core.specs.Effect.{change_next, with_closed}
 use Rattle.quiesce_core.specs.Rules.{is_live_port}
-use Rattle.quiesce_core.specs.State.{Configuration, empty, is_live, owner, slot}
+use Rattle.quiesce_core.specs.State.{Configuration, empty, is_live, owner}
 use Rattle.quiesce_core.specs.declared.event.Event.TheVariants as event
 use Rattle.quiesce_core.specs.declared.state.Slot.{Slot}
 use Rattle.report_types.specs.declared.report.HistoryLine.{HistoryLine}
@@ -24,6 +23,7 @@ use Rattle.report_types.specs.declared.report.HistoryLine.TheVariants as to
 use Rattle.change_law.specs.Members.{event_of}
 use Rattle.change_law.specs.Scene.{Seen, config_after, drained_line}
 use Rattle.change_law.proofs.TestLaws.{range_rises}
+use Rattle.change_plan_laws.proofs.StandingLaws.{one_live}
 
 -- ---- ports that are closed
 
@@ -41,17 +41,6 @@ closed_links c d (p ∷ ps) h same =
     (same_turned c d p true (subst (λ n. p < n) (sym same.long) (live_port c p here).made) same)
 
 -- ---- ports of frozen nodes are live
-
-stands_live : (g : Graph) (i : ℕ) (c : Configuration) (n : ℕ) → stands_in g i c n ≡ true → is_live c n ≡ true
-stands_live g i c n h = by (slot c n) h
-  where
-    by : (o : Option Slot) → option_map_or (is_at (node_path g i)) o false ≡ true → option_map_or (λ (m : Slot). m.live) o false ≡ true
-    by None h = h
-    by (Some m) h = (and_parts m.live _ h).0
-
-pub one_live : (g : Graph) (places : List ℕ) (c : Configuration) (n : ℕ) → is_one_of g places c n ≡ true → is_live c n ≡ true
-one_live g [] c n h = absurd (both_ways false refl h)
-one_live g (i ∷ places) c n h = ⊎_elim (stands_live g i c n) (one_live g places c n) (or_cases (stands_in g i c n) (is_one_of g places c n) h)
 
 pub closed_live : (g : Graph) (plan : Plan) (c : Configuration) → AreLive c (ports_to_close g plan c)
 closed_live g plan c = All-from_recursion (λ p. is_live_port c p ≡ true) (ports_to_close g plan c) (from 0 (length c.gates) (omega arith))

@@ -24,13 +24,12 @@ use Rattle.quiesce_core.specs.declared.state.Gate.{Gate}
 use Rattle.quiesce_core.proofs.AlterLaws.{reconfigured}
 use Rattle.quiesce_core.proofs.InductionLaws.{IsNext, always, place}
 use Rattle.quiesce_core.proofs.RunLaws.{fronts_are_runs}
-use Rattle.quiesce_core.proofs.SoundnessLaws.{put_here}
 use Rattle.quiesce_core.proofs.StabilityLaws.{busy_is_live}
 use Rattle.quiesce_core.proofs.TableLaws.{gate_place}
 use Rattle.quiesce_laws.specs.Events.{reopens}
 use Rattle.quiesce_laws.specs.Roots.{has_root}
 use Rattle.quiesce_laws.proofs.ExchangeLaws.{PortStep, begins, calls, ends, port_step, stays}
-use Rattle.quiesce_laws.proofs.RootLaws.{closed_stays, root_since}
+use Rattle.quiesce_laws.proofs.RootLaws.{closed_stays, root_since, closed_by}
 use Rattle.report_types.specs.declared.report.HistoryLine.{HistoryLine}
 use Rattle.report_types.specs.declared.report.HistoryLine.TheVariants as to
 use Rattle.change_law.specs.Lawful.{IsOfItsKind, StoodOpen}
@@ -202,12 +201,6 @@ close_member (by_node e) p kind is =
 close_member (of_history l) p kind is = ap of_history (close_line l p is)
 
 -- ---- both ways
-
-closed_by : (before after : List Event) (p : ℕ) → IsRun (before ++ event.Close p ∷ after) → (gate (state_after (before ++ event.Close p ∷ [])).config p).closed ≡ true
-closed_by before after p run =
-    let here = place before after (event.Close p) run in
-    let s = state_after before in
-    ap (λ (t : State). (gate t.config p).closed) here.next ∙ ap (λ (y : Gate). y.closed) (put_here s.config p (record (gate s.config p) { closed = true }) (gate_place s p here.legal.live) refl refl)
 
 module _ (m : List Member) (before : List HistoryLine) (p k : ℕ) (run : IsRun (events m)) where
   pub stood_since : All IsOfItsKind m → StoodOpen m before p k → StoodSinceClose m before p k

@@ -18,8 +18,9 @@ use Rattle.change_parts.specs.declared.groups.Grouping.{Grouping}
 use Rattle.change_parts.specs.declared.members.Members.{Members}
 use Rattle.change_parts.proofs.ChangedLemmas.{changed_listed, listed_changed}
 use Rattle.change_parts.proofs.GroupLemmas.{Leads, as_many, first_groups, firsts, firsts_groups}
-use Rattle.change_parts.proofs.PairLemmas.{Selects-alike, selects_fewer}
+use Rattle.change_parts.proofs.PairLemmas.{Selects-alike}
 use Rattle.change_parts.proofs.TyingLemmas.{listed_tied, tie_below, tied_listed}
+use Rattle.change_plan.proofs.SelectsLaws.{Selects-shorter}
 
 -- ties and changed numbers are numbers of nodes
 module _ (old new : Graph) (m : Members) (index : IsIndex old new m) (moves : List Move) (p : Plan) (plan : IsPlanOf old new moves p) where
@@ -56,7 +57,7 @@ module _ (old new : Graph) (g : Grouping) (index : IsIndex old new g.members) (f
     index = index;
     few = few;
     long = long;
-    few_groups = omega (arith, few, long, length-range_with_len 0 (length g.least.items), selects_fewer (LeadsIn g.least.items (changed_numbers p g.members)) (range_with_len 0 (length g.least.items)) g.firsts.items chosen);
+    few_groups = omega (arith, few, long, length-range_with_len 0 (length g.least.items), Selects-shorter (LeadsIn g.least.items (changed_numbers p g.members)) (range_with_len 0 (length g.least.items)) g.firsts.items chosen);
     groups = firsts old new index.old_graph index.new_graph moves all index.members ties g.least.items classes long
         (listed_tied old new index.old_graph index.new_graph moves p plan g.members index) (tied_listed old new index.old_graph index.new_graph moves p plan g.members index) g.firsts.items selected;
     are_groups = firsts_groups old new index.old_graph index.new_graph moves all index.members ties g.least.items classes long

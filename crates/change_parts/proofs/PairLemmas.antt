@@ -1,5 +1,5 @@
 -- Lemmas on relations between each element of a list and each later one.
-use Rattle.std.proofs.Common.{◌≤◌, Result, Ok, Err, IfOk, Bool, true, false, cond, eqb, filter, take, drop, ◌≡◌, ℕ, List, [], ◌∷◌, ◌++◌, Option, Some, None, length, get_or, refl, ap, sym, subst, inl, inr, arith, Contains, slice_get, filter_map, ◌<◌, ◌∙◌}
+use Rattle.std.proofs.Common.{Bool, true, false, cond, eqb, filter, take, drop, ◌≡◌, ℕ, List, [], ◌∷◌, ◌++◌, Option, Some, None, length, get_or, refl, ap, sym, subst, inl, inr, arith, Contains, slice_get, filter_map, ◌<◌, ◌∙◌}
 use Rattle.std.specs.List.{cons_option, list_any, range_with_len}
 use Rattle.std.specs.Prelude.{AllPairs}
 use Rattle.std.proofs.lemmas.List.Elements.{All-append, Contains-get_or}
@@ -58,12 +58,6 @@ module _ {A B : Type 0} (R : A → A → Type 0) (S : B → B → Type 0) (f : A
       by (Some a) e rest =
           AllPairs-cons S a (filter_map f xs) (All-filter_map f (S a) xs (λ k y b at e'. imply x y a b (before_all R x xs rise y (Contains-at xs k y at)) e e')) rest
 
--- a selection by a property that holds of the same elements of the list
-pub selects_fewer : {A : Type 0} (P : A → Type 0) (xs ys : List A) → Selects P xs ys → length ys ≤ length xs
-selects_fewer P all part ends = omega arith
-selects_fewer P all part (takes {x = x} {xs = xs} {ys = ys} has s) = let h = selects_fewer P xs ys s in omega (arith, h)
-selects_fewer P all part (skips {x = x} {xs = xs} {ys = ys} lacks s) = let h = selects_fewer P xs ys s in omega (arith, h)
-
 pub Selects-alike : {A : Type 0} (P Q : A → Type 0) (xs : List A) → ((x : A) → Contains xs x → P x → Q x) → ((x : A) → Contains xs x → Q x → P x) → (ys : List A) → Selects P xs ys → Selects Q xs ys
 Selects-alike P Q all to from part ends = ends
 Selects-alike P Q all to from part (takes {x = x} {xs = xs} {ys = ys} has s) =
@@ -121,8 +115,3 @@ range_inside n k (i, low, is) =
 pub written_back : {A : Type 0} (new old : List A) (len : ℕ) → length new ≡ length old → len ≡ length old → take len (new ++ drop (length new) old) ≡ new
 written_back {A = A} new old len long len_is =
     ap (λ (zs : List A). take len (new ++ zs)) (drop_all (length new) old (omega (arith, long))) ∙ ap (take len) (append-nil new) ∙ take_all len new (omega (arith, long, len_is))
-
--- what holds of an answer's value
-pub if_ok : {T E : Type 0} (P Q : T → Type 0) → ((x : T) → P x → Q x) → (r : Result T E) → IfOk r P → IfOk r Q
-if_ok P Q imply (Ok x) has = imply x has
-if_ok P Q imply (Err e) has = tt

@@ -17,7 +17,7 @@ use Rattle.change_plan.specs.Selects.{Selects}
 use Rattle.config_graph.specs.declared.node.Port.{Port}
 use Rattle.change_plan.specs.Selects.Selects.{ends, takes, skips}
 use Rattle.change_plan.specs.Touched.{Frozen, IsTouched}
-use Rattle.change_plan.proofs.SelectsLaws.{Contains-places, Selects-has, Selects-only, sum_by-Selects}
+use Rattle.change_plan.proofs.SelectsLaws.{Contains-places, Selects-has, Selects-only, sum_by-Selects, Selects-shorter}
 use Rattle.base.proofs.RisingLaws.{places_more}
 
 -- what each element has, each of a part has; and a part is no longer than the whole
@@ -26,11 +26,6 @@ All-Selects P Q all part ends h = All-nil Q
 All-Selects P Q all part (takes {x = x} {xs = xs} {ys = ys} has s) h =
     All-cons Q x ys (All-head Q x xs h) (All-Selects P Q xs ys s (All-tail Q x xs h))
 All-Selects P Q all part (skips {x = x} {xs = xs} {ys = ys} lacks s) h = All-Selects P Q xs ys s (All-tail Q x xs h)
-
-length-Selects : {A : Type 0} (P : A → Type 0) (xs ys : List A) → Selects P xs ys → length ys ≤ length xs
-length-Selects P all part ends = omega arith
-length-Selects P all part (takes {xs = xs} {ys = ys} has s) = let rest = length-Selects P xs ys s in omega (arith, rest)
-length-Selects P all part (skips {xs = xs} {ys = ys} lacks s) = let rest = length-Selects P xs ys s in omega (arith, rest)
 
 -- the ports of the first nodes
 pub first_ports : (nodes : List Node) (n : ℕ) → n ≤ length nodes → sum_by (requires_at nodes) (range_with_len 0 n) ≡ sum_by requires_of (take n nodes)
@@ -59,7 +54,7 @@ module _ (g h : Graph) (graph : IsGraph g) (gone : List ℕ) (selected : GoneNod
 
   pub gone_few : length gone < 2 ^ 32
   gone_few =
-      let part = length-Selects (IsGone g h) (range_with_len 0 (length g.nodes)) gone selected in
+      let part = Selects-shorter (IsGone g h) (range_with_len 0 (length g.nodes)) gone selected in
       omega (arith, part, length-range_with_len 0 (length g.nodes), graph.few_nodes)
 
   pub gone_ports_few : sum_by (requires_at g.nodes) gone < 2 ^ 32

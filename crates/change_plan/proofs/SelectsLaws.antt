@@ -84,3 +84,9 @@ Selects-part P all part (skips {x = y} {xs = xs} {ys = ys} lacks s) x there =
 pub Contains-places : (n i : ℕ) → i < n → Contains (range_with_len 0 n) i
 Contains-places n i low =
     (i, rw length-range_with_len low, get_or-range_with_len 0 n i i low ∙ omega arith)
+
+-- a selection is no longer than what it is of
+pub Selects-shorter : {A : Type 0} (P : A → Type 0) (xs ys : List A) → Selects P xs ys → length ys ≤ length xs
+Selects-shorter P all part ends = omega arith
+Selects-shorter P all part (takes {xs = xs} {ys = ys} has s) = let rest = Selects-shorter P xs ys s in omega (arith, rest)
+Selects-shorter P all part (skips {xs = xs} {ys = ys} lacks s) = let rest = Selects-shorter P xs ys s in omega (arith, rest)

@@ -1,8 +1,7 @@
 -- What a commit of a plan stands on, told of the configuration alone.
-use Rattle.std.proofs.Common.{◌≡◌, ℕ, ◌+◌, ◌≤◌, List, [], ◌∷◌, length, Option, Some, None, refl, sym, ap, ◌∙◌, arith, Contains}
-use Rattle.std.specs.Prelude.{slice_get, sum_by, unwrap_or}
+use Rattle.std.proofs.Common.{◌≡◌, ℕ, ◌+◌, ◌≤◌, List, [], ◌∷◌, length, refl, sym, ap, ◌∙◌, arith, Contains}
+use Rattle.std.specs.Prelude.{slice_get, sum_by}
 use Rattle.std.specs.List.{range_with_len}
-use Rattle.std.specs.Option.{option_map_or}
 use Rattle.std.proofs.lemmas.List.Elements.{All-contains}
 use Rattle.std.proofs.lemmas.List.Sums.{sum_by-cons}
 use Rattle.change_plan.specs.Differences.{IsGone}
@@ -14,13 +13,10 @@ use Rattle.change_plan.specs.declared.plan_data.Shift.{Shift}
 use Rattle.change_plan.proofs.MoveLaws.{one_kind, one_source}
 use Rattle.change_plan.proofs.SelectsLaws.{Selects-one}
 use Rattle.config_graph.specs.Cycles.{graph_wiring}
-use Rattle.config_graph.specs.Graph.{Graph, IsGraph, requires_at, requires_of}
-use Rattle.config_graph.specs.Kinds.{row}
+use Rattle.config_graph.specs.Graph.{Graph, IsGraph, requires_at}
 use Rattle.config_graph.specs.Sound.{Sound}
 use Rattle.config_graph.specs.Wiring.{Reach}
 use Rattle.config_graph.specs.declared.TheConstants.{MAX_NODES, MAX_PORTS}
-use Rattle.config_graph.specs.declared.kind.Kind.TheVariants.{Fork}
-use Rattle.config_graph.specs.declared.node.Node.{Node}
 use Rattle.config_graph.specs.declared.node.Port.{Port}
 use Rattle.quiesce_core.specs.declared.event.Event.{Event}
 use Rattle.quiesce_core.specs.Live.{IsGraphOf, StandsAt}
@@ -34,6 +30,7 @@ use Rattle.quiesce_commit_laws.specs.Work.{ports_wanted}
 use Rattle.quiesce_commit_laws.proofs.AfterRunLaws.{IsAfterRun, after_run}
 use Rattle.change_plan_laws.specs.Commit.{makes_from, work}
 use Rattle.change_plan_laws.specs.Committing.{MayCommit}
+use Rattle.config_graph.proofs.KindLaws.{ports_wanted_at}
 
 -- the moves of a plan: each leads from a removed node to one of its kind, and no two from one node
 pub record AreMoves (old new : Graph) (plan : Plan) : Type 0 where
@@ -60,13 +57,9 @@ moves_are old new old_graph new_graph moves may plan are = record {
   one_source = λ s t s_there t_there same. ap (λ (x : Shift). x.new) (one_source old new old_graph new_graph moves may plan.moves are s t s_there t_there same);
 }
 
-wanted_at : (o : Option Node) → length (row (unwrap_or o (record { path = []; kind = Fork; arg = None })).kind).requires_ ≡ option_map_or requires_of o 0
-wanted_at None = refl
-wanted_at (Some n) = refl
-
 ports_are : (old new : Graph) (plan : Plan) (c : Configuration) (k : ℕ) (js : List ℕ) → ports_wanted (makes_from old new plan c k js) ≡ sum_by (requires_at new.nodes) js
 ports_are old new plan c k [] = refl
-ports_are old new plan c k (j ∷ js) = ap (λ n. n + ports_wanted (makes_from old new plan c (k + 1) js)) (wanted_at (slice_get new.nodes j)) ∙ ap (λ n. requires_at new.nodes j + n) (ports_are old new plan c (k + 1) js)
+ports_are old new plan c k (j ∷ js) = ap (λ n. n + ports_wanted (makes_from old new plan c (k + 1) js)) (ports_wanted_at (slice_get new.nodes j)) ∙ ap (λ n. requires_at new.nodes j + n) (ports_are old new plan c (k + 1) js)
     ∙ sym (sum_by-cons (requires_at new.nodes) j js)
 
 pub ready : (old new : Graph) (moves : List Move) (plan : Plan) (es : List Event) → MayCommit old new moves plan es → IsReady old new plan (state_after es).config

@@ -1,7 +1,7 @@
 -- Where the live nodes of a configuration stand in a graph that has the same nodes.
-use Rattle.std.proofs.Common.{◌≡◌, ℕ, ◌+◌, ◌-◌, ◌<◌, ◌≤◌, Bool, true, false, List, [], ◌∷◌, length, get_or, Some, refl, sym, ap, ◌∙◌, subst, arith, Contains}
+use Rattle.std.proofs.Common.{◌≡◌, ℕ, ◌+◌, ◌-◌, ◌<◌, ◌≤◌, Bool, true, false, List, [], ◌∷◌, length, get_or, Some, refl, sym, ap, ◌∙◌, subst, arith, Contains, ⊎_elim, Option, None}
 use Rattle.std.specs.Prelude.{◌↔◌, position, slice_get, bytes_eq}
-use Rattle.std.proofs.lemmas.Bool.{and_from, and_parts}
+use Rattle.std.proofs.lemmas.Bool.{and_from, and_parts, both_ways, or_cases}
 use Rattle.std.proofs.lemmas.Option.{same_Some, slice_get-get_or}
 use Rattle.std.proofs.lemmas.List.Quantifiers.{position-Some}
 use Rattle.std.proofs.lemmas.Slice.Eq.{bytes_eq-Decides}
@@ -11,13 +11,26 @@ use Rattle.config_graph.specs.Kinds.{row}
 use Rattle.config_graph.specs.declared.node.Node.{Node}
 use Rattle.quiesce_core.specs.declared.state.Slot.{Slot}
 use Rattle.quiesce_core.specs.Live.{IsLiveAt, IsLiveNode, StandsAt}
-use Rattle.quiesce_core.specs.State.{Configuration, gate, owner, slot}
+use Rattle.quiesce_core.specs.State.{Configuration, gate, owner, slot, is_live}
 use Rattle.quiesce_core.specs.WellFormed.{IsSound}
 use Rattle.base.proofs.OptionLaws.{map_or_at, map_or_true}
 use Rattle.base.proofs.ContainsLaws.{at_some_place}
-use Rattle.change_plan_laws.specs.Commit.{is_at, node_path, slot_at}
+use Rattle.change_plan_laws.specs.Commit.{is_at, node_path, slot_at, is_one_of}
 use Rattle.change_plan_laws.specs.Commit as commit
 use Rattle.quiesce_commit_laws.specs.Fitting.{PathsApart}
+use Rattle.std.specs.Option.{option_map_or}
+
+-- a node is live that is one of those at some places of a graph
+stands_live : (g : Graph) (i : ℕ) (c : Configuration) (n : ℕ) → commit.stands_in g i c n ≡ true → is_live c n ≡ true
+stands_live g i c n h = by (slot c n) h
+  where
+    by : (o : Option Slot) → option_map_or (is_at (node_path g i)) o false ≡ true → option_map_or (λ (m : Slot). m.live) o false ≡ true
+    by None h = h
+    by (Some m) h = (and_parts m.live _ h).0
+
+pub one_live : (g : Graph) (places : List ℕ) (c : Configuration) (n : ℕ) → is_one_of g places c n ≡ true → is_live c n ≡ true
+one_live g [] c n h = absurd (both_ways false refl h)
+one_live g (i ∷ places) c n h = ⊎_elim (stands_live g i c n) (one_live g places c n) (or_cases (commit.stands_in g i c n) (is_one_of g places c n) h)
 
 pub path_of : (g : Graph) (i : ℕ) (node : Node) → slice_get g.nodes i ≡ Some node → node_path g i ≡ node.path
 path_of g i node e = map_or_at (λ (m : Node). m.path) (slice_get g.nodes i) [] node e

@@ -1,5 +1,5 @@
 -- Lemmas on parts that are carried out one after the other.
-use Rattle.std.proofs.Common.{◌≡◌, ◌∙◌, ℕ, ℤ, ◌+◌, Result, Ok, Err, IfOk, List, [], ◌∷◌, ◌++◌, append_assoc, append-nil, length, take, refl, sym, ap, subst, Some, slice_get}
+use Rattle.std.proofs.Common.{◌≡◌, ◌∙◌, ℕ, ℤ, ◌+◌, List, [], ◌∷◌, ◌++◌, append_assoc, append-nil, length, take, refl, sym, ap, subst, Some, slice_get}
 use Rattle.std.proofs.lemmas.List.{map-append}
 use Rattle.base.proofs.EachLaws.{each_pushed}
 use Rattle.config_graph.specs.Graph.{Graph}
@@ -97,7 +97,3 @@ module _ {B : Type 0} (W : BoardWords B) (old : Engine B) (name : List ℕ) (arg
             gave_up = v.1;
             graph = x.graph ∙ w.rolled.graph ∙ sym (stage_front old.graph done_ (p ∷ rest));
           }
-
-pub answers_too : {A E : Type 0} (P Q : A → Type 0) → ((x : A) → P x → Q x) → (r : Result A E) → IfOk r P → IfOk r Q
-answers_too P Q f (Ok x) h = f x h
-answers_too P Q f (Err e) h = tt

@@ -1,34 +1,28 @@
 -- Ports that are closed for a change or a stop: they are live, they stay what they were, and what isn't drained there has a root that stood since.
 use Rattle.std.proofs.Common.{◌≡◌, ◌∙◌, ℕ, ◌<◌, Bool, true, false, cond, not, ◌&&◌, ◌||◌, List, [], ◌∷◌, length, refl, sym, ap, arith}
-use Rattle.std.specs.Prelude.{◌==◌, bytes_eq, filter, is_some}
+use Rattle.std.specs.Prelude.{◌==◌, filter, is_some}
 use Rattle.std.specs.List.{range_with_len}
-use Rattle.std.proofs.lemmas.Bool.{and_from, and_parts, eq-eqb, not_from_false, or_parts}
+use Rattle.std.proofs.lemmas.Bool.{and_from, eq-eqb, not_from_false, or_parts}
 use Rattle.std.specs.List.Sorted.{IsStrictlyIncreasing}
 use Rattle.std.proofs.lemmas.List.Kept.{IsStrictlyIncreasing-filter}
-use Rattle.base.proofs.OptionLaws.{map_or_at, map_or_true}
 use Rattle.config_graph.specs.Graph.{Graph}
 use Rattle.change_plan.specs.declared.plan_data.Plan.{Plan}
 use Rattle.quiesce_word.specs.Phases.{is_idle}
 use Rattle.quiesce_core.specs.declared.state.Slot.{Slot}
-use Rattle.quiesce_core.specs.State.{Configuration, State, exchange, gate, is_live, owner, slot}
+use Rattle.quiesce_core.specs.State.{Configuration, State, exchange, gate, owner}
 use Rattle.quiesce_laws.specs.Drained.{is_drained}
 use Rattle.quiesce_laws.specs.Roots.{has_root}
 use Rattle.quiesce_commit_laws.specs.Lists.{In}
-use Rattle.quiesce_commit_laws.proofs.MemberLaws.{any_of, select, selected}
+use Rattle.quiesce_commit_laws.proofs.MemberLaws.{select, selected}
 use Rattle.quiesce_commit_laws.proofs.TurningLaws.{IsLivePort, SameLinks}
-use Rattle.change_plan_laws.specs.Commit.{is_at, is_one_of, node_path, ports_to_close, ports_where, stands_in}
+use Rattle.change_plan_laws.specs.Commit.{is_one_of, ports_to_close, ports_where}
 use Rattle.change_law.proofs.TestLaws.{range_rises}
-
-one_is_live : (old : Graph) (places : List ℕ) (c : Configuration) (n : ℕ) → is_one_of old places c n ≡ true → is_live c n ≡ true
-one_is_live old places c n h =
-    let i = any_of (λ j. stands_in old j c n) places h in
-    let m = map_or_true (is_at (node_path old i.0)) (slot c n) i.2 in
-    map_or_at (λ (s : Slot). s.live) (slot c n) false m.0 m.1 ∙ (and_parts m.0.live (bytes_eq m.0.node.path (node_path old i.0)) m.2).0
+use Rattle.change_plan_laws.proofs.StandingLaws.{one_live}
 
 pub frozen_live : (old : Graph) (plan : Plan) (c : Configuration) (p : ℕ) → In (ports_to_close old plan c) p → IsLivePort c p
 frozen_live old plan c p i =
     let s = selected (λ q. is_one_of old plan.freeze c (owner c q)) 0 (length c.gates) p i in
-    record { made = let low = s.below in omega arith; live = one_is_live old plan.freeze c (owner c p) s.passes }
+    record { made = let low = s.below in omega arith; live = one_live old plan.freeze c (owner c p) s.passes }
 
 pub frozen_listed : (old : Graph) (plan : Plan) (c : Configuration) (p : ℕ) → p < length c.gates → is_one_of old plan.freeze c (owner c p) ≡ true → In (ports_to_close old plan c) p
 frozen_listed old plan c p low frozen = select (λ q. is_one_of old plan.freeze c (owner c q)) 0 (length c.gates) p (omega arith) (omega (arith, low)) frozen

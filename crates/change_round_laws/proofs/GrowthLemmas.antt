@@ -1,16 +1,14 @@
 -- How many nodes and ports are made by events of a change.
 use Rattle.std.proofs.Common.{◌≡◌, ◌∙◌, ℕ, ◌+◌, true, false, List, [], ◌∷◌, ◌++◌, map, length, length-set, Option, Some, None, refl, sym, ap, arith}
-use Rattle.std.specs.Prelude.{slice_get, slice_set, sum_by, unwrap_or}
+use Rattle.std.specs.Prelude.{slice_get, slice_set, sum_by}
 use Rattle.std.specs.List.{range_with_len}
 use Rattle.std.specs.Option.{option_map_or}
 use Rattle.std.proofs.lemmas.List.{length-append}
 use Rattle.std.proofs.lemmas.List.FromFn.{length-map-range_with_len}
 use Rattle.std.proofs.lemmas.List.Sums.{sum_by-cons}
 use Rattle.change_plan.specs.declared.plan_data.Plan.{Plan}
-use Rattle.config_graph.specs.Graph.{Graph, requires_at, requires_of}
+use Rattle.config_graph.specs.Graph.{Graph, requires_at}
 use Rattle.config_graph.specs.Kinds.{row}
-use Rattle.config_graph.specs.declared.kind.Kind.TheVariants.{Fork}
-use Rattle.config_graph.specs.declared.node.Node.{Node}
 use Rattle.quiesce_core.specs.declared.event.Event.{Event}
 use Rattle.quiesce_core.specs.declared.event.Event.TheVariants.{Close, Reopen, Make, Link, Unlink, Remove}
 use Rattle.quiesce_core.specs.declared.state.Gate.{Gate}
@@ -20,6 +18,7 @@ use Rattle.quiesce_core.specs.State.{Configuration, gate, slot}
 use Rattle.quiesce_commit_laws.specs.Steps.{change_all}
 use Rattle.quiesce_commit_laws.specs.Work.{link_new, make_new, work_of}
 use Rattle.change_plan_laws.specs.Commit.{commit_events, commit_steps, makes_from, new_links, reopened_ports, work}
+use Rattle.config_graph.proofs.KindLaws.{ports_wanted_at}
 
 abbrev pub nodes_by : Event → ℕ
 nodes_by (Make n node from) = 1
@@ -70,10 +69,6 @@ pub ports_after : (c : Configuration) (es : List Event) → length (change_all c
 ports_after c [] = omega arith
 ports_after c (e ∷ es) = omega (arith, ports_after (change_next c e) es, ports_next c e)
 
-wanted_at : (o : Option Node) → length (row (unwrap_or o (record { path = []; kind = Fork; arg = None })).kind).requires_ ≡ option_map_or requires_of o 0
-wanted_at None = refl
-wanted_at (Some n) = refl
-
 module _ (old new : Graph) (plan : Plan) (c : Configuration) where
   made_nodes : (k : ℕ) (js : List ℕ) → total nodes_by (map make_new (makes_from old new plan c k js)) ≡ length js
   made_nodes k [] = refl
@@ -82,7 +77,7 @@ module _ (old new : Graph) (plan : Plan) (c : Configuration) where
   made_ports : (k : ℕ) (js : List ℕ) → total ports_by (map make_new (makes_from old new plan c k js)) ≡ sum_by (requires_at new.nodes) js
   made_ports k [] = refl
   made_ports k (j ∷ js) =
-      ap (λ n. n + total ports_by (map make_new (makes_from old new plan c (k + 1) js))) (wanted_at (slice_get new.nodes j)) ∙ ap (λ n. requires_at new.nodes j + n) (made_ports (k + 1) js)
+      ap (λ n. n + total ports_by (map make_new (makes_from old new plan c (k + 1) js))) (ports_wanted_at (slice_get new.nodes j)) ∙ ap (λ n. requires_at new.nodes j + n) (made_ports (k + 1) js)
       ∙ sym (sum_by-cons (requires_at new.nodes) j js)
 
   parts_of : (f : Event → ℕ) → ((p : ℕ) → f (Unlink p) ≡ 0) → ((n : ℕ) → f (Remove n) ≡ 0) → ((p n x : ℕ) → f (Link p n x) ≡ 0) → ((p : ℕ) → f (Reopen p) ≡ 0)

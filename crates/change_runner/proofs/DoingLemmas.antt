@@ -1,6 +1,6 @@
 -- What a step adds, by what its calls of the engine did.
-use Rattle.std.proofs.Common.{◌≡◌, ◌∙◌, ℕ, Bool, true, false, List, [], ◌∷◌, ◌++◌, map, refl, sym, ap, Result, Ok, Err}
-use Rattle.std.specs.Prelude.{◌||◌, IfOk}
+use Rattle.std.proofs.Common.{◌≡◌, ◌∙◌, ℕ, Bool, true, false, List, [], ◌∷◌, ◌++◌, map, refl, sym, ap}
+use Rattle.std.specs.Prelude.{◌||◌}
 use Rattle.std.proofs.lemmas.Bool.{both_ways}
 use Rattle.change_plan_laws.specs.Committing.{made_in}
 use Rattle.report_types.specs.declared.report.HistoryLine.TheVariants as to
@@ -19,10 +19,6 @@ use Rattle.change_runner.specs.Doing.{Carried, is_given_up}
 use Rattle.change_law.specs.declared.steps.Replacement.{Replacement}
 use Rattle.change_law.specs.declared.steps.Step.TheVariants as steps
 use Rattle.std.proofs.Math.Bool.{or-false}
-
-pub in_ok : {A E : Type 0} (P Q : A → Type 0) → ((x : A) → P x → Q x) → (r : Result A E) → IfOk r P → IfOk r Q
-in_ok P Q f (Ok x) h = f x h
-in_ok P Q f (Err e) h = tt
 
 pub kept : (t u : List Item) → is_given_up u ≡ false → is_given_up (t ++ u) ≡ is_given_up t
 kept t u h = pending_both t u ∙ ap (λ b. is_given_up t || b) h ∙ or-false (is_given_up t)

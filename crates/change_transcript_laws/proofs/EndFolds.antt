@@ -1,29 +1,19 @@
 -- Each node of a lawful report has a fold at the end.
-use Rattle.std.proofs.Common.{◌≡◌, ◌∙◌, ℕ, zero, suc, ◌+◌, ◌<◌, List, [], ◌∷◌, map, length, get_or, Option, Some, None, refl, sym, ap, subst, arith}
+use Rattle.std.proofs.Common.{◌≡◌, ◌∙◌, ℕ, zero, suc, ◌<◌, List, [], ◌∷◌, map, length, get_or, Some, refl, sym, ap, subst, arith}
 use Rattle.std.specs.Prelude.{All, slice_get}
 use Rattle.std.specs.List.{range_with_len}
-use Rattle.component_trait.specs.States.{NodeState}
 use Rattle.change_law.specs.Endings.{moved_to}
-use Rattle.change_law.specs.Lawful.{EndsAs, IsFolded}
+use Rattle.change_law.specs.Lawful.{IsFolded}
 use Rattle.change_law.specs.Members.{Member, events}
 use Rattle.change_law.specs.Opening.{fold_of_node}
 use Rattle.report_types.specs.declared.report.HistoryLine.{HistoryLine}
-use Rattle.report_types.specs.declared.report.Last.{Last}
 use Rattle.report_types.specs.declared.report.NodeLog.{NodeLog}
 use Rattle.quiesce_core.specs.Runs.{state_after}
 use Rattle.quiesce_core.proofs.TableLaws.{live_made}
 use Rattle.std.proofs.lemmas.Option.{none-some, same_Some}
 use Rattle.change_transcript_laws.specs.Rests.{HaveFolds}
-
-ended_there : (o : Option NodeState) (j : Option ℕ) (l : Last) → EndsAs o j l → (s : NodeState) × (o ≡ Some s)
-ended_there None None l h = absurd h
-ended_there None (Some j) l h = absurd h
-ended_there (Some s) j l h = (s, refl)
-
-range_at : (a n k : ℕ) → k < n → slice_get (range_with_len a n) k ≡ Some (a + k)
-range_at a zero k h = absurd (omega (arith, h))
-range_at a (suc n) zero h = ap Some (omega arith)
-range_at a (suc n) (suc k) h = range_at (a + 1) n k (omega (arith, h)) ∙ ap Some (omega arith)
+use Rattle.base.proofs.RangeLaws.{range_at}
+use Rattle.change_law.proofs.MemberLaws.{ended_there}
 
 log_at : (xs : List NodeLog) (i n : ℕ) → slice_get (map (λ (l : NodeLog). l.slot) xs) i ≡ Some n → (l : NodeLog) × (i < length xs) × (get_or xs i l ≡ l) × (l.slot ≡ n)
 log_at [] i n h = absurd (none-some n h)

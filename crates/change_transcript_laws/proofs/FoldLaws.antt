@@ -1,5 +1,5 @@
 -- Each log has a fold, and ends with its last state or tells to which node that went; and which live node isn't done is named.
-use Rattle.std.proofs.Common.{◌≡◌, ◌∙◌, ℕ, zero, suc, ◌+◌, ◌<◌, Bool, true, false, not, cond, get_or, List, [], ◌∷◌, length, Option, Some, None, refl, sym, ap, subst, arith}
+use Rattle.std.proofs.Common.{◌≡◌, ◌∙◌, ℕ, ◌<◌, Bool, true, false, not, cond, get_or, List, [], ◌∷◌, length, Option, Some, None, refl, sym, ap, subst, arith}
 use Rattle.std.specs.Prelude.{◌||◌, filter, filter_map, find, slice_get, All}
 use Rattle.std.specs.List.{cons_option, list_any, range_with_len}
 use Rattle.std.specs.Option.{option_map_or}
@@ -34,13 +34,9 @@ use Rattle.change_transcript_laws.proofs.HeirLemmas.{heir_by_events, makes_from}
 use Rattle.change_transcript_laws.proofs.ItemLemmas.{AreFair, fair_events}
 use Rattle.change_transcript_laws.proofs.LawfulLaws.{events_are}
 use Rattle.change_transcript_laws.proofs.MergeLaws.{slots_made}
+use Rattle.base.proofs.RangeLaws.{range_at}
 
 -- ---- lists
-
-range_get : (a n k : ℕ) → k < n → slice_get (range_with_len a n) k ≡ Some (a + k)
-range_get a zero k h = absurd (omega (arith, h))
-range_get a (suc n) zero h = ap Some (omega arith)
-range_get a (suc n) (suc k) h = range_get (a + 1) n k (omega (arith, h)) ∙ ap Some (omega arith)
 
 find_agree : {A : Type 0} (f g : A → Bool) (xs : List A) → ((x : A) → f x ≡ g x) → find f xs ≡ find g xs
 find_agree f g [] h = refl
@@ -109,7 +105,7 @@ module _ (t : List Item) (m : List Moment) (ms : List Member) (fair : AreFair t)
   taken_at k below =
       let within : k < length c.slots = subst (λ (d : Configuration). k < length d.slots) (sym same_config) below in
       ap (λ xs. slice_get xs k) has.events_are
-      ∙ slice_get-map_at (λ i. done_by i es) (range_with_len 0 (length c.slots)) k k (range_get 0 (length c.slots) k within ∙ ap Some (omega arith))
+      ∙ slice_get-map_at (λ i. done_by i es) (range_with_len 0 (length c.slots)) k k (range_at 0 (length c.slots) k within ∙ ap Some (omega arith))
 
   same_fold : (n : ℕ) → fold_seen c (slice_get (taken_in report)) n ≡ fold_of_node (members.events ms) n
   same_fold n =

@@ -16,19 +16,16 @@ use Rattle.quiesce_word.specs.declared.word.Word.{Word}
 use Rattle.quiesce_core.specs.Doers.{is_of_change}
 use Rattle.quiesce_core.specs.Fields.{fields_of}
 use Rattle.quiesce_core.specs.Runs.{IsRun, state_after}
-use Rattle.quiesce_core.specs.State.{State, exchange, gate}
+use Rattle.quiesce_core.specs.State.{exchange, gate}
 use Rattle.quiesce_core.specs.Words.{word_of}
 use Rattle.quiesce_core.specs.declared.event.Event.{Event}
 use Rattle.quiesce_core.specs.declared.event.Event.TheVariants as event
-use Rattle.quiesce_core.specs.declared.state.Gate.{Gate}
 use Rattle.quiesce_core.proofs.InductionLaws.{place}
 use Rattle.quiesce_core.proofs.RunLaws.{fronts_are_runs, runs_are_well_formed}
-use Rattle.quiesce_core.proofs.SoundnessLaws.{put_here}
-use Rattle.quiesce_core.proofs.TableLaws.{gate_place}
 use Rattle.quiesce_core.proofs.WordLaws.{port_words_decode}
 use Rattle.quiesce_laws.specs.Events.{reopens}
 use Rattle.quiesce_laws.specs.Roots.{has_root}
-use Rattle.quiesce_laws.proofs.RootLaws.{closed_stays, root_since}
+use Rattle.quiesce_laws.proofs.RootLaws.{closed_stays, root_since, closed_by}
 use Rattle.report_types.specs.declared.report.HistoryLine.{HistoryLine}
 use Rattle.report_types.specs.declared.report.HistoryLine.TheVariants as to
 use Rattle.change_law.specs.Lawful.{IsOfItsKind, StoodOpen}
@@ -148,13 +145,6 @@ busy_has_root es p w run so shut busy =
     and_from (words.has_root (fields_of s p)) ((exchange s p).serial == serial_of w)
     (root_by (fields_of s p).closed (is_idle (fields_of s p).phase) (fields_of s p).consequent shut (sym (ap words.is_drained fields) ∙ busy))
     (eq-eqb (exchange s p).serial (serial_of w) (sym (ap (λ (f : Word). f.serial) fields)))
-
-closed_by : (before after : List Event) (p : ℕ) → IsRun (before ++ event.Close p ∷ after) → (gate (state_after (before ++ event.Close p ∷ [])).config p).closed ≡ true
-closed_by before after p run =
-    let here = place before after (event.Close p) run in
-    let s = state_after before in
-    ap (λ (v : State). (gate v.config p).closed) here.next
-    ∙ ap (λ (y : Gate). y.closed) (put_here s.config p (record (gate s.config p) { closed = true }) (gate_place s p here.legal.live) refl refl)
 
 -- a look while a root is open loads it
 root_loads : (es : List Event) (p k w : ℕ) → IsRun es → w ≡ word_of (state_after es) p → has_root (state_after es) p k ≡ true → loads_root p k (Looked p w) ≡ true

@@ -29,6 +29,7 @@ use Rattle.quiesce_core.specs.declared.event.Event.{Event}
 use Rattle.quiesce_core.specs.declared.event.Event.TheVariants.{Close, Reopen, Unlink, Remove, Link}
 use Rattle.change_law.specs.Scripts.{more_made}
 use Rattle.change_transcript_laws.proofs.MadeLaws.{gates_all, nodes_made, ports_made, slots_all}
+use Rattle.std.proofs.Math.Nat.{add-zero}
 
 -- events that count for nothing
 none_summed : {A : Type 0} (count : Event → ℕ) (f : A → Event) → ((x : A) → count (f x) ≡ 0) → (xs : List A) → sum_by count (map f xs) ≡ 0
@@ -148,11 +149,8 @@ module _ (old new : Graph) (plan : Plan) (c : Configuration) where
 -- closing makes nothing
 pub closes_make : (c : Configuration) (ps : List ℕ) → made_in (change_all c (map Close ps)) ≡ made_in c
 closes_make c ps = same_made _ _ _ _
-    (slots_all c (map Close ps) ∙ ap (λ k. length c.slots + k) (none_summed nodes_made Close (λ p. refl) ps) ∙ nothing_more (length c.slots))
-    (gates_all c (map Close ps) ∙ ap (λ k. length c.gates + k) (none_summed ports_made Close (λ p. refl) ps) ∙ nothing_more (length c.gates))
-  where
-    nothing_more : (n : ℕ) → n + 0 ≡ n
-    nothing_more n = omega arith
+    (slots_all c (map Close ps) ∙ ap (λ k. length c.slots + k) (none_summed nodes_made Close (λ p. refl) ps) ∙ add-zero (length c.slots))
+    (gates_all c (map Close ps) ∙ ap (λ k. length c.gates + k) (none_summed ports_made Close (λ p. refl) ps) ∙ add-zero (length c.gates))
 
 -- what was found to fit is what a plan creates
 pub wanted_as_planned : (old new : Graph) (moves : List Move) (made : Made) (plan : Plan) (can : CanPlan old new moves made) → IsPlanOf old new moves plan

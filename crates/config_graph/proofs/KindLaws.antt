@@ -1,11 +1,15 @@
 -- The table of kinds: how many services and requirements a kind has, which of them depend on which, and how much a service does.
-use Rattle.std.proofs.Common.{◌≡◌, ℕ, zero, suc, Some, true, false, refl}
+use Rattle.std.proofs.Common.{◌≡◌, ℕ, zero, suc, Some, true, false, refl, Option, None, []}
 use Rattle.std.proofs.lemmas.Bool.{both_ways}
 use Rattle.std.proofs.Math.Bool.{or-false}
 use Rattle.config_graph.specs.Kinds.{row, kind_named, calls_of, depends_on, is_depended_on, mores_of}
 use Rattle.config_graph.specs.declared.kind.Kind.{Kind}
 use Rattle.config_graph.specs.declared.kind.Kind.TheVariants.{Philosopher, Place, Fork, Source, Map, Buffer, Sink, Teller, Branch, Account, Asker, Adder}
 use Rattle.std.proofs.Common.{◌≤◌, ◌<◌, arith, length}
+use Rattle.std.specs.Option.{option_map_or}
+use Rattle.config_graph.specs.Graph.{requires_of}
+use Rattle.config_graph.specs.declared.node.Node.{Node}
+use Rattle.std.specs.Prelude.{unwrap_or}
 
 -- each kind is found by its name
 pub kind_named-name : (k : Kind) → kind_named (row k).name ≡ Some k
@@ -151,3 +155,8 @@ depends_on_all Branch (suc x) r h i other = absurd (omega (arith, h))
 depends_on_all Account x r h i other = absurd (omega (arith, i))
 depends_on_all Asker x r h i other = absurd (omega (arith, h))
 depends_on_all Adder x r h i other = absurd (omega (arith, i))
+
+-- how many ports a node wants that may be there
+pub ports_wanted_at : (o : Option Node) → length (row (unwrap_or o (record { path = []; kind = Fork; arg = None })).kind).requires_ ≡ option_map_or requires_of o 0
+ports_wanted_at None = refl
+ports_wanted_at (Some n) = refl

@@ -9,8 +9,8 @@ use Rattle.darwin_parser.specs.declared.cursor.Stop.TheVariants.{Expected, TooNe
 use Rattle.darwin_parser.specs.Language as lang
 use Rattle.darwin_parser.specs.Language.{Lang, Joined}
 use Rattle.darwin_parser.specs.Reading.{Reader, Outcome, and_then, expect}
-use Rattle.darwin_parser.proofs.KindSets.{apart, apart_is, apart_not, class_of, implied, implies, member, member_right, no_is_yes, no_yes, self_implied, sum_first, sum_of, sum_second, within, within_is, within_left, within_not, within_right, within_self_at}
-use Rattle.std.proofs.lemmas.Bool.{and_parts}
+use Rattle.darwin_parser.proofs.KindSets.{apart, apart_is, apart_not, class_of, implied, implies, member, member_right, no_is_yes, self_implied, sum_first, sum_of, sum_second, within, within_is, within_left, within_not, within_right, within_self_at}
+use Rattle.std.proofs.lemmas.Bool.{and_parts, false≢true}
 
 -- a list is empty only where that is allowed, and else begins with one of these kinds
 abbrev pub StartsOr : List TokenKind → Bool → List Token → Type 0
@@ -397,7 +397,7 @@ module _ {A : Type 0} (test : List Token → Bool) (S F1 : List TokenKind) {F2 C
   pub nest_at : (empty : (w : List Token) (a : A) → N 0 w a → ⊥) (starts : (i : ℕ) (w : List Token) (a : A) → N i w a → StartsOr F1 false w)
       (opens : (t : Token) → member (class_of t.kind) S ≡ true → Begun (N 1) (t ∷ [])) → Tells test S → Exact F2 n2 C2 M q → Choice S F1 [] F2 n2 C2 F n C
       → (tokens : List Token) (b : Bool) → test tokens ≡ b → Answer C (λ i tokens a. M i tokens a ⊎ N i tokens a) tokens (cond b (Err (TooNested (length tokens))) (q tokens))
-  nest_at empty starts opens tells m h [] true is = absurd (no_yes (tells.on [] is))
+  nest_at empty starts opens tells m h [] true is = absurd (false≢true (tells.on [] is))
   nest_at empty starts opens tells m h (t ∷ ts) true is = record {
     front = [];
     opener = t;

@@ -1,6 +1,6 @@
 -- Sets of kinds of tokens, in which all numbers are one: as lists, which compute.
 use Rattle.std.proofs.Common.{◌≡◌, Bool, true, false, not, ◌||◌, ◌&&◌, List, [], ◌∷◌, ◌++◌, refl, ap, ◌∙◌, inl, inr, ◌⊎◌}
-use Rattle.std.proofs.lemmas.Bool.{eq-eqb, and_parts}
+use Rattle.std.proofs.lemmas.Bool.{eq-eqb, and_parts, false≢true}
 use Rattle.std.proofs.lemmas.Bool.Decides.{eqb_tells}
 use denote.Enum.Bare.{same_true, true_same}
 use Rattle.darwin_lexer.specs.contracts.token.Keyword as keyword
@@ -104,9 +104,6 @@ pub implied : (a b : Bool) → implies a b ≡ true → a ≡ true → b ≡ tru
 implied true b e h = e
 implied false b e h = absurd cc
 
-pub no_yes : false ≡ true → ⊥
-no_yes e = cc
-
 pub no_is_yes : (b : Bool) → false ≡ true → b ≡ true
 no_is_yes b e = absurd cc
 
@@ -123,7 +120,7 @@ or_joins true b e f = absurd cc
 or_joins false b e f = f
 
 pub member_left : (xs ys : List TokenKind) (c : TokenKind) → member c xs ≡ true → member c (xs ++ ys) ≡ true
-member_left [] ys c m = absurd (no_yes m)
+member_left [] ys c m = absurd (false≢true m)
 member_left (x ∷ xs) ys c m = elim (or_split (same_kind c x) (member c xs) m) [ inl h ↦ or_left (same_kind c x) (member c (xs ++ ys)) h | inr h ↦ or_right (same_kind c x) (member c (xs ++ ys)) (member_left xs ys c h) ]
 
 pub member_right : (xs ys : List TokenKind) (c : TokenKind) → member c ys ≡ true → member c (xs ++ ys) ≡ true

@@ -18,10 +18,11 @@ use Rattle.darwin_parser.specs.Language.{Lang, Joined}
 use Rattle.darwin_parser.specs.Grammar as grammar
 use Rattle.darwin_parser.specs.Reading as reading
 use Rattle.darwin_parser.specs.Reading.{Reader, same_kind}
-use Rattle.darwin_parser.proofs.KindSets.{class_of, member, no_yes, same_sound}
+use Rattle.darwin_parser.proofs.KindSets.{class_of, member, same_sound}
 use Rattle.darwin_parser.proofs.Exact.{Begun, Exact, StartsOr, Tells, exact_before, exact_done, exact_if, exact_nest, exact_other, exact_same, exact_seq, exact_shared, exact_wide}
 use Rattle.darwin_parser.proofs.OneToken.{exact_after, exact_number, exact_operator, exact_plain, exact_sees, example_of, operators, plain, starts_two, tells_either, tells_number, tells_operator, tells_sees}
 use Rattle.darwin_parser.proofs.Repeats.{exact_closed, exact_loop, fold_appended, fold_pushed}
+use Rattle.std.proofs.lemmas.Bool.{false≢true}
 
 -- a limit of nesting, lifted
 abbrev pub deeper : ℕ → ℕ → ℕ
@@ -123,7 +124,7 @@ nestable text zero = λ tokens e. ⊥
 nestable text (suc i) = grammar.nested (grammar.factor text i)
 
 starts_then : (F : List TokenKind) (a b : List Token) → StartsOr F false a → StartsOr F false (a ++ b)
-starts_then F [] b s = absurd (no_yes s)
+starts_then F [] b s = absurd (false≢true s)
 starts_then F (t ∷ a) b s = s
 
 token_starts : {B : Type 0} (kind : TokenKind) (M : Token → Lang B) (w : List Token) (b : B) → plain kind ≡ true → Joined (lang.token kind) M w b → StartsOr (kind ∷ []) false w

@@ -8,10 +8,10 @@ use Rattle.darwin_parser.specs.Language as lang
 use Rattle.darwin_parser.specs.Language.{Lang, Joined}
 use Rattle.darwin_parser.specs.Reading as reading
 use Rattle.darwin_parser.specs.Reading.{Reader, Outcome, and_then, same_kind}
-use Rattle.darwin_parser.proofs.KindSets.{apart, member, no_yes, or_right, same_self, within, within_left, within_right, within_self, within_self_at}
+use Rattle.darwin_parser.proofs.KindSets.{apart, member, or_right, same_self, within, within_left, within_right, within_self, within_self_at}
 use Rattle.darwin_parser.proofs.Exact.{Answer, Exact, Shape, StartsOr, Stops, Tells, Took, answer_same, answer_then, assoc, dead_off, dead_on, exact_give, exact_same, left_answer, right_answer, shape_then, starts_joined, starts_within}
 use Rattle.darwin_parser.proofs.OneToken.{eat_is, exact_plain, plain, tells_sees}
-use Rattle.std.proofs.lemmas.Bool.{and_parts}
+use Rattle.std.proofs.lemmas.Bool.{and_parts, false≢true}
 
 -- what the items make of a start, step by step
 pub record Gathered {S A : Type 0} (L : Lang A) (step : S → A → S) (s : S) (tokens : List Token) (end : S) : Type 0 where
@@ -44,7 +44,7 @@ module _ {S A : Type 0} (L : Lang A) (step : S → A → S) where
 pub many_starts : {A : Type 0} (F : List TokenKind) (L : Lang A) → ((w : List Token) (a : A) → L w a → StartsOr F false w) → (w : List Token) (items : List A) → lang.many L w items → StartsOr F true w
 many_starts F L starts w [] m = subst (StartsOr F true) (sym m) refl
 many_starts F L starts w (a ∷ items) m =
-    subst (StartsOr F true) (sym m.whole) (starts_joined F F F false true true m.front m.rest (within_self F) (λ _. within_self F) (λ e _. absurd (no_yes e)) (starts m.front m.value m.begins) (many_starts F L starts m.rest items m.goes_on.1))
+    subst (StartsOr F true) (sym m.whole) (starts_joined F F F false true true m.front m.rest (within_self F) (λ _. within_self F) (λ e _. absurd (false≢true e)) (starts m.front m.value m.begins) (many_starts F L starts m.rest items m.goes_on.1))
 
 pub many_grows : {A : Type 0} (L M : Lang A) → ((w : List Token) (a : A) → L w a → M w a) → (w : List Token) (items : List A) → lang.many L w items → lang.many M w items
 many_grows L M f w [] m = m
@@ -52,7 +52,7 @@ many_grows L M f w (a ∷ items) m =
     record { front = m.front; rest = m.rest; value = m.value; whole = m.whole; begins = f m.front m.value m.begins; goes_on = (m.goes_on.0, many_grows L M f m.rest items m.goes_on.1) }
 
 pub shorter_after : (F : List TokenKind) (front rest tokens : List Token) → tokens ≡ front ++ rest → StartsOr F false front → length rest < length tokens
-shorter_after F [] rest tokens e s = absurd (no_yes s)
+shorter_after F [] rest tokens e s = absurd (false≢true s)
 shorter_after F (t ∷ front) rest tokens e s = omega (arith, ap length e, length-append front rest)
 
 module _ {S A : Type 0} {F C1 : List TokenKind} {L : ℕ → Lang A} {p : Reader A} (step : S → A → S) (l : Exact F false C1 L p) where
@@ -183,13 +183,13 @@ module _ {S A : Type 0} {F C1 : List TokenKind} {L : ℕ → Lang A} {p : Reader
       → Answer [] (λ i. Closed close (L i) step s) tokens (cond b (and_then (reading.expect close tokens) (λ _ rest. Ok (s, rest))) (and_then (p tokens) (λ a. reading.turns_up_to close step p n (step s a))))
   up_to_at n s tokens true is next = either_closed s tokens (and_then (reading.expect close tokens) (λ _ rest. Ok (s, rest)))
       (left_answer (λ i w r. Joined (lang.token close) (λ _. lang.give s) w r) (λ i w r. Joined (L i) (λ a. Closed close (L i) step (step s a)) w r) [] [] tokens (and_then (reading.expect close tokens) (λ _ rest. Ok (s, rest))) refl
-      (λ i u v b j stops head. dead_on F (close ∷ []) [] false u v tokens apart_close (λ e. absurd (no_yes e)) ((tells_sees close is_plain).on tokens is)
+      (λ i u v b j stops head. dead_on F (close ∷ []) [] false u v tokens apart_close (λ e. absurd (false≢true e)) ((tells_sees close is_plain).on tokens is)
       ((shape_then {F1 = F} {F2 = close ∷ F} {F = F} {n = false} {L = L} {M = λ i a. Closed close (L i) step (step s a)} l.shape (λ a. shape_closed (step s a)) (within_self F) refl refl).starts i u b j) stops head)
       ((exact_end s).answers tokens))
   up_to_at n s tokens false is next = either_closed s tokens (and_then (p tokens) (λ a. reading.turns_up_to close step p n (step s a)))
       (right_answer (λ i w r. Joined (lang.token close) (λ _. lang.give s) w r) (λ i w r. Joined (L i) (λ a. Closed close (L i) step (step s a)) w r) [] [] tokens (and_then (p tokens) (λ a. reading.turns_up_to close step p n (step s a))) refl
       (λ i u v b j _ head. dead_off (close ∷ []) (close ∷ []) u v tokens (within_self (close ∷ [])) ((tells_sees close is_plain).off tokens is) ((shape_end s).starts i u b j) head)
-      (answer_then (close ∷ F) C1 [] false L (λ i a. Closed close (L i) step (step s a)) l.shape.grows (λ a. shape_closed (step s a)) apart_next (λ e. absurd (no_yes e)) tokens (p tokens) (λ a. reading.turns_up_to close step p n (step s a)) (l.answers tokens) next))
+      (answer_then (close ∷ F) C1 [] false L (λ i a. Closed close (L i) step (step s a)) l.shape.grows (λ a. shape_closed (step s a)) apart_next (λ e. absurd (false≢true e)) tokens (p tokens) (λ a. reading.turns_up_to close step p n (step s a)) (l.answers tokens) next))
 
   pub up_to_answer : (n : ℕ) (s : S) (tokens : List Token) → length tokens < n → Answer [] (λ i. Closed close (L i) step s) tokens (reading.turns_up_to close step p n s tokens)
   unfolding reading.turns_up_to

@@ -13,6 +13,7 @@ use Rattle.darwin_parser.specs.Tree.{Name}
 use Rattle.darwin_types.specs.Check.{SameLookups}
 use Rattle.base.proofs.BytesLaws.{lookup-append}
 use Rattle.base.proofs.MapLaws.{map-take_more}
+use Rattle.base.proofs.OptionLaws.{None-from_map}
 
 abbrev pub Entry : Type 0
 Entry = Bor (List ℕ) × Bor (List ℕ)
@@ -30,10 +31,6 @@ lookup-names_in [] x = refl
 lookup-names_in (e ∷ es) x =
     elim (bytes_eq x e.0.now) as (λ b. cond b (Some e.1.now) (lookup (bytes_eq x) (map names_in es)) ≡ option_map (λ k. k.now) (cond b (Some e.1) (lookup (is_name x) es)))
     [ true ↦ refl | false ↦ lookup-names_in es x ]
-
-None-from_map : {A B : Type 0} (f : A → B) (o : Option A) → option_map f o ≡ None → o ≡ None
-None-from_map f None h = refl
-None-from_map f (Some x) h = cc
 
 -- a name that isn't there goes last
 pub names_in-insert_entry : (es : List Entry) (k v : Bor (List ℕ)) → lookup (bytes_eq k.now) (map names_in es) ≡ None → map names_in (insert_entry (λ x y. bytes_eq x.now y.now) es k v) ≡ map names_in es ++ (k.now, v.now) ∷ []

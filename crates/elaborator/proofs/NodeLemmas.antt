@@ -172,10 +172,6 @@ nodes_in-push e numbers m i node numbered is_node =
     node_at : ℕ → Option Node
     node_at n = option_and_then (λ (x : NumberedInstance). node_of x.instance) (slice_get e.made n)
 
-pub option_map_none : {A B : Type 0} (f : A → B) (o : Option A) → option_map f o ≡ None → o ≡ None
-option_map_none f None is = refl
-option_map_none f (Some x) is = absurd (none-some (f x) (sym is))
-
 -- the node is that of the kind, where this is its kind
 pub node_of_kind : (i : Instance) (n : Node) (kind : Kind) → node_of i ≡ Some n → n.kind ≡ kind → n ≡ node_with i kind
 node_of_kind i n kind is same =

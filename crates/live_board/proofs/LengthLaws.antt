@@ -5,6 +5,7 @@ use Rattle.std.proofs.lemmas.Bool.{cases_eq, eq-eqb, ne_eqb}
 use Rattle.change_board.specs.Sights.{Sight, seen_in}
 use Rattle.quiesce_core.specs.declared.event.Event.{Event}
 use Rattle.live_board.specs.Lengths.{AreLengths, length_at, length_in, noted}
+use Rattle.base.proofs.OptionLaws.{None-from_map}
 
 abbrev at_slot : ℕ → Sight → Bool
 at_slot n s = s.slot == n
@@ -27,10 +28,6 @@ seen_next (s ∷ a) b n at = by (seen_next a b n) (at_slot n s) at
         → option_map (λ (x : Sight). x.events) (cond t (Some s) (find (at_slot n) (a ++ b))) ≡ seen_in b n
     by rest true h = absurd (cc)
     by rest false h = rest h
-
-none_of : {A B : Type 0} (f : A → B) (o : Option A) → option_map f o ≡ None → o ≡ None
-none_of f None h = refl
-none_of f (Some x) h = absurd (cc)
 
 one_seen : (s : Sight) (n : ℕ) → seen_in (s ∷ []) n ≡ cond (at_slot n s) (Some s.events) None
 one_seen s n = by (at_slot n s)
@@ -55,7 +52,7 @@ lengths_noted before lengths s h = by (length_at lengths s.slot) refl
         seen (Some es) at = h n few ∙ ap (option_map length) (at ∙ sym (seen_first before (s ∷ []) n es at))
 
     unseen : (n : ℕ) → n < length lengths → length_at lengths n ≡ None → length_in (before ++ s ∷ []) n ≡ option_map length (cond (at_slot n s) (Some s.events) None)
-    unseen n few is = ap (option_map length) (seen_next before (s ∷ []) n (none_of length (seen_in before n) (sym (h n few) ∙ is)) ∙ one_seen s n)
+    unseen n few is = ap (option_map length) (seen_next before (s ∷ []) n (None-from_map length (seen_in before n) (sym (h n few) ∙ is)) ∙ one_seen s n)
 
     by : (o : Option ℕ) → length_at lengths s.slot ≡ o → AreLengths (before ++ s ∷ []) (cond (is_none o) (set lengths s.slot (Some (length s.events))) lengths)
     by (Some k) is n few = at_old n few (length_at lengths n) refl (λ none_. ⊎_elim

@@ -1,9 +1,9 @@
 -- What the rules of a make give to the node that is made.
-use Rattle.std.proofs.Common.{◌≡◌, ◌∙◌, ℕ, ◌+◌, ◌<◌, ◌≤◌, true, false, not, ◌&&◌, List, [], ◌∷◌, ◌++◌, length, map, Option, Some, None, refl, ap, sym, subst}
-use Rattle.std.specs.Prelude.{is_some, nat_le, nat_lt, ◌==◌, find}
+use Rattle.std.proofs.Common.{◌≡◌, ◌∙◌, ℕ, ◌+◌, ◌<◌, ◌≤◌, false, not, ◌&&◌, List, [], ◌∷◌, ◌++◌, length, map, Option, Some, None, refl, ap, sym, subst}
+use Rattle.std.specs.Prelude.{is_some, nat_le, nat_lt, ◌==◌}
 use Rattle.std.specs.List.{AllByRecursion, filter_map}
 use Rattle.std.specs.Option.{option_map_or}
-use Rattle.std.proofs.lemmas.Bool.{and_parts, eqb-true, leb-true, ltb-true, not-true}
+use Rattle.std.proofs.lemmas.Bool.{and_parts, leb-true, ltb-true, not-true}
 use Rattle.std.proofs.lemmas.Option.{same_Some}
 use Rattle.base.proofs.OptionLaws.{map_or_at, map_or_true, option_map_some}
 use Rattle.base.proofs.PlaceLaws.{slice_get-front}
@@ -23,7 +23,7 @@ use Rattle.node_gate.specs.Seats.{IsWithinLimits, NodeAt}
 use Rattle.node_host.specs.Hosted.{IsHosted, SeatSeen}
 use Rattle.node_host.specs.Lines.{LineNode}
 use Rattle.node_turn_laws.specs.Agreement.{ServicesAgree}
-use Rattle.quiesce_core.proofs.ArgumentLaws.{argument_fits}
+use Rattle.quiesce_core.proofs.ArgumentLaws.{argument_fits, kinds_are_one}
 use Rattle.quiesce_core.proofs.KnownLaws.{service_of_log}
 use Rattle.quiesce_core.proofs.SourceLaws.{new_slot}
 use Rattle.quiesce_core.specs.Effect.{with_node}
@@ -70,26 +70,6 @@ module _ (c : Configuration) (node : Node) (from : Option ℕ) (may : CanMake c 
       subst (λ j. FitsKind j node.arg) is (record { there = f.0; small = f.1 })
 
 -- ---- the source of a make was removed, and is of its kind
-
-abbrev kinds : List Kind
-kinds = kind.Philosopher ∷ kind.Place ∷ kind.Fork ∷ kind.Source ∷ kind.Map ∷ kind.Buffer ∷ kind.Sink ∷ kind.Teller ∷ kind.Branch ∷ kind.Account ∷ kind.Asker ∷ kind.Adder ∷ []
-
-by_number : (k : Kind) → find (λ (j : Kind). (row j).number == (row k).number) kinds ≡ Some k
-by_number kind.Philosopher = refl
-by_number kind.Place = refl
-by_number kind.Fork = refl
-by_number kind.Source = refl
-by_number kind.Map = refl
-by_number kind.Buffer = refl
-by_number kind.Sink = refl
-by_number kind.Teller = refl
-by_number kind.Branch = refl
-by_number kind.Account = refl
-by_number kind.Asker = refl
-by_number kind.Adder = refl
-
-kinds_are_one : (j k : Kind) → is_kind j k ≡ true → j ≡ k
-kinds_are_one j k h = same_Some j k (sym (by_number j) ∙ ap (λ i. find (λ (x : Kind). (row x).number == i) kinds) (eqb-true (row j).number (row k).number h) ∙ by_number k)
 
 pub record IsSource (c : Configuration) (k : ℕ) (node : Node) : Type 0 where
   pub old : Slot

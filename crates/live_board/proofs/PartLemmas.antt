@@ -1,5 +1,5 @@
 -- Each node of a line has come to something.
-use Rattle.std.proofs.Common.{◌≡◌, ◌∙◌, ℕ, true, false, List, [], ◌∷◌, ◌++◌, map, Option, Some, None, refl, sym, ap, ⊎_elim}
+use Rattle.std.proofs.Common.{◌≡◌, ◌∙◌, ℕ, true, false, List, [], ◌∷◌, ◌++◌, map, Option, Some, sym, ap, ⊎_elim}
 use Rattle.std.specs.Prelude.{◌||◌, option_and_then}
 use Rattle.std.specs.List.{AllByRecursion, list_any}
 use Rattle.std.proofs.lemmas.Bool.{both_ways, cases_Bool, eqb-true}
@@ -8,10 +8,7 @@ use Rattle.config_graph.specs.declared.kind.Kind.{Kind}
 use Rattle.node_host.specs.Lines.{line_node_state, line_state}
 use Rattle.quiesce_core.specs.State.{Configuration}
 use Rattle.live_laws.specs.Lines.{IsMadeLine, LineSight, is_in_slot, line_node}
-
-first_some : {A B : Type 0} (f : A → Option B) (o : Option A) (y : B) → option_and_then f o ≡ Some y → (x : A) × (o ≡ Some x) × (f x ≡ Some y)
-first_some f None y h = absurd (cc)
-first_some f (Some x) y h = (x, refl, h)
+use Rattle.base.proofs.OptionLaws.{made_of_one}
 
 -- the node of slot n in a line, with those before it
 pub record Part (c : Configuration) (k : Kind) (P : LineSight → Type 0) (from : Option ℕ) (before : Option Kept) (n : ℕ) : Type 0 where
@@ -32,7 +29,7 @@ module _ (c : Configuration) (k : Kind) (P : LineSight → Type 0) where
       (λ (other : is_in_slot n x ≡ false). absurd (both_ways (is_in_slot n x || false) (ap (λ b. b || false) other) has))
       (cases_Bool (is_in_slot n x))
   part_of from before (y ∷ xs) x t n made all folds has =
-      let s = first_some (λ (s : NodeState). line_state k (Some s.kept) (map line_node xs) (line_node x)) (line_node_state k before (line_node y)) t folds in ⊎_elim
+      let s = made_of_one (λ (s : NodeState). line_state k (Some s.kept) (map line_node xs) (line_node x)) (line_node_state k before (line_node y)) t folds in ⊎_elim
       (λ (here : is_in_slot n y ≡ true). record { past = []; last = y; is_last = eqb-true y.slot n here; made = (made.0, tt); all = (all.0, tt); holds = all.0; state = s.0; folds = s.1 })
       (λ (other : is_in_slot n y ≡ false).
       let rest = part_of (Some y.slot) (Some (s.0).kept) xs x t n made.1 all.1 s.2 (sym (ap (λ b. b || list_any (is_in_slot n) (xs ++ x ∷ [])) other) ∙ has) in

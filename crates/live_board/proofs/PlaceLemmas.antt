@@ -6,6 +6,7 @@ use Rattle.std.proofs.lemmas.Bool.{cases_Bool, cases_eq}
 use Rattle.std.proofs.lemmas.List.{take_more}
 use Rattle.std.proofs.lemmas.Option.{get_or_from_slice_get, slice_get-get_or}
 use Rattle.base.proofs.PlaceLaws.{slice_get-below, slice_get-map_at}
+use Rattle.base.proofs.RangeLaws.{range_at}
 
 mapped_from : {A B : Type 0} (f : A → B) (g : ℕ → B) (xs : List A) (a : ℕ) → ((i : ℕ) (x : A) → slice_get xs i ≡ Some x → f x ≡ g (a + i)) → map f xs ≡ map g (range_with_len a (length xs))
 mapped_from f g [] a h = refl
@@ -17,13 +18,8 @@ mapped_from f g (x ∷ xs) a h =
 pub mapped_all : {A B : Type 0} (f : A → B) (g : ℕ → B) (xs : List A) → ((i : ℕ) (x : A) → slice_get xs i ≡ Some x → f x ≡ g i) → map f xs ≡ map g (range_with_len 0 (length xs))
 mapped_all f g xs h = mapped_from f g xs 0 (λ i x at. h i x at ∙ ap g (sym (zero-add i)))
 
-range_from : (a n i : ℕ) → i < n → slice_get (range_with_len a n) i ≡ Some (a + i)
-range_from a zero i few = absurd (omega (arith, few))
-range_from a (suc n) zero few = let e : a ≡ a + 0 = omega arith in ap Some e
-range_from a (suc n) (suc i) few = let e : (a + 1) + i ≡ a + suc i = omega arith in range_from (a + 1) n i (omega (arith, few)) ∙ ap Some e
-
 pub number_at : (n i : ℕ) → i < n → slice_get (range_with_len 0 n) i ≡ Some i
-number_at n i few = range_from 0 n i few ∙ ap Some (zero-add i)
+number_at n i few = range_at 0 n i few ∙ ap Some (zero-add i)
 
 pub mapped_at : {B : Type 0} (g : ℕ → B) (n i : ℕ) → i < n → slice_get (map g (range_with_len 0 n)) i ≡ Some (g i)
 mapped_at g n i few = slice_get-map_at g (range_with_len 0 n) i i (number_at n i few)

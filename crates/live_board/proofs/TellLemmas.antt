@@ -1,7 +1,7 @@
 -- How the logs of slots end, told one after the other.
 use Rattle.std.proofs.Common.{◌≡◌, ◌∙◌, ℕ, ◌+◌, ◌<◌, Bool, true, List, [], ◌∷◌, ◌++◌, length, map, Option, Some, None, refl, sym, ap, subst, ⊎_elim, arith, length-append}
 use Rattle.std.specs.Prelude.{Err, IfOk, Ok, Result, slice_get, slice_index_or}
-use Rattle.std.specs.List.{AllByRecursion, range_with_len}
+use Rattle.std.specs.List.{range_with_len}
 use Rattle.std.proofs.lemmas.List.{map-append}
 use Rattle.std.proofs.lemmas.Option.{get_or_from_slice_get}
 use Rattle.base.proofs.PlaceLaws.{slice_get-front, slice_get-last, slice_get-snoc, slice_get-there}
@@ -16,10 +16,6 @@ use Rattle.report_types.specs.declared.report.Last.{Last}
 use Rattle.report_types.specs.declared.report.Last.TheVariants.{State, Moved}
 use Rattle.report_types.specs.declared.report.NodeLog.{NodeLog}
 use Rattle.state_handover.specs.declared.any_node.AnyNode.{AnyNode}
-
-pub holds_of_both : {A : Type 0} (P : A → Type 0) (xs ys : List A) → AllByRecursion P xs → AllByRecursion P ys → AllByRecursion P (xs ++ ys)
-holds_of_both P [] ys a b = b
-holds_of_both P (x ∷ xs) ys a b = (a.0, holds_of_both P xs ys a.1 b)
 
 some_same : (a b : ℕ) → Some a ≡ Some b → a ≡ b
 some_same a b h = cc

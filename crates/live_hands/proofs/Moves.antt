@@ -10,6 +10,7 @@ use Rattle.crossbeam_queue.proofs.Lists.{at_set, at_snoc, set_again}
 use Rattle.config_graph.specs.declared.TheConstants.{MAX_PORTS}
 use Rattle.live_hands.specs.declared.known.Known.{Known}
 use Rattle.live_hands.specs.Inbox.{FitsHand, HeldFor, IsInbox, Marked, by, joined, known, ports}
+use Rattle.base.proofs.NumberLaws.{same_number}
 
 ports-snoc : (xs : List Marked) (x : Marked) → ports (xs ++ x ∷ []) ≡ ports xs ++ x.1 ∷ []
 ports-snoc [] x = refl
@@ -19,14 +20,11 @@ joined-snoc : (b : Bool) (p x : ℕ) (xs : List ℕ) → joined b p (xs ++ x ∷
 joined-snoc true p x xs = refl
 joined-snoc false p x xs = refl
 
-same : (n : ℕ) → (n == n) ≡ true
-same n = grind (arith, nat_tests)
-
 other : (m n : ℕ) → n ≢ m → (m == n) ≡ false
 other m n apart = grind (arith, nat_tests)
 
 by-own : (n : ℕ) (xs : List Marked) (p : ℕ) → by n (xs ++ (n, p) ∷ []) ≡ by n xs ++ p ∷ []
-by-own n [] p = ap (λ b. joined b p []) (same n)
+by-own n [] p = ap (λ b. joined b p []) (same_number n)
 by-own n (y ∷ ys) p = ap (joined (y.0 == n) y.1) (by-own n ys p) ∙ joined-snoc (y.0 == n) y.1 p (by n ys)
 
 by-other : (n : ℕ) (xs : List Marked) (m p : ℕ) → n ≢ m → by n (xs ++ (m, p) ∷ []) ≡ by n xs

@@ -26,6 +26,7 @@ use Rattle.change_law.specs.Scene.{config_after}
 use Rattle.merge_laws.specs.Alone.{fold_told}
 use Rattle.merge_laws.proofs.AloneLemmas.{config_is, fold_is}
 use Rattle.merge_laws.proofs.RootPortLemmas.{folded}
+use Rattle.base.proofs.OptionLaws.{None-from_is_some}
 
 -- ---- a fold and the events agree on whether the node is in a service
 
@@ -76,10 +77,6 @@ nothing_known : (s : State) (u : Option Served) → KnowsService s None u → is
 nothing_known s None h = refl
 nothing_known s (Some v) h = absurd h
 
-none_if : {A : Type 0} (o : Option A) → is_some o ≡ false → o ≡ None
-none_if None h = refl
-none_if (Some x) h = absurd (both_ways true h refl)
-
 pub gone_rests : (es : List Event) → IsRun es → (n : ℕ) (m : Slot) (z : NodeState) → slot (state_after es).config n ≡ Some m → m.live ≡ false → fold_of_node es n ≡ Some z → z.service ≡ None
 gone_rests es run n m z there gone is =
     let s = state_after es in
@@ -91,7 +88,7 @@ gone_rests es run n m z there gone is =
     let f = folded es n m z there is in
     let start = at_rest m.node.kind (argument_of m) f.kept in
     let agrees = agree_after m.first_port z None (Some start) (done_by n es) (λ t same. ap (λ (x : NodeState). is_some x.service) (sym (same_Some start t same))) f.folds in
-    none_if z.service (agrees ∙ served)
+    None-from_is_some z.service (agrees ∙ served)
 
 -- ---- so the logs of reports
 

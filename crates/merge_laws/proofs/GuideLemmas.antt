@@ -22,7 +22,7 @@ use Rattle.quiesce_laws.specs.Drained.{is_drained}
 use Rattle.quiesce_laws.specs.Events.{is_root_of, reopens}
 use Rattle.quiesce_laws.specs.Roots.{has_root}
 use Rattle.quiesce_laws.proofs.DrainingLaws.{no_node_reopens}
-use Rattle.quiesce_laws.proofs.RootLaws.{closed_stays, root_when_closed}
+use Rattle.quiesce_laws.proofs.RootLaws.{closed_stays, root_when_closed, closed_by}
 use Rattle.config_graph.specs.Kinds.{is_depended_on}
 use Rattle.config_graph.specs.declared.node.Node.{Node}
 use Rattle.base.proofs.PlaceLaws.{heads_are, slice_get-below}
@@ -31,9 +31,7 @@ use Rattle.quiesce_core.specs.declared.state.Slot.{Slot}
 use Rattle.quiesce_core.specs.WellFormed.{IsSound}
 use Rattle.quiesce_laws.specs.Configurations.{Extends}
 use Rattle.quiesce_laws.proofs.ExchangeLaws.{PortStep, stays, begins, calls, ends, port_step}
-use Rattle.quiesce_core.specs.declared.state.Gate.{Gate}
 use Rattle.quiesce_core.specs.Effect.{effect}
-use Rattle.quiesce_core.proofs.AlterLaws.{reconfigured}
 use Rattle.quiesce_laws.proofs.ExtensionLaws.{closed_next, extends_further, extends_next, read_before}
 use Rattle.quiesce_laws.proofs.RootsSeenLaws.{open_root_is_seen}
 use Rattle.merge_laws.specs.Guided.{Guided}
@@ -144,18 +142,11 @@ called_grows c d sound grown p made =
     ∙ read_before c d grown (owner c p) (slice_get-below c.slots (owner c p) o.node o.made) (λ (m : Slot). is_depended_on m.node.kind (gate c p).require) false
     (λ a b same first. ap (λ (k : Node). is_depended_on k.kind (gate c p).require) same)
 
--- a port is shut behind its close
-shut_by : (a b : List Event) (p : ℕ) → IsRun (a ++ event.Close p ∷ b) → (gate (state_after (a ++ event.Close p ∷ [])).config p).closed ≡ true
-shut_by a b p run =
-    let at = place a b (event.Close p) run in
-    ap (λ (s : State). (gate s.config p).closed) at.next ∙ ap (λ (g : Gate). g.closed) ((reconfigured (state_after a) (event.Close p) at.legal).gates p)
-    ∙ ap (λ b. (cond b (record (gate (state_after a).config p) { closed = true }) (gate (state_after a).config p)).closed) (eq-eqb p p refl)
-
 pub shut_on : (a b : List Event) (p : ℕ) → IsRun (a ++ event.Close p ∷ b) → list_any (reopens p) b ≡ false → (gate (state_after (a ++ event.Close p ∷ b)).config p).closed ≡ true
 shut_on a b p run none_ =
     let split : (a ++ event.Close p ∷ []) ++ b ≡ a ++ event.Close p ∷ b = append_assoc a (event.Close p ∷ []) b in
     subst (λ es. (gate (state_after es).config p).closed ≡ true) split
-    (closed_stays (a ++ event.Close p ∷ []) b p (subst IsRun (sym split) run) none_ (shut_by a b p run))
+    (closed_stays (a ++ event.Close p ∷ []) b p (subst IsRun (sym split) run) none_ (closed_by a b p run))
 
 -- a port that is shut, and at which no service calls, keeps its serial
 record Keeps (s t : State) (p : ℕ) : Type 0 where
@@ -189,7 +180,7 @@ keeps_serial a b p run none_ uncalled =
     let made = gate_place (state_after a) p at.legal.live in
     let split : (a ++ event.Close p ∷ []) ++ b ≡ a ++ event.Close p ∷ b = append_assoc a (event.Close p ∷ []) b in
     let first : Keeps (state_after a) (state_after (a ++ event.Close p ∷ [])) p = record {
-      shut = shut_by a b p run;
+      shut = closed_by a b p run;
       uncalled = ap (λ (t : State). is_called_at t.config p) at.next ∙ called_grows (state_after a).config (effect (state_after a) (event.Close p)).config at.well.sound grown p made ∙ uncalled;
       made = subst (λ (t : State). p < length t.config.gates) (sym at.next) (omega (arith, made, grown.many));
       serial = ap (λ (t : State). (exchange t p).serial) at.next;

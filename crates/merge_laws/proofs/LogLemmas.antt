@@ -28,15 +28,14 @@ use Rattle.quiesce_core.proofs.TableLaws.{live_made}
 use Rattle.quiesce_swap_laws.proofs.DoerLaws.{by_owner, by_target, found, nodes_do_no_change, port_of}
 use Rattle.report_types.specs.declared.report.HistoryLine.{HistoryLine}
 use Rattle.report_types.specs.declared.report.HistoryLine.TheVariants as to
-use Rattle.report_types.specs.declared.report.Last.{Last}
 use Rattle.report_types.specs.declared.report.NodeLog.{NodeLog}
 use Rattle.report_types.specs.declared.report.Report.{Report}
 use Rattle.change_law.specs.Endings.{moved_to}
-use Rattle.change_law.specs.Lawful.{EndsAs, IsFolded, IsLawfulBy, IsLogIn, IsOfItsKind}
+use Rattle.change_law.specs.Lawful.{IsFolded, IsLawfulBy, IsLogIn, IsOfItsKind}
 use Rattle.change_law.specs.Members.{Member, event_of, events, lines, made_slot, without_roots}
 use Rattle.change_law.specs.Opening.{fold_of_node}
 use Rattle.change_law.specs.Statements.{Statement}
-use Rattle.change_law.proofs.MemberLaws.{changes_are_lines, events_without_roots}
+use Rattle.change_law.proofs.MemberLaws.{changes_are_lines, events_without_roots, ended_there}
 use Rattle.merge_laws.specs.Merges.{HasLogs, HasRootsApart}
 use Rattle.merge_laws.proofs.RootPortLemmas.{roots_are_free}
 
@@ -169,13 +168,6 @@ module _ (report : Report) (m : List Member) (one : map (λ (l : NodeLog). l.slo
 
 module _ (statements : List Statement) (report : Report) (m : List Member) (lawful : IsLawfulBy statements report m) where
   -- each node made has a fold
-  has_fold : (o : Option NodeState) (j : Option ℕ) (l : Last) → EndsAs o j l → (z : NodeState) × (o ≡ Some z)
-  has_fold None j l h = absurd (none_ends j l h)
-    where
-      none_ends : (j : Option ℕ) (l : Last) → EndsAs None j l → ⊥
-      none_ends j l h = h
-  has_fold (Some z) j l h = (z, refl)
-
   folds : (n : ℕ) (s : Slot) → slot (state_after (events m)).config n ≡ Some s → (z : NodeState) × (fold_of_node (events m) n ≡ Some z)
   folds n s is =
       let merge = lawful.merge in
@@ -183,7 +175,7 @@ module _ (statements : List Statement) (report : Report) (m : List Member) (lawf
       let d = (slice_get-there report.logs n low).0 in
       let l = get_or report.logs n d in
       let ends : IsFolded m report.history l = lawful.folds n d low in
-      let z = has_fold (fold_of_node (events m) l.slot) (moved_to report.history l.slot) l.last ends in
+      let z = ended_there (fold_of_node (events m) l.slot) (moved_to report.history l.slot) l.last ends in
       (z.0, ap (fold_of_node (events m)) (sym (slot_is report m merge.one_log_a_node merge.by_nodes merge.history lawful.runs n d low)) ∙ z.1)
 
   pub has_roots_apart : HasRootsApart m

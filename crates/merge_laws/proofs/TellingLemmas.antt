@@ -3,7 +3,7 @@ use Rattle.std.proofs.Common.{◌≡◌, ◌∙◌, ℕ, ◌+◌, ◌<◌, ◌�
 use Rattle.std.specs.Prelude.{◌==◌, ◌⊎◌, ℤ}
 use Rattle.std.specs.List.{count_by, list_any, range_with_len}
 use Rattle.std.specs.List.Sorted.{IsStrictlyIncreasing}
-use Rattle.std.proofs.lemmas.Bool.{both_ways, cases_Bool, eq-eqb, eqb-true, or_left, or_parts, or_right}
+use Rattle.std.proofs.lemmas.Bool.{both_ways, cases_Bool, eqb-true, or_left, or_parts, or_right}
 use Rattle.std.proofs.lemmas.List.{append_cancel_left}
 use Rattle.std.proofs.lemmas.List.Folds.{list_any-append}
 use Rattle.std.proofs.lemmas.List.Kept.{IsStrictlyIncreasing-filter}
@@ -33,6 +33,7 @@ use Rattle.change_law.proofs.TestLaws.{counted_some, none_both, none_mapped, ran
 use Rattle.merge_laws.specs.Guarded.{tells}
 use Rattle.merge_laws.specs.Telling.{IsShutBy, IsTold, IsToldOf, reopens_there}
 use Rattle.merge_laws.proofs.DescentLemmas.{rise_first, rise_tail}
+use Rattle.base.proofs.NumberLaws.{same_number}
 
 -- ---- lists
 
@@ -165,9 +166,6 @@ record IsHeard (closed : List ℕ) (heard : List HistoryLine) : Type 0 where
   shut : (p : ℕ) → list_any (reopens_there p) heard ≡ false
   no_close : list_any is_close heard ≡ false
 
-eq_true : (p : ℕ) → (p == p) ≡ true
-eq_true p = eq-eqb p p refl
-
 module _ (closed : List ℕ) (heard : List HistoryLine) (once : (p : ℕ) → count_by (λ q. q == p) closed ≤ 1) (h : IsHeard closed heard) where
   abbrev cs : List HistoryLine
   cs = map to.Close closed
@@ -181,7 +179,7 @@ module _ (closed : List ℕ) (heard : List HistoryLine) (once : (p : ℕ) → co
   told_behind : (p : ℕ) (c z r : List HistoryLine) → cs ++ heard ≡ c ++ to.Close p ∷ r → cs ≡ c ++ to.Close p ∷ z → IsToldOf p r
   told_behind p c z r whole first =
       let listed : list_any (λ q. q == p) closed ≡ true =
-      sym (list_any-map (closes_there p) to.Close closed) ∙ ap (list_any (closes_there p)) first ∙ there (closes_there p) c (to.Close p) z (eq_true p) in
+      sym (list_any-map (closes_there p) to.Close closed) ∙ ap (list_any (closes_there p)) first ∙ there (closes_there p) c (to.Close p) z (same_number p) in
       let w = first_in (tells p) heard (counted_some (tells p) heard (omega (arith, h.counts p, count_by-some (λ q. q == p) closed listed))) in
       record {
         between = z ++ w.before;
@@ -198,7 +196,7 @@ module _ (closed : List ℕ) (heard : List HistoryLine) (once : (p : ℕ) → co
   shut_before p k c z r at place =
       let all : count_by (tells p) heard ≡ count_by (tells p) z + count_by (tells p) (to.Root p k ∷ r) =
       ap (count_by (tells p)) at ∙ count_by-append (tells p) z (to.Root p k ∷ r) in
-      let here : 1 ≤ count_by (tells p) (to.Root p k ∷ r) = count_by-some (tells p) (to.Root p k ∷ r) (or_left (p == p) (list_any (tells p) r) (eq_true p)) in
+      let here : 1 ≤ count_by (tells p) (to.Root p k ∷ r) = count_by-some (tells p) (to.Root p k ∷ r) (or_left (p == p) (list_any (tells p) r) (same_number p)) in
       let none : list_any (tells p) z ≡ false = ⊎_elim
       (λ (some_ : list_any (tells p) z ≡ true). absurd (omega (arith, count_by-some (tells p) z some_, all, here, h.counts p, once p)))
       (λ (none : list_any (tells p) z ≡ false). none) (cases_Bool (list_any (tells p) z)) in

@@ -11,6 +11,7 @@ use Rattle.node_turn_laws.specs.Turn.{post, post_one, post_waiting, with_hint, w
 use Rattle.node_turn_laws.specs.World.{World, first_port, inbox, waiting_of}
 use Rattle.node_host.specs.Posting.{PostsWaiting, Hinted, IsPosted, Looked, Reposted}
 use Rattle.node_host.specs.Trying.{own_box, own_post}
+use Rattle.std.proofs.Math.Nat.{add-zero}
 
 -- the hints of node n, of so many requirements, are as the world has them, and so are all inboxes
 pub record Agree (w : World) (n r : ℕ) (h : Hinted) : Type 0 where
@@ -249,10 +250,7 @@ module _ (w : World) (n r : ℕ) (h posted : Hinted) (first : ℕ) (a : Agree w 
       same_Some (inbox (post_waiting w n) n) (own_box n first h.waiting (inbox w n))
       (sym (waiting_posted.0.told n) ∙ two_told
       ∙ ap (λ o. Some (own_post n (first + 1) o (own_post n (first + 0) (get_or h.waiting 0 None) (inbox w n)))) second_is
-      ∙ ap (λ f. Some (own_post n (first + 1) (get_or h.waiting 1 None) (own_post n f (get_or h.waiting 0 None) (inbox w n)))) (omega_zero first))
-    where
-      omega_zero : (x : ℕ) → x + 0 ≡ x
-      omega_zero x = omega arith
+      ∙ ap (λ f. Some (own_post n (first + 1) (get_or h.waiting 1 None) (own_post n f (get_or h.waiting 0 None) (inbox w n)))) (add-zero first))
 
 -- ---- the node's inbox is asked
 

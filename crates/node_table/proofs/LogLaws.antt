@@ -13,6 +13,7 @@ use Rattle.node_table.specs.Holding.{HoldsIn}
 use Rattle.node_table.specs.Lines.{IsPast, behind, first_of_line, predecessor}
 use Rattle.node_table.specs.Worlds.{ShowsIn}
 use Rattle.node_turn_laws.specs.World.{World}
+use Rattle.std.proofs.Math.Nat.{add-zero}
 
 past_logs : (es : List Event) (n : ℕ) (ms : List Predecessor) → IsPast es n ms → (i : ℕ) (m : Predecessor) → slice_get ms i ≡ Some m → m.log ≡ done_by m.slot es
 past_logs es _ _ (first_of_line n s at none_) i m is = absurd (none-some m is)
@@ -34,12 +35,9 @@ log_is s nodes ends es h n (gone y) at =
 by_place : {A B : Type 0} (f : A → B) (g : ℕ → B) (xs : List A) (k : ℕ) → ((i : ℕ) (x : A) → slice_get xs i ≡ Some x → f x ≡ g (k + i)) → map f xs ≡ map g (range_with_len k (length xs))
 by_place f g [] k same = refl
 by_place f g (x ∷ xs) k same =
-    ap (λ y. y ∷ map f xs) (same 0 x refl ∙ ap g (plus_zero k))
+    ap (λ y. y ∷ map f xs) (same 0 x refl ∙ ap g (add-zero k))
     ∙ ap (λ ys. g k ∷ ys) (by_place f g xs (k + 1) (λ i y is. same (suc i) y is ∙ ap g (shift k i)))
   where
-    plus_zero : (a : ℕ) → a + 0 ≡ a
-    plus_zero a = omega arith
-
     shift : (a i : ℕ) → a + suc i ≡ a + 1 + i
     shift a i = omega arith
 

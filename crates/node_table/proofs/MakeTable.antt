@@ -1,8 +1,8 @@
 -- A node is made in a table.
 use Rattle.std.proofs.Common.{◌≡◌, ◌∙◌, ◌⊎◌, ℕ, ◌+◌, ◌<◌, ◌≤◌, true, false, not, ◌&&◌, List, [], ◌∷◌, ◌++◌, length, map, set, Option, Some, None, refl, ap, sym, subst, ⊎_elim, inl, inr, arith, length-append}
-use Rattle.std.specs.Prelude.{slice_get, is_some, option_map, nat_le, nat_lt, ◌==◌, find}
+use Rattle.std.specs.Prelude.{slice_get, is_some, option_map, nat_le, nat_lt, ◌==◌}
 use Rattle.std.specs.Option.{option_map_or}
-use Rattle.std.proofs.lemmas.Bool.{and_parts, both_ways, eq-eqb, eqb-true, leb-true, ltb-true, not-true}
+use Rattle.std.proofs.lemmas.Bool.{and_parts, both_ways, eq-eqb, leb-true, ltb-true, not-true}
 use Rattle.std.proofs.lemmas.List.{length-map, length-set}
 use Rattle.std.proofs.lemmas.Option.{same_Some}
 use Rattle.base.proofs.OptionLaws.{map_or_at, map_or_true}
@@ -20,7 +20,7 @@ use Rattle.quiesce_core.specs.Runs.{Step, state_after}
 use Rattle.quiesce_core.specs.State.{Configuration, State, slot}
 use Rattle.quiesce_core.specs.declared.event.Event.TheVariants.{Make}
 use Rattle.quiesce_core.specs.declared.state.Slot.{Slot}
-use Rattle.quiesce_core.proofs.ArgumentLaws.{argument_fits}
+use Rattle.quiesce_core.proofs.ArgumentLaws.{argument_fits, kinds_are_one}
 use Rattle.quiesce_core.proofs.LegalLaws.{legal}
 use Rattle.node_gate.specs.Seats.{IsWithinLimits}
 use Rattle.state_handover.specs.Making.{FitsKind}
@@ -62,26 +62,6 @@ make_fits s n node from k is may =
     subst (λ j. FitsKind j node.arg) is (record { there = f.0; small = f.1 })
 
 -- the source of a make was removed, and is of its kind
-abbrev kinds : List Kind
-kinds = kind.Philosopher ∷ kind.Place ∷ kind.Fork ∷ kind.Source ∷ kind.Map ∷ kind.Buffer ∷ kind.Sink ∷ kind.Teller ∷ kind.Branch ∷ kind.Account ∷ kind.Asker ∷ kind.Adder ∷ []
-
-by_number : (k : Kind) → find (λ (j : Kind). (row j).number == (row k).number) kinds ≡ Some k
-by_number kind.Philosopher = refl
-by_number kind.Place = refl
-by_number kind.Fork = refl
-by_number kind.Source = refl
-by_number kind.Map = refl
-by_number kind.Buffer = refl
-by_number kind.Sink = refl
-by_number kind.Teller = refl
-by_number kind.Branch = refl
-by_number kind.Account = refl
-by_number kind.Asker = refl
-by_number kind.Adder = refl
-
-same_kind : (j k : Kind) → is_kind j k ≡ true → j ≡ k
-same_kind j k h = same_Some j k (sym (by_number j) ∙ ap (λ i. find (λ (x : Kind). (row x).number == i) kinds) (eqb-true (row j).number (row k).number h) ∙ by_number k)
-
 pub record IsSource (c : Configuration) (k : ℕ) (node : Node) : Type 0 where
   pub old : Slot
   pub there : slot c k ≡ Some old
@@ -94,7 +74,7 @@ source_of s n node k may =
     let here_ = (and_parts (option_map_or (λ (m : Slot). not m.live && is_kind m.node.kind node.kind) (slot s.config k) false) (not (was_moved s.config k)) l.moves).0 in
     let found = map_or_true (λ (m : Slot). not m.live && is_kind m.node.kind node.kind) (slot s.config k) here_ in
     let both = and_parts (not found.0.live) (is_kind found.0.node.kind node.kind) found.2 in
-    record { old = found.0; there = found.1; removed = not-true found.0.live both.0; kind_is = same_kind found.0.node.kind node.kind both.1 }
+    record { old = found.0; there = found.1; removed = not-true found.0.live both.0; kind_is = kinds_are_one found.0.node.kind node.kind both.1 }
 
 -- ---- what is shown then
 

@@ -21,6 +21,7 @@ use Rattle.quiesce_core.specs.declared.event.Event.TheVariants.{Begin, Call, Tak
 use Rattle.quiesce_core.specs.declared.known.Served.{Served}
 use Rattle.node_turn_laws.specs.Agreement.{Agrees, HandsSmall, HasNoCall, IsInTurn, IsSmall, ServiceIsSmall, ServicesAgree, expects, ports_next}
 use Rattle.node_turn_laws.proofs.KindTables.{ended_small, node, pushed_small, served_small, wanting_asks_nothing, wants_stay}
+use Rattle.base.proofs.NumberLaws.{same_number}
 
 -- a request is at one port
 pub same_request : (first p q : ℕ) (o : Option Request) → is_request_at first p o ≡ true → is_request_at first q o ≡ true → p ≡ q
@@ -129,13 +130,10 @@ after_call first k a kept (Some w) (Some u) ports p j v g none_ asked =
       services = record {
         waits = g.services.waits;
         all_but_one = omega (arith, g.services.all heard none_);
-        all = λ h still. absurd (both_ways true (subst (λ b. (cond b x (ports p)).idle ≡ false → (cond b x (ports p)).consequent ≡ false) (eqb_same p) (still p) refl) refl);
+        all = λ h still. absurd (both_ways true (subst (λ b. (cond b x (ports p)).idle ≡ false → (cond b x (ports p)).consequent ≡ false) (same_number p) (still p) refl) refl);
       };
       ports = one_changed (Expected first (node k a kept (Some w))) ports p x (λ busy. asked) (λ q other. g.ports q);
     }
-  where
-    eqb_same : (n : ℕ) → (n == n) ≡ true
-    eqb_same n = search rules
 
 after_miss : (first : ℕ) (k : Kind) (a : ℕ) (kept : Kept) (o : Option Service) (u : Option Served) (ports : ℕ → OwnPort) (p : ℕ) → Agrees first (node k a kept o) u ports → HasNoCall ports
     → calls_at first (node k a kept o) p ≡ true → Agrees first (moves.after_answer (node k a kept o) 0) (served_next u (Miss p)) ports

@@ -7,7 +7,7 @@ use Rattle.std.specs.Ordering.{nat_cmp, is_lt, ordering_reverse}
 use Rattle.std.specs.Cmp.Lexicographic.{slice_cmp, nat_list_cmp_total}
 use Rattle.std.specs.declared.cmp.Ordering.{Ordering}
 use Rattle.std.specs.declared.cmp.Ordering.TheVariants.{Less, Equal, Greater}
-use Rattle.std.proofs.lemmas.Bool.{both_ways, cases_Bool, cases_eq, cases_lt, eqb-false, eq-eqb, ne_eqb}
+use Rattle.std.proofs.lemmas.Bool.{both_ways, cases_Bool, cases_eq, cases_lt, eqb-false, ne_eqb}
 use Rattle.std.proofs.lemmas.Option.{slice_get-get_or, slice_get_within, get_or_from_slice_get, same_Some}
 use Rattle.std.proofs.lemmas.List.FromFn.{get_or-range_with_len, length-range_with_len}
 use Rattle.std.proofs.lemmas.List.Sorted.{ranks_by, sorted_far, Contains-permutation, IsPermutation-sym, length_permutation}
@@ -25,6 +25,7 @@ use Rattle.quiesce_core.proofs.TableLaws.{live_made}
 use Rattle.base.proofs.BytesLaws.{equal_bytes}
 use Rattle.base.proofs.ContainsLaws.{Contains-at, at_some_place}
 use Rattle.base.proofs.PlaceLaws.{slice_get-append_front, slice_get-last}
+use Rattle.base.proofs.NumberLaws.{eqb_flips}
 
 -- what a filter of a range keeps
 
@@ -43,11 +44,6 @@ filter_short p (x ∷ xs) =
 pub range_at : (k i : ℕ) → i < k → slice_get (range_with_len 0 k) i ≡ Some i
 range_at k i h =
     slice_get-get_or (range_with_len 0 k) i 0 (omega (arith, length-range_with_len 0 k)) ∙ ap Some (get_or-range_with_len 0 k i 0 h ∙ omega arith)
-
-eqb_flips : (x y : ℕ) → eqb x y ≡ eqb y x
-eqb_flips x y = ⊎_elim
-    (λ (same : x ≡ y). eq-eqb x y same ∙ sym (eq-eqb y x (sym same)))
-    (λ (other : x ≡ y → ⊥). ne_eqb x y other ∙ sym (ne_eqb y x (λ e. other (sym e)))) (cases_eq x y)
 
 distinct_kept : (p : ℕ → Bool) (k : ℕ) → IsDistinct eqb (filter p (range_with_len 0 k))
 distinct_kept p k = IsDistinct-from_apart eqb (filter p (range_with_len 0 k)) (λ i j d l u.

@@ -33,6 +33,7 @@ use Rattle.quiesce_core.proofs.StateLaws.{taken_is, taken_busy}
 use Rattle.base.proofs.OptionLaws.{Some-from_is_some}
 use Rattle.quiesce_core.specs.Alters.{exchange_by, is_message_at}
 use Rattle.quiesce_core.proofs.AlterLaws.{exchanges_next}
+use Rattle.base.proofs.NumberLaws.{same_number}
 
 -- what is said of one serial
 
@@ -157,9 +158,6 @@ module _ (s : State) (w : IsWellFormed s) (t : IsConsistent s) (positive : (p : 
   written : (e : Event) (q : ℕ) → Legal s e → is_message_at q e ≡ true → exchange (effect s e) q ≡ exchange_by (service s (owner s.config q)) (exchange s q) e
   written e q l it = exchanges_next s e w l q ∙ ap (λ b. cond b (exchange_by (service s (owner s.config q)) (exchange s q) e) (exchange s q)) it
 
-  at_itself : (q : ℕ) → (q == q) ≡ true
-  at_itself q = eq-eqb q q refl
-
   new_course : (s' : State) (q j v k : ℕ) (within : Option ℕ) → is_idle (exchange s q).phase ≡ true → j ≡ (exchange s q).serial + 1
       → exchange s' q ≡ record { phase = phase.Asked; serial = j; value = v; within = within } → heard_at s' q ≡ heard_at s q
       → cond (q == q && j == k) (on_begin (course_at s q k)) (Some (course_at s q k)) ≡ Some (course_at s' q k)
@@ -184,13 +182,13 @@ module _ (s : State) (w : IsWellFormed s) (t : IsConsistent s) (positive : (p : 
 
   -- the port's target does the event
   target_does : (q : ℕ) (u : Target) → target s.config q ≡ Some u → option_map_or (λ m. m == u.node) (option_map (λ (x : Target). x.node) (target s.config q)) false ≡ true
-  target_does q u leads = ap (λ o. option_map_or (λ m. m == u.node) (option_map (λ (x : Target). x.node) o) false) leads ∙ at_itself u.node
+  target_does q u leads = ap (λ o. option_map_or (λ m. m == u.node) (option_map (λ (x : Target). x.node) o) false) leads ∙ same_number u.node
 
   pub steps_to : (e : Event) (p k : ℕ) → Legal s e → StepsTo s e p k
   steps_to (Begin q j v) p k l = either (Begin q j v) q p k l (λ off. (off, refl))
-      (new_course (effect s (Begin q j v)) q j v k None l.idle (next_serial s q j l.next_serial) (written (Begin q j v) q l (at_itself q)) (heard_kept s (Begin q j v) q w t l refl refl))
+      (new_course (effect s (Begin q j v)) q j v k None l.idle (next_serial s q j l.next_serial) (written (Begin q j v) q l (same_number q)) (heard_kept s (Begin q j v) q w t l refl refl))
   steps_to (Call q j v) p k l = either (Call q j v) q p k l (λ off. (off, refl))
-      (new_course (effect s (Call q j v)) q j v k (option_map (λ (u : Service). u.port) (service s (owner s.config q))) l.idle (next_serial s q j l.next_serial) (written (Call q j v) q l (at_itself q))
+      (new_course (effect s (Call q j v)) q j v k (option_map (λ (u : Service). u.port) (service s (owner s.config q))) l.idle (next_serial s q j l.next_serial) (written (Call q j v) q l (same_number q))
       (heard_kept s (Call q j v) q w t l refl refl))
   steps_to (Take q j v) p k l =
       let s' = effect s (Take q j v) in
@@ -205,20 +203,20 @@ module _ (s : State) (w : IsWellFormed s) (t : IsConsistent s) (positive : (p : 
       refl)
   steps_to (Give q j v) p k l =
       let s' = effect s (Give q j v) in
-      let here = written (Give q j v) q l (at_itself q) in
+      let here = written (Give q j v) q l (same_number q) in
       either (Give q j v) q p k l (λ off. (off, off))
       (of_its_own on_give s s' q j k course.serving course.answered (positive q (taken_busy s q t l.taken)) (eqb-true j (exchange s q).serial l.serial) (ap (λ (y : Exchange). y.serial) here)
       (heard_course q l.taken l.heard) (ap (λ (y : Exchange). course_in y.phase (heard_at s' q)) here) refl)
   steps_to (More q j v) p k l =
       let s' = effect s (More q j v) in
-      let here = written (More q j v) q l (at_itself q) in
+      let here = written (More q j v) q l (same_number q) in
       either (More q j v) q p k l (λ off. (off, off))
       (of_its_own on_more s s' q j k course.serving course.replied (positive q (taken_busy s q t l.taken)) (eqb-true j (exchange s q).serial l.serial) (ap (λ (y : Exchange). y.serial) here)
       (heard_course q l.taken l.heard) (ap (λ (y : Exchange). course_in y.phase (heard_at s' q)) here) refl)
   steps_to (Ask q j v) p k l =
       let s' = effect s (Ask q j v) in
       let u = taken_is s q (t.taken q l.in_more) in
-      let here = written (Ask q j v) q l (at_itself q) in
+      let here = written (Ask q j v) q l (same_number q) in
       either (Ask q j v) q p k l (λ off. (off, refl))
       (of_its_own on_ask s s' q j k course.replied course.prompted (positive q (more_busy (exchange s q).phase l.in_more)) (eqb-true j (exchange s q).serial l.serial) (ap (λ (y : Exchange). y.serial) here)
       (ap (λ f. course_in f (heard_at s q)) (more_is (exchange s q).phase l.in_more))
@@ -238,7 +236,7 @@ module _ (s : State) (w : IsWellFormed s) (t : IsConsistent s) (positive : (p : 
       refl)
   steps_to (End q j v) p k l =
       let s' = effect s (End q j v) in
-      let here = written (End q j v) q l (at_itself q) in
+      let here = written (End q j v) q l (same_number q) in
       either (End q j v) q p k l (λ off. (off, refl))
       (of_its_own on_end s s' q j k course.answered course.ended (positive q (answered_busy (exchange s q).phase l.answered)) (last_serial_is q j v l.message) (ap (λ (y : Exchange). y.serial) here)
       (ap (λ f. course_in f (heard_at s q)) (answered_is (exchange s q).phase l.answered)) (ap (λ (y : Exchange). course_in y.phase (heard_at s' q)) here) refl)

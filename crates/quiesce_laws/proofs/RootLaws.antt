@@ -82,7 +82,7 @@ old_further before es p k run free shut =
 pub closed_stays : (es more_ : List Event) (p : ℕ) → IsRun (es ++ more_) → list_any (reopens p) more_ ≡ false → (gate (state_after es).config p).closed ≡ true → (gate (state_after (es ++ more_)).config p).closed ≡ true
 closed_stays es more_ p run free shut = (old_further es more_ p 0 run free shut).closed
 
-closed_by : (before after : List Event) (p : ℕ) → IsRun (before ++ Close p ∷ after) → (gate (state_after (before ++ Close p ∷ [])).config p).closed ≡ true
+pub closed_by : (before after : List Event) (p : ℕ) → IsRun (before ++ Close p ∷ after) → (gate (state_after (before ++ Close p ∷ [])).config p).closed ≡ true
 closed_by before after p run =
     let here = place before after (Close p) run in
     let s = state_after before in

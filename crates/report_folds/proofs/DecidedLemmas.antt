@@ -38,9 +38,9 @@ use Rattle.merge_laws.specs.Telling.{IsTold}
 use Rattle.merge_laws.specs.Ways.{members_of}
 use Rattle.report_folds.specs.RightAlone.{IsRightAlone}
 use Rattle.report_folds.specs.Showing.{IsStandingShown}
-use Rattle.report_folds.proofs.LedLemmas.{valued_by}
 use Rattle.report_folds.proofs.MakingLemmas.{has_value, makes_of_run, values_of_run}
 use Rattle.report_folds.proofs.ShownLemmas.{IsStanding, standing_at_shows}
+use Rattle.base.proofs.OptionLaws.{made_of_one}
 
 -- ---- what other crates say
 
@@ -75,8 +75,8 @@ lines_run history m kinds are run = subst IsRun (changes_are_lines m kinds ∙ a
 -- a node comes to a state of its kind
 kind_told : (report : Report) (k : ℕ) (old : Slot) (z : NodeState) → slot (config_after report.history) k ≡ Some old → fold_told report k ≡ Some z → z.kind ≡ old.node.kind
 kind_told report k old z at told =
-    let m = valued_by _ (slot (config_after report.history) k) z told in
-    let kept = valued_by (fold_at m.0 (log_told report k)) _ z m.2 in
+    let m = made_of_one _ (slot (config_after report.history) k) z told in
+    let kept = made_of_one (fold_at m.0 (log_told report k)) _ z m.2 in
     fold_keeps_kind m.0.first_port (at_rest m.0.node.kind _ kept.0) z (log_told report k) kept.2 ∙ ap (λ (s : Slot). s.node.kind) (same_Some m.0 old (sym m.1 ∙ at))
 
 -- ---- shows, by the lines alone

@@ -17,8 +17,6 @@ use Rattle.component_trait.specs.Moves as moves
 use Rattle.component_trait.specs.States.{Kept, NodeState, Service, at_rest}
 use Rattle.component_trait.specs.Tables.{opening}
 use Rattle.component_trait.proofs.FoldLaws.{fold_none}
-use Rattle.config_graph.specs.Kinds.{kinds, row}
-use Rattle.config_graph.specs.declared.kind.Kind.{Kind}
 use Rattle.config_graph.specs.declared.kind.Kind.TheVariants as kind
 use Rattle.quiesce_core.specs.Rules.{is_kind, is_value}
 use Rattle.quiesce_core.specs.State.{Configuration, slot}
@@ -39,6 +37,8 @@ use Rattle.report_folds.specs.Tables.{Nodes}
 use Rattle.report_folds.proofs.OrderLemmas.{IsOrderly}
 use Rattle.report_folds.proofs.PartlyLemmas.{none_stays}
 use Rattle.report_folds.proofs.TableLemmas.{StandsFor, made_in}
+use Rattle.base.proofs.OptionLaws.{made_of_one}
+use Rattle.quiesce_core.proofs.ArgumentLaws.{kinds_are_one}
 
 -- ---- a node led by events of values
 
@@ -85,32 +85,11 @@ ends_if s (Some j) (last.Moved i) h = eq-eqb j i (sym h)
 ends_if s None (last.Moved i) h = absurd h
 ends_if s (Some j) (last.State xs) h = absurd h
 
-pub valued_by : {A B : Type 0} (f : A → Option B) (o : Option A) (y : B) → option_and_then f o ≡ Some y → (x : A) × (o ≡ Some x) × (f x ≡ Some y)
-valued_by f None y is = absurd (none-some y is)
-valued_by f (Some x) y is = (x, refl, is)
-
 pub where_true : {A : Type 0} (b : Bool) (x y : A) → cond b (Some x) None ≡ Some y → (b ≡ true) × (x ≡ y)
 where_true true x y is = (refl, same_Some x y is)
 where_true false x y is = absurd (none-some y is)
 
 -- ---- which kind a number is
-
-at_number : (k : Kind) → slice_get kinds (row k).number ≡ Some k
-at_number kind.Philosopher = refl
-at_number kind.Place = refl
-at_number kind.Fork = refl
-at_number kind.Source = refl
-at_number kind.Map = refl
-at_number kind.Buffer = refl
-at_number kind.Sink = refl
-at_number kind.Teller = refl
-at_number kind.Branch = refl
-at_number kind.Account = refl
-at_number kind.Asker = refl
-at_number kind.Adder = refl
-
-pub kind_by_number : (j k : Kind) → is_kind j k ≡ true → j ≡ k
-kind_by_number j k h = same_Some j k (sym (at_number j) ∙ ap (slice_get kinds) (eqb-true (row j).number (row k).number h) ∙ at_number k)
 
 -- ---- what nodes come to, by the history and the logs
 
@@ -193,7 +172,7 @@ module _ (report : Report) (t : Nodes) (stands : StandsFor report.history t) (or
             record {
               kept = z.kept;
               with_ = ap (λ o. kept_by (fold_told report) o (opening m.node.kind (argument_of m))) from ∙ ap (option_map (λ (y : NodeState). y.kept)) told_;
-              is = sym (same_Some (handed_over z.kind m.node.arg z.kept) s e) ∙ ap (λ k_. at_rest k_ (argument_of m) z.kept) (kind_by_number z.kind m.node.kind free.kind);
+              is = sym (same_Some (handed_over z.kind m.node.arg z.kept) s e) ∙ ap (λ k_. at_rest k_ (argument_of m) z.kept) (kinds_are_one z.kind m.node.kind free.kind);
               source = λ j y from_j told_j. subst (λ v. IsFreeSource v m) (same_Some z y (sym told_ ∙ ap (fold_told report) (same_Some k j (sym from ∙ from_j)) ∙ told_j)) free;
             }
 
@@ -213,7 +192,7 @@ module _ (report : Report) (t : Nodes) (stands : StandsFor report.history t) (or
     may_take_over k kept from (Some z) told_ is free =
         let f = free z told_ in
         ap (λ b. cond b (Some (handed_over z.kind m.node.arg z.kept)) None) (and_from (is_none z.service) (is_kind z.kind m.node.kind) (ap is_none f.rests) f.kind)
-        ∙ (λ n. Some (at_rest (kind_by_number z.kind m.node.kind f.kind n) (argument_of m) (same_Some z.kept kept is n)))
+        ∙ (λ n. Some (at_rest (kinds_are_one z.kind m.node.kind f.kind n) (argument_of m) (same_Some z.kept kept is n)))
 
     may_open : (kept : Kept) (o : Option ℕ) → m.from ≡ o → kept_by (fold_told report) o (opening m.node.kind (argument_of m)) ≡ Some kept
         → ((k : ℕ) (z : NodeState) → m.from ≡ Some k → fold_told report k ≡ Some z → IsFreeSource z m)
@@ -226,8 +205,8 @@ module _ (report : Report) (t : Nodes) (stands : StandsFor report.history t) (or
     pub log_then : (heir : Option ℕ) (l : NodeLog) (s : NodeState) → log_of_node x.kept heir l (made_in m) ≡ Some s
         → (s_ : NodeState) × (opened x.kept (made_in m) ≡ Some s_) × (led_through m.first_port s_ l.events ≡ Some s) × (ends_so s heir l.last ≡ true)
     log_then heir l s is =
-        let opened_ = valued_by (led_on m.first_port heir l) (opened x.kept (made_in m)) s is in
-        let led_ = valued_by (closed_so heir l.last) (led_through m.first_port opened_.0 l.events) s opened_.2 in
+        let opened_ = made_of_one (led_on m.first_port heir l) (opened x.kept (made_in m)) s is in
+        let led_ = made_of_one (closed_so heir l.last) (led_through m.first_port opened_.0 l.events) s opened_.2 in
         let closed_ = where_true (ends_so led_.0 heir l.last) led_.0 s led_.2 in
         (opened_.0, opened_.1, led_.1 ∙ ap Some closed_.1, ap (λ z. ends_so z heir l.last) (sym closed_.1) ∙ closed_.0)
 

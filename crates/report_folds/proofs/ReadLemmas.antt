@@ -7,10 +7,8 @@ use Rattle.std.proofs.lemmas.List.{ext_get_or, length-map}
 use Rattle.std.proofs.lemmas.List.FromFn.{get_or-range_with_len, length-range_with_len}
 use Rattle.std.proofs.lemmas.Option.{none-some, same_Some, get_or_from_slice_get, slice_get-get_or, slice_get-map}
 use Rattle.base.proofs.PlaceLaws.{slice_get-below, slice_get-there}
-use Rattle.component_trait.specs.States.{NodeState}
 use Rattle.quiesce_core.specs.State.{Configuration, slot}
 use Rattle.quiesce_core.specs.declared.state.Slot.{Slot}
-use Rattle.report_types.specs.declared.report.Last.{Last}
 use Rattle.report_types.specs.declared.report.Last.TheVariants as last
 use Rattle.report_types.specs.declared.report.NodeLog.{NodeLog}
 use Rattle.report_types.specs.declared.report.Report.{Report}
@@ -23,22 +21,16 @@ use Rattle.report_folds.specs.Leading.{Led, behind_opening, if_complete, log_of_
 use Rattle.report_folds.specs.RightAlone.{HasFreeSource, HasRightLogs, IsFreeSource, has_values}
 use Rattle.report_folds.specs.Tables.{Nodes, no_nodes, read_lines}
 use Rattle.report_folds.specs.declared.tables.MadeNode.{MadeNode}
-use Rattle.report_folds.proofs.LedLemmas.{HasLed, OpensSo, came_to, ends_then, goes_to, has_more, led_more, led_to, log_then, made_at, made_of, opens, opens_so, told, valued_by, where_true}
+use Rattle.report_folds.proofs.LedLemmas.{HasLed, OpensSo, came_to, ends_then, goes_to, has_more, led_more, led_to, log_then, made_at, made_of, opens, opens_so, told, where_true}
 use Rattle.report_folds.proofs.OrderLemmas.{IsOrderly, no_order, orders}
 use Rattle.report_folds.proofs.PartlyLemmas.{none_stays}
 use Rattle.report_folds.proofs.TableLemmas.{StandsFor, lines_may_be_read, lines_read, made_in, nothing_stands}
+use Rattle.base.proofs.OptionLaws.{made_of_one}
+use Rattle.change_law.proofs.MemberLaws.{ended_there}
 
 mapped : {A B : Type 0} (f : A → B) (o : Option A) (y : B) → option_map f o ≡ Some y → (x : A) × (o ≡ Some x) × (f x ≡ y)
 mapped f None y is = absurd (none-some y is)
 mapped f (Some x) y is = (x, refl, same_Some (f x) y is)
-
--- ends are those of a fold
-some_fold : (o : Option NodeState) (j : Option ℕ) (l : Last) → EndsAs o j l → (s : NodeState) × (o ≡ Some s)
-some_fold None None (last.State xs) h = absurd h
-some_fold None None (last.Moved i) h = absurd h
-some_fold None (Some j) (last.State xs) h = absurd h
-some_fold None (Some j) (last.Moved i) h = absurd h
-some_fold (Some s) j l h = (s, refl)
 
 module _ (report : Report) (t : Nodes) (stands : StandsFor report.history t) (order : IsOrderly t) where
   abbrev c : Configuration
@@ -96,9 +88,9 @@ module _ (report : Report) (t : Nodes) (stands : StandsFor report.history t) (or
 
     pub may_read : (m : Slot) → slot c i ≡ Some m → IsRightAt i l → (y : Led) × (read_log t x l ≡ Some y)
     may_read m at right =
-        let s = some_fold (fold_told report i) (moved_to report.history i) l.last right.ends in
+        let s = ended_there (fold_told report i) (moved_to report.history i) l.last right.ends in
         let fold_is = sym (told report t stands order i m at) ∙ s.1 in
-        let k = valued_by (fold_at m (log_told report i)) (opens report t stands order (fold_told report) m) s.0 fold_is in
+        let k = made_of_one (fold_at m (log_told report i)) (opens report t stands order (fold_told report) m) s.0 fold_is in
         let goes = goes_to report t stands order i x led m at l there k.0 s.0 k.1 k.2 (λ j z from told_j. right.source j m z at from told_j) right.values
         (subst (λ o. EndsAs o (moved_to report.history i) l.last) s.1 right.ends) in
         let f = λ (n : MadeNode). option_map (with_node (record x { kept = behind_opening x.kept n }) n i) (log_of_node x.kept (slice_index_or t.heirs i None) l n) in (
@@ -178,7 +170,7 @@ module _ (report : Report) where
 
     pub logs_are_right : (u : Option ℕ) → read_logs t report.logs ≡ Some u → HasRightLogs report × (u ≡ find (is_undone report) (range_with_len 0 (length d.slots)))
     logs_are_right u is =
-        let x = valued_by (if_complete t) (read_logs_on t no_logs report.logs) u is in
+        let x = made_of_one (if_complete t) (read_logs_on t no_logs report.logs) u is in
         let w = rights report t stands_ order_ report.logs 0 no_logs x.0 (none_led report t stands_ order_) (λ k. ap (slice_get report.logs) (let e : 0 + k ≡ k = omega arith in e)) x.1 in
         let complete = where_true (length x.0.kept == length t.made) x.0.undone u x.2 in
         let all_made : length x.0.kept ≡ length t.made = eqb-true (length x.0.kept) (length t.made) complete.0 in
@@ -222,7 +214,7 @@ module _ (report : Report) where
         (y.0.undone, ap (option_and_then (if_complete t)) y.1 ∙ ap (λ b. cond b (Some y.0.undone) None) (eq-eqb (length y.0.kept) (length t.made) (let e : length y.0.kept ≡ length t.made = omega (arith, w.0.long, long) in e)))
 
   pub right_if_read : (u : Option ℕ) → read_report report ≡ Some u → HasRightLogs report × (u ≡ find (is_undone report) (range_with_len 0 (length d.slots)))
-  right_if_read u is = let t = valued_by (λ (x : Nodes). read_logs x report.logs) (read_lines report.history) u is in logs_are_right t.0 t.1 u t.2
+  right_if_read u is = let t = made_of_one (λ (x : Nodes). read_logs x report.logs) (read_lines report.history) u is in logs_are_right t.0 t.1 u t.2
 
   pub read_if_right : HasRightLogs report → (u : Option ℕ) × (read_report report ≡ Some u)
   read_if_right h =

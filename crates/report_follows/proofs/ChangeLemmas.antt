@@ -19,8 +19,9 @@ use Rattle.merge_laws.specs.Reading.{IsCommittedSo, IsGivenUpSo}
 use Rattle.report_follows.specs.Fronts.{LeadsTo, are_told_once, begin_so, behind_abandon, behind_commit, behind_committed, behind_first, behind_given_up, behind_roots, is_pending_for}
 use Rattle.report_follows.specs.Testing.{drained_in, drained_port, falls_at, falls_in, is_fall, is_tellable, roots_in, told_port}
 use Rattle.report_follows.proofs.FrontLemmas.{drained_front, own_place, is_drained_line, is_root_line, one_more, root_front}
-use Rattle.report_follows.proofs.LineLemmas.{abandon_finds, abandon_means, and_then_parts, commit_finds, commit_means, first_finds, first_means, lines_told, told}
+use Rattle.report_follows.proofs.LineLemmas.{abandon_finds, abandon_means, commit_finds, commit_means, first_finds, first_means, lines_told, told}
 use Rattle.report_follows.proofs.SortedLemmas.{if_once, once_if}
+use Rattle.base.proofs.OptionLaws.{made_of_one}
 
 -- ---- fronts of one sort
 
@@ -235,7 +236,7 @@ plain_ending (p ∷ closed) rest = refl
 pub given_up_means : (within : ℕ) (closed : List ℕ) (ls rest : List HistoryLine) → behind_given_up within closed ls ≡ Some rest → LeadsTo (IsGivenUpSo within closed) ls rest
 given_up_means within closed ls rest h =
     let drained = take (drained_in ls) ls in
-    let a = and_then_parts (behind_roots within closed drained) (behind_first (is_pending_for within) (drop (drained_in ls) ls)) rest h in
+    let a = made_of_one (behind_roots within closed drained) (behind_first (is_pending_for within) (drop (drained_in ls) ls)) rest h in
     let ms = a.0 in
     let f = first_means (is_pending_for within) (drop (drained_in ls) ls) ms a.1 in
     let w = cond_some _ (behind_abandon closed (drop (roots_in ms) ms)) rest a.2 in

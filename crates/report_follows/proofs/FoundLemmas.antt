@@ -17,10 +17,6 @@ module _ {A : Type 0} (now : A → List HistoryLine) (Is : List HistoryLine → 
   none_found None c finds = λ front rest is are. none-some rest (sym c ∙ finds front rest is are)
   none_found (Some a) c finds = tt
 
-pub where_ok : {A E : Type 0} (P Q : A → Type 0) → ((x : A) → P x → Q x) → (r : Result A E) → IfOk r P → IfOk r Q
-where_ok P Q f (Ok x) h = f x h
-where_ok P Q f (Err e) h = h
-
 pub where_both : {A E : Type 0} (P R Q : A → Type 0) → ((x : A) → P x → R x → Q x) → (r : Result A E) → IfOk r P → IfOk r R → IfOk r Q
 where_both P R Q f (Ok x) h k = f x h k
 where_both P R Q f (Err e) h k = h

@@ -1,16 +1,13 @@
 -- How many ports a layout tells behind a commit; and gates that are turned, which a layout doesn't tell.
-use Rattle.std.proofs.Common.{◌≡◌, ◌∙◌, ℕ, ◌+◌, ◌<◌, true, false, List, [], ◌∷◌, length, map, get_or, Option, Some, None, refl, sym, ap, subst}
-use Rattle.std.specs.Prelude.{All, slice_get, sum_by, unwrap_or}
+use Rattle.std.proofs.Common.{◌≡◌, ◌∙◌, ℕ, ◌+◌, ◌<◌, true, false, List, [], ◌∷◌, length, map, get_or, refl, sym, ap, subst}
+use Rattle.std.specs.Prelude.{All, slice_get, sum_by}
 use Rattle.std.specs.List.{range_with_len}
-use Rattle.std.specs.Option.{option_map_or}
 use Rattle.std.proofs.lemmas.List.{get_or-map, length-append, length-map, same_lists}
 use Rattle.std.proofs.lemmas.List.Elements.{All-head, All-tail}
 use Rattle.std.proofs.lemmas.List.FromFn.{length-range_with_len}
 use Rattle.std.proofs.lemmas.List.Sums.{sum_by-cons}
-use Rattle.config_graph.specs.Graph.{Graph, requires_at, requires_of}
+use Rattle.config_graph.specs.Graph.{Graph, requires_at}
 use Rattle.config_graph.specs.Kinds.{row}
-use Rattle.config_graph.specs.declared.kind.Kind.TheVariants.{Fork}
-use Rattle.config_graph.specs.declared.node.Node.{Node}
 use Rattle.config_graph.specs.declared.node.Port.{Port}
 use Rattle.quiesce_core.specs.Effect.{with_closed}
 use Rattle.quiesce_core.specs.Rules.{is_live_port}
@@ -22,16 +19,13 @@ use Rattle.change_plan_laws.specs.Commit.{node_at}
 use Rattle.change_lists.specs.Layouts.{IsLayoutOf, place_in, port_of}
 use Rattle.change_lists.specs.Lists.{ports_from, ports_in}
 use Rattle.change_lists.specs.declared.layout.Layout.{Layout}
-
-wanted_at : (o : Option Node) → length (row (unwrap_or o (record { path = []; kind = Fork; arg = None })).kind).requires_ ≡ option_map_or requires_of o 0
-wanted_at None = refl
-wanted_at (Some n) = refl
+use Rattle.config_graph.proofs.KindLaws.{ports_wanted_at}
 
 pub ports_many : (new : Graph) (k : ℕ) (js : List ℕ) → length (ports_from new k js) ≡ sum_by (requires_at new.nodes) js
 ports_many new k [] = refl
 ports_many new k (j ∷ js) =
     length-append (ports_in new k j) (ports_from new (k + 1) js)
-    ∙ ap (λ n. n + length (ports_from new (k + 1) js)) (length-map (range_with_len 0 (length (row (node_at new j).kind).requires_)) _ ∙ length-range_with_len 0 (length (row (node_at new j).kind).requires_) ∙ wanted_at (slice_get new.nodes j))
+    ∙ ap (λ n. n + length (ports_from new (k + 1) js)) (length-map (range_with_len 0 (length (row (node_at new j).kind).requires_)) _ ∙ length-range_with_len 0 (length (row (node_at new j).kind).requires_) ∙ ports_wanted_at (slice_get new.nodes j))
     ∙ ap (λ n. requires_at new.nodes j + n) (ports_many new (k + 1) js) ∙ sym (sum_by-cons (requires_at new.nodes) j js)
 
 pub same_laid : (l : Layout) (c d : Configuration) (g : Graph) → SameLinks c d → IsLayoutOf l c g → IsLayoutOf l d g

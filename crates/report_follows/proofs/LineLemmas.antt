@@ -14,6 +14,7 @@ use Rattle.change_law.specs.Members.{lines_of_events}
 use Rattle.report_follows.specs.Fronts.{behind_abandon, behind_commit, behind_first, behind_if, is_abandon_line, is_commit_line}
 use Rattle.report_follows.specs.Testing.{are_same, is_close_of, is_reopen_of, is_tellable, tell_closes, tell_events, tell_reopens, tells_event}
 use Rattle.report_follows.proofs.FrontLemmas.{begins, starts_so, begins_with, in_pairs}
+use Rattle.base.proofs.OptionLaws.{made_of_one}
 
 -- ---- the line of an event
 
@@ -103,10 +104,6 @@ pub some_behind : (b : Bool) (n : ℕ) (ls rest : List HistoryLine) → behind_i
 some_behind true n ls rest h = (refl, same_Some (drop n ls) rest h)
 some_behind false n ls rest h = absurd (none-some rest h)
 
-pub and_then_parts : {A B : Type 0} (f : A → Option B) (o : Option A) (y : B) → option_and_then f o ≡ Some y → (x : A) × (o ≡ Some x) × (f x ≡ Some y)
-and_then_parts f None y h = absurd (none-some y h)
-and_then_parts f (Some x) y h = (x, refl, h)
-
 pub events_means : (es : List Event) (ls rest : List HistoryLine) → list_all is_tellable es ≡ true → behind_if (tell_events ls es) (length es) ls ≡ Some rest → ls ≡ lines_of_events es ++ rest
 events_means es ls rest fit h =
     let w = some_behind (tell_events ls es) (length es) ls rest h in
@@ -169,7 +166,7 @@ abandon_is _ h = absurd (both_ways false refl h)
 
 pub commit_means : (es : List Event) (ls rest : List HistoryLine) → list_all is_tellable es ≡ true → behind_commit es ls ≡ Some rest → ls ≡ (lines_of_events es ++ to.Commit ∷ []) ++ rest
 commit_means es ls rest fit h =
-    let w = and_then_parts (behind_first is_commit_line) (behind_if (tell_events ls es) (length es) ls) rest h in
+    let w = made_of_one (behind_first is_commit_line) (behind_if (tell_events ls es) (length es) ls) rest h in
     let f = first_means is_commit_line w.0 rest w.2 in
     events_means es ls w.0 fit w.1 ∙ ap (λ xs. lines_of_events es ++ xs) (f.are ∙ ap (λ l. l ∷ rest) (commit_is f.line f.passes))
     ∙ sym (append_assoc (lines_of_events es) (to.Commit ∷ []) rest)
@@ -180,7 +177,7 @@ commit_finds es ls rest fit are =
 
 pub abandon_means : (ps : List ℕ) (ls rest : List HistoryLine) → behind_abandon ps ls ≡ Some rest → ls ≡ (map to.Reopen ps ++ to.Abandon ∷ []) ++ rest
 abandon_means ps ls rest h =
-    let w = and_then_parts (behind_first is_abandon_line) (behind_if (tell_reopens ls ps) (length ps) ls) rest h in
+    let w = made_of_one (behind_first is_abandon_line) (behind_if (tell_reopens ls ps) (length ps) ls) rest h in
     let f = first_means is_abandon_line w.0 rest w.2 in
     reopens_means ps ls w.0 w.1 ∙ ap (λ xs. map to.Reopen ps ++ xs) (f.are ∙ ap (λ l. l ∷ rest) (abandon_is f.line f.passes))
     ∙ sym (append_assoc (map to.Reopen ps) (to.Abandon ∷ []) rest)

@@ -9,7 +9,7 @@ use Rattle.std.proofs.lemmas.Bool.{and_from, and_parts, both_ways, eq-eqb, eqb-t
 use Rattle.std.proofs.lemmas.Bool.Decides.{Decides-int_eq}
 use Rattle.std.proofs.lemmas.List.{append-nil, length-map}
 use Rattle.std.proofs.lemmas.Slice.Eq.{bytes_eq-Decides, slice_eq-Decides}
-use Rattle.base.proofs.OptionLaws.{map_or_true}
+use Rattle.base.proofs.OptionLaws.{map_or_true, made_of_one}
 use Rattle.quiesce_core.specs.declared.event.Event.{Event}
 use Rattle.report_types.specs.declared.report.HistoryLine.{HistoryLine}
 use Rattle.report_types.specs.declared.report.HistoryLine.TheVariants as to
@@ -18,7 +18,7 @@ use Rattle.change_law.specs.Scene.{AreSeen, Seen, drained_line}
 use Rattle.report_follows.specs.Fronts.{IsStopOf, are_all_told, are_told_once, behind_closes, behind_commit, behind_first, behind_opening, behind_start, is_change_line, is_start_line, is_stop_line, is_stop_of}
 use Rattle.report_follows.specs.Testing.{drained_in, is_tellable, told_port}
 use Rattle.report_follows.proofs.ChangeLemmas.{at_front, drained_ports, found, test_by_seen, parts_are, told_ports, seen_by_test}
-use Rattle.report_follows.proofs.LineLemmas.{and_then_parts, closes_finds, closes_means, commit_finds, commit_means, first_finds, first_means}
+use Rattle.report_follows.proofs.LineLemmas.{closes_finds, closes_means, commit_finds, commit_means, first_finds, first_means}
 
 -- ---- names and arguments
 
@@ -48,7 +48,7 @@ stop_is _ h = absurd (both_ways false refl h)
 
 pub opening_means : (name : List ℕ) (args : List ℤ) (closed : List ℕ) (ls rest : List HistoryLine) → behind_opening name args closed ls ≡ Some rest → ls ≡ to.Change name args ∷ (map to.Close closed ++ rest)
 opening_means name args closed ls rest h =
-    let w = and_then_parts (behind_closes closed) (behind_first (is_change_line name args) ls) rest h in
+    let w = made_of_one (behind_closes closed) (behind_first (is_change_line name args) ls) rest h in
     let f = first_means (is_change_line name args) ls w.0 w.1 in
     f.are ∙ ap₂ (λ l xs. l ∷ xs) (change_is name args f.line f.passes) (closes_means closed w.0 rest w.2)
 
@@ -60,7 +60,7 @@ opening_finds name args closed ls rest are =
 pub start_means : (name : List ℕ) (args : List ℤ) (es : List Event) (ls rest : List HistoryLine) → list_all is_tellable es ≡ true → behind_start name args es ls ≡ Some rest
     → ls ≡ (to.Start name args ∷ lines_of_events es ++ to.Commit ∷ []) ++ rest
 start_means name args es ls rest fit h =
-    let w = and_then_parts (behind_commit es) (behind_first (is_start_line name args) ls) rest h in
+    let w = made_of_one (behind_commit es) (behind_first (is_start_line name args) ls) rest h in
     let f = first_means (is_start_line name args) ls w.0 w.1 in
     f.are ∙ ap₂ (λ l xs. l ∷ xs) (start_is name args f.line f.passes) (commit_means es w.0 rest fit w.2)
 
@@ -108,7 +108,7 @@ all_told ports ls seen are all =
 pub stop_means : (ports : List ℕ) (ls : List HistoryLine) → is_stop_of ports ls ≡ true → IsStopOf ports ls
 stop_means ports ls h =
     let w = map_or_true (are_all_told ports) (option_and_then (behind_closes ports) (behind_first is_stop_line ls)) h in
-    let v = and_then_parts (behind_closes ports) (behind_first is_stop_line ls) w.0 w.1 in
+    let v = made_of_one (behind_closes ports) (behind_first is_stop_line ls) w.0 w.1 in
     let f = first_means is_stop_line ls v.0 v.1 in
     let t = told_all ports w.0 w.2 in
     record {

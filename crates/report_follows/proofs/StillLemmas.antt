@@ -6,8 +6,9 @@ use Rattle.report_types.specs.declared.report.HistoryLine.{HistoryLine}
 use Rattle.report_types.specs.declared.report.HistoryLine.TheVariants as to
 use Rattle.change_law.specs.Follows.{IsFinishLine, IsRunLine, IsShowLine, skip_lines}
 use Rattle.report_follows.specs.Fronts.{LeadsTo, behind_first, behind_skipped, is_change_line, is_finish_line, is_run_line, is_show_line, is_skipped_line}
-use Rattle.report_follows.proofs.LineLemmas.{and_then_parts, first_finds, first_means}
+use Rattle.report_follows.proofs.LineLemmas.{first_finds, first_means}
 use Rattle.report_follows.proofs.OpeningLemmas.{both_same, change_is}
+use Rattle.base.proofs.OptionLaws.{made_of_one}
 
 -- ---- one line
 
@@ -52,7 +53,7 @@ skipped_is _ h = absurd (both_ways false refl h)
 
 pub skipped_means : (name : List ℕ) (args : List ℤ) (ls rest : List HistoryLine) → behind_skipped name args ls ≡ Some rest → ls ≡ skip_lines name args ++ rest
 skipped_means name args ls rest h =
-    let w = and_then_parts (behind_first is_skipped_line) (behind_first (is_change_line name args) ls) rest h in
+    let w = made_of_one (behind_first is_skipped_line) (behind_first (is_change_line name args) ls) rest h in
     let f = first_means (is_change_line name args) ls w.0 w.1 in
     let s = first_means is_skipped_line w.0 rest w.2 in
     f.are ∙ ap₂ (λ l xs. l ∷ xs) (change_is name args f.line f.passes) (s.are ∙ ap (λ l. l ∷ rest) (skipped_is s.line s.passes))

@@ -5,6 +5,7 @@ use Rattle.std.specs.List.{range_with_len}
 use Rattle.std.proofs.lemmas.Bool.{cases_eq, cases_lt}
 use Rattle.std.proofs.lemmas.List.Sums.{sum_by-cons}
 use Rattle.base.proofs.SumLaws.{at_term, sum_le, sum_moves, sum_place, sum_plus, sum_term, term_here, term_there}
+use Rattle.std.proofs.Math.Nat.{add-zero}
 
 pub sums_agree : (f g : ℕ → ℕ) (n : ℕ) → ((i : ℕ) → f i ≡ g i) → sum_by f (range_with_len 0 n) ≡ sum_by g (range_with_len 0 n)
 sums_agree f g n h = let a = sum_le f g 0 n (λ i. omega (arith, h i)) in let b = sum_le g f 0 n (λ i. omega (arith, h i)) in omega (arith, a, b)
@@ -38,10 +39,7 @@ sum_one f g p d n made h at =
     let b = sum_place g f p d 0 n made (λ i ne. omega (arith, h i ne)) (omega (arith, at)) in omega (arith, a, b)
 
 more_from : (f : ℕ → ℕ) (a n : ℕ) → sum_by f (range_with_len a (suc n)) ≡ sum_by f (range_with_len a n) + f (a + n)
-more_from f a zero = omega (arith, sum_by-cons f a [], ap f (add_none a))
-  where
-    add_none : (a : ℕ) → a + 0 ≡ a
-    add_none a = omega arith
+more_from f a zero = omega (arith, sum_by-cons f a [], ap f (add-zero a))
 more_from f a (suc n) =
     let whole = sum_by-cons f a (range_with_len (a + 1) (suc n)) in
     let part = sum_by-cons f a (range_with_len (a + 1) n) in

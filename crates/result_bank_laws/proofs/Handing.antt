@@ -4,7 +4,7 @@ use Rattle.std.proofs.Common.{◌≡◌, ◌∙◌, ℕ, ◌+◌, ◌*◌, ◌<�
 use Rattle.std.specs.Prelude.{◌==◌, ◌&&◌, ◌||◌, is_none, is_some, option_and_then, option_map, sum_by}
 use Rattle.std.specs.List.{list_any, range_with_len}
 use Rattle.std.specs.Option.{option_map_or}
-use Rattle.std.proofs.lemmas.Bool.{and_parts, both_ways, eq-eqb, eqb-true, false_from_ne_true, ltb-true, ne_eqb, not-true}
+use Rattle.std.proofs.lemmas.Bool.{and_parts, both_ways, eq-eqb, false_from_ne_true, ltb-true, ne_eqb, not-true}
 use Rattle.std.proofs.lemmas.List.Folds.{list_any-append}
 use Rattle.std.proofs.lemmas.Option.{none-some, same_Some}
 use Rattle.base.proofs.OptionLaws.{map_or_true}
@@ -12,7 +12,7 @@ use Rattle.base.proofs.PlaceLaws.{slice_get-below}
 use Rattle.config_graph.specs.Kinds.{row}
 use Rattle.config_graph.specs.declared.TheConstants.{VALUE_LIMIT}
 use Rattle.config_graph.specs.declared.kind.Kind.{Kind}
-use Rattle.config_graph.specs.declared.kind.Kind.TheVariants.{Account, Philosopher, Place, Fork, Source, Map, Buffer, Sink, Teller, Branch, Asker, Adder}
+use Rattle.config_graph.specs.declared.kind.Kind.TheVariants.{Account}
 use Rattle.config_graph.specs.declared.node.Node.{Node}
 use Rattle.config_graph.specs.declared.node.Target.{Target}
 use Rattle.component_trait.specs.States.{Kept, NodeState}
@@ -44,6 +44,7 @@ use Rattle.result_bank_laws.proofs.Balance.{BranchHas, Calls, answered, answers,
 use Rattle.result_bank_laws.proofs.Giving.{given_is_gone, given_was_moved, hands_on}
 use Rattle.result_bank_laws.proofs.Ledger.{Has, account_is, bound, holds, held_by, is_account_at, kind_is_account, opened_in, plain, quiet, rest_has}
 use Rattle.result_bank_laws.proofs.Offices.{Office, kind_stays, office_owned, office_stays}
+use Rattle.quiesce_core.proofs.ArgumentLaws.{kinds_are_one}
 
 -- ---- what a branch carries, where nothing of its own and of its accounts changes
 
@@ -71,23 +72,8 @@ branch_on s t f g b _ u (answers a k v r xs z hands_on is) = answers a k v r xs 
 
 -- ---- kinds
 
--- an account is told by the number of its kind
-kind_numbered : (k : Kind) → is_account k ≡ ((row k).number == 9)
-kind_numbered Philosopher = refl
-kind_numbered Place = refl
-kind_numbered Fork = refl
-kind_numbered Source = refl
-kind_numbered Map = refl
-kind_numbered Buffer = refl
-kind_numbered Sink = refl
-kind_numbered Teller = refl
-kind_numbered Branch = refl
-kind_numbered Account = refl
-kind_numbered Asker = refl
-kind_numbered Adder = refl
-
 same_kinds : (j k : Kind) → is_kind j k ≡ true → is_account j ≡ is_account k
-same_kinds j k h = kind_numbered j ∙ ap (λ n. n == 9) (eqb-true (row j).number (row k).number h) ∙ sym (kind_numbered k)
+same_kinds j k h = ap is_account (kinds_are_one j k h)
 
 -- slots keep their kinds
 pub account_stays : (c d : Configuration) (e : Event) → Reconfigures c e d → (n : ℕ) → (is_make e ≡ true → n ≡ length c.slots → ⊥) → is_account_at d n ≡ is_account_at c n

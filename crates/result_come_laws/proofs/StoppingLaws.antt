@@ -1,5 +1,5 @@
 -- A run at its end: nothing is open, each node made has a log and a fold, and a live node's state went to no other.
-use Rattle.std.proofs.Common.{◌≡◌, ◌∙◌, ℕ, zero, suc, ◌+◌, ◌<◌, Bool, true, false, cond, not, List, [], ◌∷◌, ◌++◌, length, map, filter, Option, Some, None, refl, sym, ap, subst, arith, ⊎_elim}
+use Rattle.std.proofs.Common.{◌≡◌, ◌∙◌, ℕ, ◌+◌, Bool, true, false, cond, not, List, [], ◌∷◌, ◌++◌, length, map, filter, Option, Some, None, refl, sym, ap, subst, arith, ⊎_elim}
 use Rattle.std.specs.Prelude.{◌==◌, ◌&&◌, ◌||◌, All, Contains, filter_map, is_some, slice_get}
 use Rattle.std.specs.List.{list_any, range_with_len}
 use Rattle.std.specs.Option.{option_map_or}
@@ -48,6 +48,7 @@ use Rattle.result_come_laws.specs.Coming.{HasFolds}
 use Rattle.result_come_laws.proofs.ReopenedLaws.{kept, rooted}
 use Rattle.base.specs.Each.{Each}
 use Rattle.change_law.specs.Statements.{Statement}
+use Rattle.base.proofs.RangeLaws.{range_at}
 
 -- nothing is open where each drained port was seen so: a law of change_law
 abbrev pub NothingIsOpen : Type 0
@@ -61,11 +62,6 @@ open_nowhere es run none p = by (is_idle (exchange (state_after es) p).phase) (s
     by false h = absurd (both_ways _ h (eq-eqb (exchange (state_after es) p).serial (exchange (state_after es) p).serial refl))
 
 -- ---- each node made has a log, and a fold
-
-pub numbered_at : (a n k : ℕ) → k < n → slice_get (range_with_len a n) k ≡ Some (a + k)
-numbered_at a zero k h = absurd (omega (arith, h))
-numbered_at a (suc n) zero h = ap Some (omega arith)
-numbered_at a (suc n) (suc k) h = numbered_at (a + 1) n k (omega (arith, h)) ∙ ap Some (omega arith)
 
 pub folded : (o : Option NodeState) (j : Option ℕ) (l : Last) → EndsAs o j l → is_some o ≡ true
 folded None None l h = absurd h
@@ -135,7 +131,7 @@ module _ (m : List Member) (report : Report) (merge : Merge m report) (run : IsR
   log_of n x there =
       let c = (state_after (events m)).config in
       let at : slice_get (map (λ (l : NodeLog). l.slot) report.logs) n ≡ Some n =
-      ap (λ xs. slice_get xs n) slots_of_logs ∙ numbered_at 0 (length c.slots) n (slice_get-below c.slots n x there) ∙ ap Some (omega arith) in
+      ap (λ xs. slice_get xs n) slots_of_logs ∙ range_at 0 (length c.slots) n (slice_get-below c.slots n x there) ∙ ap Some (omega arith) in
       let l = slice_get-map_some (λ (l : NodeLog). l.slot) report.logs n n at in
       (l.0, Contains-at report.logs n l.0 l.1, l.2)
 

@@ -3,8 +3,9 @@ use Rattle.std.proofs.lemmas.List.{append-nil, length-append}
 use Rattle.change_engine.specs.Finishing.{ScansGoOn, ends_finish, rounds_in}
 use Rattle.change_engine.proofs.Breaking.{broke_behind}
 use Rattle.change_engine.proofs.Growing.{if_err}
-use Rattle.change_engine.proofs.Scanning.{all_push, all_quiet, rounds_pushed, scans_add, scans_are, scans_twice, seen_by}
+use Rattle.change_engine.proofs.Scanning.{all_quiet, rounds_pushed, scans_add, scans_are, scans_twice, seen_by}
 use Rattle.change_engine.proofs.finishing.make_scans.Goals as goal
+use Rattle.base.proofs.ListLaws.{AllByRecursion-push}
 
 pub loop-made-init : goal.loop-made-init
 loop-made-init g c = record {
@@ -35,7 +36,7 @@ loop-made-preserved g c =
       all_scans = length-append inv.scans (w ∷ []) ∙ ap (λ k. k + 1) inv.all_scans;
       are_scans = scans_are W a b d inv.scans s x inv.adds inv.are_scans;
       twice = scans_twice W a b d inv.scans s x inv.adds inv.twice;
-      go_on = all_push (ScansGoOn g.B.Board.alone) inv.scans w inv.go_on (ap (λ alone. ends_finish alone s) (sym c.is_alone-alone.ensures) ∙ sym c.if-ends_finish.ensures);
+      go_on = AllByRecursion-push (ScansGoOn g.B.Board.alone) inv.scans w inv.go_on (ap (λ alone. ends_finish alone s) (sym c.is_alone-alone.ensures) ∙ sym c.if-ends_finish.ensures);
       rounds_are = ap (λ k. k + c.count_of-rounds.result) inv.rounds_are ∙ ap (λ k. rounds_in inv.scans + k) c.count_of-rounds.ensures.value ∙ sym (rounds_pushed inv.scans w);
       few = omega (arith, inv.few, c.count_of-rounds.ensures.few);
       adds = scans_add W a b d inv.scans s x inv.adds;

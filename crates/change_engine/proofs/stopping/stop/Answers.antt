@@ -9,11 +9,11 @@ use Rattle.report_types.specs.declared.report.HistoryLine.TheVariants as to
 use Rattle.change_engine.specs.Passivating.{AreLivePorts, passivation_items}
 use Rattle.change_engine.specs.Stopping.{Stops}
 use Rattle.change_engine.proofs.Breaking.{broke_in_stop, on_err}
-use Rattle.change_engine.proofs.EngineLemmas.{in_ok}
 use Rattle.change_engine.proofs.Growing.{grew_none, if_err}
 use Rattle.change_engine.proofs.Quieting.{all_live, all_noted, stop_grew}
 use Rattle.change_engine.specs.Growing.{telling}
 use Rattle.change_engine.proofs.stopping.stop.Goals as goal
+use Rattle.std.proofs.lemmas.Result.{IfOk-weaker}
 
 nothing_left : {A : Type 0} (xs : List A) (n : ℕ) → n ≡ length xs → (n == 0) ≡ true → xs ≡ []
 nothing_left xs n e h = no_length xs (sym e ∙ eqb-true n 0 h)
@@ -57,16 +57,14 @@ returns-then-is_empty-clause-ok g c =
     let w = c.in_ok-passivate.ensures.ok in
     let left = c.passivate.new.waiting.left in
     let none_ = sym w.left_is ∙ nothing_left left.items (vec_len left) left.ok.0 (sym c.if-is_empty.ensures) in
-    in_ok (λ x. Collects W.stands_for b d taken x) (λ x. Stops W (telling a h) (telling d j) ports (2 ^ 64 - 1) x)
-    (λ x collected. record {
+    IfOk-weaker c.collect.result (λ x. Collects W.stands_for b d taken x) (λ x. Stops W (telling a h) (telling d j) ports (2 ^ 64 - 1) x) (λ x collected. record {
       how = w.how;
       is_passivation = w.is_passivation;
       none_left = none_;
       quiet = b;
       grew = stop_grew W a b h i j ports w.how (c.put.ensures.items ∙ ap (λ ls. ls ++ to.Stop ∷ []) c.reserve.ensures.items) w.grew;
       collected = collected;
-    })
-    c.collect.result c.collect.ensures.ok
+    }) c.collect.ensures.ok
 
 pub returns-then-is_empty-clause-closes_alone : goal.returns-then-is_empty-clause-closes_alone
 returns-then-is_empty-clause-closes_alone g c =

@@ -8,8 +8,9 @@ use Rattle.change_parts_laws.specs.Carrying.{CanCarryOut}
 use Rattle.change_runner.specs.Replacing.{Replaced}
 use Rattle.change_transcript_laws.specs.Pieces.{config_at}
 use Rattle.change_roll.specs.Rolling.{replacement}
-use Rattle.change_roll.proofs.RollLemmas.{answers_too, part_is_planned}
+use Rattle.change_roll.proofs.RollLemmas.{part_is_planned}
 use Rattle.change_roll.proofs.rolling.take_part.Goals as goal
+use Rattle.std.proofs.lemmas.Result.{IfOk-weaker}
 
 pub replace-requires : goal.replace-requires
 replace-requires g c =
@@ -28,6 +29,4 @@ returns g c =
     let x = replacement c.args.name.now c.args.args.now c.args.rounds p in
     let Answers_ : Replacement → Option (List LeftRoot) → Type 0 =
     λ y left. (t : List Item) → IsIdle W e t → IsPlanned e.graph y.graph y.moves y.plan (config_at t) → Replaced W e f t y left in
-    answers_too (Answers_ x) (λ left. (t : List Item) → IsIdle W e t → CanCarryOut e.graph (made_in (config_at t)) p → Replaced W e f t x left)
-    (λ left given t idle can. given t idle (part_is_planned e.graph t p can)) c.replace.result
-    (subst (λ y. IfOk c.replace.result (Answers_ y)) c.in_ok-change.ensures c.replace.ensures)
+    IfOk-weaker c.replace.result (Answers_ x) (λ left. (t : List Item) → IsIdle W e t → CanCarryOut e.graph (made_in (config_at t)) p → Replaced W e f t x left) (λ left given t idle can. given t idle (part_is_planned e.graph t p can)) (subst (λ y. IfOk c.replace.result (Answers_ y)) c.in_ok-change.ensures c.replace.ensures)

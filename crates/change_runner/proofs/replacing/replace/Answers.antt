@@ -6,8 +6,8 @@ use Rattle.change_engine.specs.Engines.{IsIdle, IsPlanned}
 use Rattle.change_transcript_laws.specs.Pieces.{config_at}
 use Rattle.change_runner.specs.Replacing.{Replaced, WentThrough}
 use Rattle.change_runner.proofs.ChangeLemmas.{replaced}
-use Rattle.change_runner.proofs.DoingLemmas.{in_ok}
 use Rattle.change_runner.proofs.replacing.replace.Goals as goal
+use Rattle.std.proofs.lemmas.Result.{IfOk-weaker}
 
 pub prepare-requires : goal.prepare-requires
 prepare-requires g c =
@@ -32,6 +32,4 @@ returns g c =
     let f = c.prepare.new.self in
     let d = c.go_through.new.engine in
     let p = subst (λ xs. HasPrepared W e f x.name xs x.plan x.graph) c.into_vec.ensures c.in_ok-prepare.ensures.ok in
-    in_ok (λ left. WentThrough W f d x.plan x.graph x.within left)
-    (λ left. (t : List Item) → IsIdle W e t → IsPlanned e.graph x.graph x.moves x.plan (config_at t) → Replaced W e d t x left)
-    (λ left w t idle planned. replaced W e f d x p t idle planned left w) c.go_through.result c.go_through.ensures
+    IfOk-weaker c.go_through.result (λ left. WentThrough W f d x.plan x.graph x.within left) (λ left. (t : List Item) → IsIdle W e t → IsPlanned e.graph x.graph x.moves x.plan (config_at t) → Replaced W e d t x left) (λ left w t idle planned. replaced W e f d x p t idle planned left w) c.go_through.ensures

@@ -1,13 +1,13 @@
 use Rattle.std.proofs.Common.{◌≡◌, ◌∙◌, ◌+◌, [], ◌∷◌, ◌++◌, None, sym, ap, subst, get_or, arith}
 use Rattle.std.proofs.lemmas.Option.{slice_get-get_or}
-use Rattle.base.proofs.OptionLaws.{option_map_some}
+use Rattle.base.proofs.OptionLaws.{option_map_some, None-from_map}
 use Rattle.config_graph.specs.declared.kind.Kind.{Kind}
 use Rattle.config_graph.specs.declared.node.Node.{Node}
 use Rattle.elaborator.specs.Graph.{node_of}
 use Rattle.elaborator.specs.Numbering.{Numbered}
 use Rattle.elaborator.specs.Expansion.{expanded_of, instance_in}
 use Rattle.elaborator.specs.NodeOrder.{nodes_in, AreFirstNodes, IsInOrder}
-use Rattle.elaborator.proofs.NodeLemmas.{option_map_none, nodes_in-push, first_nodes-skip, first_nodes-push, nodes-all}
+use Rattle.elaborator.proofs.NodeLemmas.{nodes_in-push, first_nodes-skip, first_nodes-push, nodes-all}
 use Rattle.elaborator.proofs.nodes.nodes_of.Goals as goal
 use Rattle.elaborator.proofs.nodes.nodes_of.Goals.{in-Some+in_ok-add, in_default}
 
@@ -38,7 +38,7 @@ loop-number-preserved c =
           let kinds = subst (λ x. new.kinds.items ≡ c.loop-number.nodes.kinds.items ++ x ∷ []) (sym node.2) w.in_ok-add.ensures.kinds in
           subst (λ n. AreFirstNodes e items (k + 1) (nodes_in e n.instances.items) n) (sym w.nodes-is) (first_nodes-push e items ns (nodes_in e new.instances.items) c.loop-number.nodes new k m i node.0 in_order c.loop-number.invariant at numbered node.1 more kinds w.in_ok-add.ensures.instances w.in_ok-add.ensures.places)
       | in_default w ↦
-          let none : node_of i ≡ None = option_map_none kind_of (node_of i) (sym c.node_kind.ensures ∙ w.in_default.is) in
+          let none : node_of i ≡ None = None-from_map kind_of (node_of i) (sym c.node_kind.ensures ∙ w.in_default.is) in
           subst (λ n. AreFirstNodes e items (k + 1) (nodes_in e n.instances.items) n) (sym w.nodes-is) (first_nodes-skip e items ns c.loop-number.nodes k m i c.loop-number.invariant at numbered none)
     ]
   where

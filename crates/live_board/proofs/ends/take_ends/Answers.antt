@@ -1,9 +1,10 @@
 use Rattle.std.proofs.Common.{◌≤◌, ap, arith, length, length-append, refl, subst, sym}
 use Rattle.std.specs.List.{AllByRecursion}
 use Rattle.live_board.specs.Collecting.{LiesAt, TellsEnd}
-use Rattle.live_board.proofs.TellLemmas.{holds_of_both, told_more}
+use Rattle.live_board.proofs.TellLemmas.{told_more}
 use Rattle.state_handover.specs.contracts.any_node.AnyNodeComponent.TheImpl.{ghosts}
 use Rattle.live_board.proofs.ends.take_ends.Goals as goal
+use Rattle.base.proofs.ListLaws.{AllByRecursion-append}
 
 pub loop-slot-preserved : goal.loop-slot-preserved
 loop-slot-preserved g c =
@@ -19,7 +20,7 @@ loop-slot-preserved g c =
           let long = length-append c.loop-slot.guests.items e.guests.0 in
           let same = ap length e.guests.1 in
           omega (arith, long, same, e.guests.2, i.few);
-      guests = subst all (sym e.guests.1) (holds_of_both (LiesAt g.J.Named.gates) c.loop-slot.guests.items e.guests.0 i.guests e.guests.3);
+      guests = subst all (sym e.guests.1) (AllByRecursion-append (LiesAt g.J.Named.gates) c.loop-slot.guests.items e.guests.0 i.guests e.guests.3);
       room = subst (λ k. c.args.slots ≤ k) (sym e.room) i.room;
       log_room = subst (λ k. c.args.slots ≤ k) (sym c.push_reserved.ensures.capacity) i.log_room;
       done_room = subst (λ k. c.args.slots ≤ k) (sym c.push_reserved-in-loop-slot.ensures.capacity) i.done_room;

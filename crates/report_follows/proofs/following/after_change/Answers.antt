@@ -5,8 +5,9 @@ use Rattle.merge_laws.specs.Reading.{IsChangeSo}
 use Rattle.report_follows.specs.Fronts.{HasNoFront, LeadsTo}
 use Rattle.report_follows.specs.Readers.{EndsSo, IsEndedSo}
 use Rattle.report_follows.proofs.EndLemmas.{ended, none_by, not_ended, not_opened, opening, read_by}
-use Rattle.report_follows.proofs.FoundLemmas.{none_so, some_so, where_both, where_ok}
+use Rattle.report_follows.proofs.FoundLemmas.{none_so, some_so, where_both}
 use Rattle.report_follows.proofs.following.after_change.Goals as goal
+use Rattle.std.proofs.lemmas.Result.{IfOk-weaker}
 
 pub returns-in-Some-clause-found : goal.returns-in-Some-clause-found
 returns-in-Some-clause-found c =
@@ -18,11 +19,8 @@ returns-in-Some-clause-found c =
     let name = c.as_bytes.ensures in
     let args = c.items.ensures in
     let begun = read_by _ (opening x.name x.args x.within closed events) ls rest (λ i. to.Change (name i) (args i) ∷ map to.Close closed) c.in-Some.ensures.found in
-    where_ok (λ o. IfSome o (λ e. LeadsTo (EndsSo e.given_up x.within closed events) rest e.left.now))
-    (λ o. IfSome o (λ e. LeadsTo (IsEndedSo e.given_up x.name x.args x.within closed events) ls e.left.now))
-    (λ o. some_so (λ e. LeadsTo (EndsSo e.given_up x.within closed events) rest e.left.now) (λ e. LeadsTo (IsEndedSo e.given_up x.name x.args x.within closed events) ls e.left.now)
-    (λ e. ended x.name x.args x.within closed events e.given_up ls rest e.left.now begun) o)
-    c.after_end.result c.after_end.ensures.found
+    IfOk-weaker c.after_end.result (λ o. IfSome o (λ e. LeadsTo (EndsSo e.given_up x.within closed events) rest e.left.now)) (λ o. IfSome o (λ e. LeadsTo (IsEndedSo e.given_up x.name x.args x.within closed events) ls e.left.now)) (λ o. some_so (λ e. LeadsTo (EndsSo e.given_up x.within closed events) rest e.left.now) (λ e. LeadsTo (IsEndedSo e.given_up x.name x.args x.within closed events) ls e.left.now)
+    (λ e. ended x.name x.args x.within closed events e.given_up ls rest e.left.now begun) o) c.after_end.ensures.found
 
 pub returns-in-Some-clause-none : goal.returns-in-Some-clause-none
 returns-in-Some-clause-none c =

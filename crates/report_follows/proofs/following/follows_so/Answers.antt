@@ -7,9 +7,9 @@ use Rattle.change_law.specs.Asked.{Above, after_start, statements_of}
 use Rattle.change_law.specs.Follows.{Follows, IsStop, lines_of, start_lines}
 use Rattle.report_follows.specs.Fronts.{HasNoFront, LeadsTo}
 use Rattle.report_follows.specs.Readers.{IsBehind}
-use Rattle.report_follows.proofs.FoundLemmas.{where_ok}
 use Rattle.report_follows.proofs.ScriptLemmas.{Progress, begun, can_go, ended, not_begun, not_onward, onward, steps_before, steps_from}
 use Rattle.report_follows.proofs.following.follows_so.Goals as goal
+use Rattle.std.proofs.lemmas.Result.{IfOk-weaker}
 
 pub returns-in_default : goal.returns-in_default
 returns-in_default c =
@@ -70,7 +70,4 @@ returns c =
     let i = c.loop-step.step-index in
     let p = subst (λ ds. Progress start ds (drop i steps) history r.left.now r.graph.now r.layout r.given_up) (take_all i steps c.loop-step-test.false) c.loop-step.invariant in
     let law = c.readers_have_no_choice.ensures in
-    where_ok (λ b. (above : Above) (before : List Line) → IsBehind above before r.graph.now r.layout r.given_up → IsTrue b ↔ IsStop before r.left.now)
-    (λ b. IsTrue b ↔ Follows (statements_of start steps) history)
-    (λ b x. ended start history law.last law.all steps (drop i steps) r.left.now r.graph.now r.layout r.given_up p b (x p.above (lines_of p.read.parts) p.behind))
-    c.is_at_stop.result c.is_at_stop.ensures
+    IfOk-weaker c.is_at_stop.result (λ b. (above : Above) (before : List Line) → IsBehind above before r.graph.now r.layout r.given_up → IsTrue b ↔ IsStop before r.left.now) (λ b. IsTrue b ↔ Follows (statements_of start steps) history) (λ b x. ended start history law.last law.all steps (drop i steps) r.left.now r.graph.now r.layout r.given_up p b (x p.above (lines_of p.read.parts) p.behind)) c.is_at_stop.ensures
