@@ -63,6 +63,16 @@ removed_below r n h may =
 pub same_part : {A B : Type 0} {x y : A} → x ≡ y → (f : A → B) → f x ≡ f y
 same_part is f = ap f is
 
+-- a run that goes on without the change
+pub cut : (b : BoardSeen) (r : List Entry) → StandsLive b r → IsRecordCut r
+cut b r h = record {
+  moments = h.of_run.moments;
+  later = [];
+  is_of = h.of_run.is_of;
+  by_nodes = λ k d few. absurd (omega arith);
+  runs_on = subst IsRun (sym (append-nil (events h.of_run.moments))) h.of_run.is_of.runs;
+}
+
 -- What a call did by the seat's record is what a board stands for; the board's own view `v` is the one that contracts see.
 module _ (v old : BoardSeen) (view : v ≡ old) (new : BoardSeen) where
   pub here : (r : List Entry) → StandsLive old r → r ≡ v.entries
@@ -90,6 +100,10 @@ module _ (v old : BoardSeen) (view : v ≡ old) (new : BoardSeen) where
   pub sources_now : (from : Option ℕ) → HasRoomToMake old.room from → (k : ℕ) → from ≡ Some k → k < v.room.sources
   sources_now from h k is =
       subst (λ (b : BoardSeen). k < b.room.sources) (sym view) (ltb-true k old.room.sources (ap (λ o. option_map_or (λ i. nat_lt i old.room.sources) o true) (sym is) ∙ h.source))
+
+  -- a call that broke off left the record
+  pub broke_off : new.entries ≡ v.entries → (r : List Entry) → StandsLive old r → (new.entries ≡ r) × IsRecordCut r
+  broke_off kept r h = (kept ∙ sym (here r h), cut old r h)
 
   module _ (sources : new.room.sources ≡ v.room.sources) (lines : new.lines ≡ v.lines) where
     fits_new : (c : Configuration) (heirs : List (Option ℕ)) → new.heirs ≡ heirs → FitsNodes c v.room.sources v.lines heirs → FitsNodes c new.room.sources new.lines new.heirs
@@ -164,13 +178,3 @@ module _ (v old : BoardSeen) (view : v ≡ old) (new : BoardSeen) where
   adds_room is last sources lines same long =
       adds_no_entry is last (λ f.
       subst (λ i. FitsNodes (config_of v.entries) i new.lines new.heirs) (sym sources) (fits_from_now (config_of v.entries) v.room.sources v.lines new.lines v.heirs new.heirs same long lines f))
-
--- a run that goes on without the change
-pub cut : (b : BoardSeen) (r : List Entry) → StandsLive b r → IsRecordCut r
-cut b r h = record {
-  moments = h.of_run.moments;
-  later = [];
-  is_of = h.of_run.is_of;
-  by_nodes = λ k d few. absurd (omega arith);
-  runs_on = subst IsRun (sym (append-nil (events h.of_run.moments))) h.of_run.is_of.runs;
-}

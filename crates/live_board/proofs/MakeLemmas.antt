@@ -7,7 +7,6 @@ use Rattle.std.proofs.lemmas.Bool.{and_parts, leb-true, ltb-true, not-true}
 use Rattle.std.proofs.lemmas.Option.{same_Some}
 use Rattle.base.proofs.OptionLaws.{map_or_at, map_or_true, option_map_some}
 use Rattle.base.proofs.PlaceLaws.{slice_get-front}
-use Rattle.change_board.specs.Sights.{Sight, sight_entry}
 use Rattle.component_trait.specs.States.{NodeState, Service}
 use Rattle.config_graph.specs.Kinds.{row}
 use Rattle.config_graph.specs.declared.TheConstants.{MAX_NODES, MAX_PORTS}
@@ -118,13 +117,6 @@ seen_quietly (n ∷ ns) = seen_quietly ns
 
 pub config_sighted : (r : List Entry) (ns : List NodeView) → config_of (r ++ map sight_of ns) ≡ config_of r
 config_sighted r ns = quiet r (map sight_of ns) (seen_quietly ns)
-
-abbrev pub view_sight : NodeView → Sight
-view_sight n = record { slot = n.slot; events = n.log }
-
-pub sights_as : (ns : List NodeView) → map sight_of ns ≡ map sight_entry (map view_sight ns)
-sights_as [] = refl
-sights_as (n ∷ ns) = ap (λ es. sight_of n ∷ es) (sights_as ns)
 
 pub source_guest : (r r1 : List Entry) (node : Node) (k : ℕ) (v : NodeView) (vs : List NodeView) (t : NodeState) (s first : ℕ) → CanMake (config_of r) (length (config_of r).slots) node (Some k)
     → r1 ≡ r ++ Did (Make (length (config_of r).slots) node (Some k)) ∷ [] → node_at v ≡ record { slot = s; kind = t.kind; first = first } → s ≡ k → AllByRecursion (IsMadeIn (config_of r1)) (vs ++ v ∷ [])

@@ -16,6 +16,7 @@ use Rattle.quiesce_core.specs.declared.event.Event.{Event}
 use Rattle.txn_law.specs.declared.view.NodeView.{NodeView}
 use Rattle.txn_records.specs.declared.entry.Entry.{Entry}
 use Rattle.live_board.specs.Lengths.{AreLengths}
+use Rattle.live_board.specs.Making.{SightsLine}
 use Rattle.live_board.specs.Seeing.{SeesNode}
 
 seen_among : (xs : List LineSight) (n : ℕ) (es : List Event) → seen_in (map line_sight xs) n ≡ Some es → list_any (is_in_slot n) xs ≡ true
@@ -56,6 +57,21 @@ module _ {A : Type 0} (v : A → NodeView) (l : A → LineSight) where
         let here = heads_are (seen_word (v p)) word (map (λ p. seen_word (v p)) ps ++ seen_word own ∷ []) rest line in
         let next = entries_are (Some (l p).slot) ps (tails_are (seen_word (v p)) word (map (λ p. seen_word (v p)) ps ++ seen_word own ∷ []) rest line) in
         λ i. sight_entry (record { slot = (here i).slot; events = told p i }) ∷ next i
+
+    -- one look at a line that the configuration made
+    pub looked : (ps : List A) (c : Configuration) → map (λ p. seen_word (v p)) ps ++ seen_word own ∷ [] ≡ line_words k None (map (λ p. line_place (l p)) ps ++ line_place last ∷ []) → AllByRecursion (IsMadeIn c) (map v ps ++ own ∷ [])
+        → ((line : List LineSight) (seats : List NodeView) → map seen_word seats ≡ line_words k None (map line_place line) → AllByRecursion (IsMadeIn c) seats → IsMadeLine c k None line)
+        → (sights : List Sight) × SightsLine c last.slot sights × (map sight_of (map v ps ++ own ∷ []) ≡ map sight_entry sights)
+    looked ps c line made tell = (
+      map line_sight (map l ps ++ last ∷ []),
+      record {
+        line = record { kind = k; past = map l ps; last = last };
+        made = tell (map l ps ++ last ∷ []) (map v ps ++ own ∷ []) (words_are ps own ∙ line ∙ ap (line_words k None) (sym (places_are ps last))) made;
+        is_last = refl;
+        sights_are = refl;
+      },
+      entries_are None ps line ∙ ap (map sight_entry) (sym (sights_are ps last)),
+    )
 
 -- a node that is done was sighted with its line
 pub saw : {A : Type 0} (v : A → NodeView) (l : A → LineSight) (told : (p : A) → (v p).log ≡ (l p).log) (ps : List A) (own : NodeView) (last : LineSight) (t : NodeState)

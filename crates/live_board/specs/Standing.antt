@@ -1,4 +1,4 @@
--- A board's records tell one configuration, and a call that broke off leaves the record of a run.
+-- A board's records tell one configuration.
 use Rattle.std.proofs.Common.{◌≡◌, ◌∙◌, List, sym, ap}
 use Rattle.txn_records.specs.Entries.{config_of}
 use Rattle.txn_records.specs.declared.entry.Entry.{Entry}

@@ -9,6 +9,7 @@ ghost use Rattle.change_board.specs.Steps.{HasRoomToMake, less_one};
 ghost use Rattle.config_graph.specs.declared.TheConstants.{MAX_NODES};
 ghost use Rattle.live_board.specs.Boards.{StandsLive, taken_in};
 ghost use Rattle.live_board.specs.Keeping.{is_stored, without};
+ghost use Rattle.live_board.specs.Making.{AddsMake};
 ghost use Rattle.live_board.specs.Standing as standing;
 ghost use Rattle.live_board.specs.Turning.{Reached};
 ghost use Rattle.quiesce_core.specs.declared.event.Event.TheVariants as event;
@@ -143,7 +144,7 @@ impl<'g, J: Named, R: Wait + Copy, T: Turnstile> Board for LiveBoard<'g, J, R, T
 
     ghost taken = { λ b. taken_in b };
 
-    ghost broke_off = { λ b r. IsRecordCut r };
+    ghost broke_off = { λ b r. (b.entries ≡ r) × IsRecordCut r };
 
     ghost alone = { false };
 
@@ -227,6 +228,7 @@ impl<'g, J: Named, R: Wait + Copy, T: Turnstile> Board for LiveBoard<'g, J, R, T
             × May r (event.Make (length (config_of r).slots) node from) }
         requires room { HasRoomToMake self.old.room from }
         ensures board { Makes StandsLive self.old self.new node from }
+        ensures sights { AddsMake self.old.entries self.new.entries node from }
         ensures room { self.new.room ≡ less_one self.old.room }
         ensures stored { self.new.stored ≡ without self.old.stored from }
     {
@@ -252,7 +254,8 @@ impl<'g, J: Named, R: Wait + Copy, T: Turnstile> Board for LiveBoard<'g, J, R, T
     fn scan(&mut self, begins: bool) -> Result<Scan, NoMemory>
         ensures ok { IfOk result (AddsScan StandsLive false self.old self.new begins) }
         ensures room { OnOk result (self.new.room ≡ self.old.room) }
-        ensures err { OnErr result ((r : List Entry) → StandsLive self.old r → IsRecordCut r) }
+        ensures err { OnErr result
+            ((r : List Entry) → StandsLive self.old r → (self.new.entries ≡ r) × IsRecordCut r) }
         ensures reached { IfOk result (λ s. (sights : List Sight) × (found : List Found)
             × (self.new.entries ≡ self.old.entries ++ scan_entries begins s.moved sights found)
             × Reached ⟦<AnyNode as Component>⟧.state J.gates (config_of self.old.entries) begins s.moved sights
@@ -280,7 +283,9 @@ impl<'g, J: Named, R: Wait + Copy, T: Turnstile> Board for LiveBoard<'g, J, R, T
     fn collect(&mut self) -> Result<Collected, NoMemory>
         requires drained { (r : List Entry) × StandsLive self.old r × AreAllNoted r }
         ensures ok { IfOk result (Collects StandsLive self.old self.new (taken_in self.new)) }
-        ensures err { OnErr result ((r : List Entry) → StandsLive self.old r → IsRecordCut r) }
+        ensures err { OnErr result
+            ((r : List Entry) → StandsLive self.old r → (self.new.entries ≡ r) × IsRecordCut r) }
+        ensures nodes { OnErr result (self.new.nodes ≡ self.old.nodes) }
         ensures all { OnOk result ((n : ℕ) → n < length (config_of self.new.entries).slots
             → IsTrue (is_among self.new.nodes n)) }
     {
@@ -299,5 +304,5 @@ impl<'g, J: Named, R: Wait + Copy, T: Turnstile> Board for LiveBoard<'g, J, R, T
 
     ghost one_configuration = { λ b r q h k. standing.one_configuration b r q h k };
 
-    ghost is_of_run_cut = { λ b r h. h };
+    ghost is_of_run_cut = { λ b r h. h.1 };
 }

@@ -1,7 +1,6 @@
 //! Nodes are made at the gates.
 
-ghost use Rattle.std.specs.Prelude.{◌≡◌, ℕ, ◌<◌, ◌≤◌, List, None, Option, Some, [], length};
-ghost use Rattle.change_board.specs.Sights.{Sight};
+ghost use Rattle.std.specs.Prelude.{◌≡◌, ℕ, ◌<◌, ◌≤◌, None, Option, Some, length};
 ghost use Rattle.live_board.specs.Behind.{IsShallow};
 ghost use Rattle.live_board.specs.Keeping.{AreKept, HaveRoom, stored, without};
 ghost use Rattle.live_board.specs.Making.{Made};
@@ -14,6 +13,7 @@ use crate::blank::Blank;
 use crate::keeping::{take_back, take_blank};
 use config_graph::Node;
 use live_hall::{Door, Guest, Named};
+use live_laws::seats_tell_of_their_line;
 use std::alloc::Global;
 use std::sync::Wait;
 use txn_gate::{ChangeSeat, Gates};
@@ -23,7 +23,7 @@ fn make_first(alloc: Global, gates: &Gates, seat: &mut ChangeSeat, node: &Node) 
     requires here { IsChangeSeatOf seat.old gates.now }
     requires spare { 0 < seat.old.spare }
     requires may { CanMake (config_of (record_of seat.old)) (length (config_of (record_of seat.old)).slots) node.now None }
-    ensures made { Made gates.now seat.old seat.new node.now None [] result }
+    ensures made { Made gates.now seat.old seat.new node.now None result }
 {
     let made = seat.made();
     let theirs = gates.make_node(seat, node, None);
@@ -46,11 +46,12 @@ fn make_next(
     requires fits { FitsCell gates.now.words.shared.table_id from old }
     requires room { (sources : ℕ) × IsShallow (config_of (record_of seat.old)) sources blank.room × (from < sources)
         × (sources ≤ length (config_of (record_of seat.old)).slots) }
-    ensures made { (sights : List Sight) × Made gates.now seat.old seat.new node.now (Some from) sights result }
+    ensures made { Made gates.now seat.old seat.new node.now (Some from) result }
 {
     let made = seat.made();
     let theirs = gates.make_node(seat, node, Some(from));
     let mut old = old;
+    seats_tell_of_their_line();
     old.sight(gates, seat);
     Guest::handed(
         alloc, old, blank.list, made.nodes, made.ports, node.arg, theirs,
@@ -81,7 +82,7 @@ pub fn make_guest<J: Named, R: Wait>(
     ensures stored { stored kept.new.items ≡ without (stored kept.old.items) from }
     ensures room { (lines : ℕ) → HaveRoom blanks.old.items seat.old.spare lines
         → HaveRoom blanks.new.items seat.new.spare lines }
-    ensures made { (sights : List Sight) × Made gates.now seat.old seat.new node.now from sights result }
+    ensures made { Made gates.now seat.old seat.new node.now from result }
 {
     match from {
         None => make_first(alloc, gates, seat, node),

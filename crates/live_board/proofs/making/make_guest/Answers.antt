@@ -15,5 +15,5 @@ make_next-requires-clause-room g c =
 
 pub returns-in-Some-clause-room : goal.returns-in-Some-clause-room
 returns-in-Some-clause-room g c = λ lines room.
-    let spare = c.make_next.ensures.made.1.spare in
+    let spare = c.make_next.ensures.made.spare in
     (c.take_blank-blank.ensures c.make_next.new.seat.spare lines (subst (λ n. HaveRoom c.args.blanks.now.items n lines) (sym spare) room)).0

@@ -3,6 +3,7 @@ use Rattle.std.specs.List.{AllByRecursion}
 use Rattle.std.proofs.lemmas.List.{length-map}
 use Rattle.atomic_table.specs.Seated.{TableId}
 use Rattle.live_board.specs.Behind.{HasBehind}
+use Rattle.live_board.specs.Making.{SightsLine}
 use Rattle.live_hall.specs.Sighting.{PastSeen, sight_of, views_of}
 use Rattle.quiesce_core.specs.declared.event.Event.TheVariants.{Make}
 use Rattle.quiesce_core.specs.declared.known.Known.{Known}
@@ -14,7 +15,8 @@ use Rattle.txn_records.specs.Entries.{config_of}
 use Rattle.txn_records.specs.declared.entry.Entry.{Entry}
 use Rattle.txn_records.specs.declared.entry.Entry.TheVariants.{Did}
 use Rattle.live_board.proofs.LineLaws.{line_behind}
-use Rattle.live_board.proofs.MakeLemmas.{make_fits, make_limits, rests_told, rotated, sights_as, slot_below, source_behind, source_guest, view_sight}
+use Rattle.live_board.proofs.MakeLemmas.{config_sighted, make_fits, make_limits, rests_told, rotated, slot_below, source_behind, source_guest}
+use Rattle.live_board.proofs.SightingLaws.{looked}
 use Rattle.live_board.proofs.making.make_next.Goals as goal
 
 pub handed-requires-clause-rests : goal.handed-requires-clause-rests
@@ -77,24 +79,32 @@ returns c =
     let r = record_of c.args.seat.now in
     let at = λ (t : TableId). t ≡ c.args.gates.now.words.shared.table_id in
     let tables = subst (AllByRecursion at) (sym c.sight.ensures.tables) c.requires.fits.1 in
+    let make = Did (Make (length (config_of r).slots) c.args.node.now (Some c.args.from)) in
+    let x = c.args.old.node in
+    let seen = ap (λ (k : ChangeView). k.entries) c.sight.ensures.change in
+    let looked_at =
+    looked (λ p. node_in p.seat) (λ p. record { slot = p.slot; first = p.first_port; arg = p.arg; log = p.log.items }) (ghosts.state x.inner).kind (λ p. p.told _ refl) (node_in x.seat)
+    (record { slot = x.slot; first = x.first_port; arg = (ghosts.state x.inner).arg; log = x.log.items }) (x.hosted.tells _ refl) x.past.items (config_of (record_of c.make_node-theirs.new.seat)) c.args.old.line c.sight.ensures.made
+    (λ line seats. c.seats_tell_of_their_line.ensures.made (config_of (record_of c.make_node-theirs.new.seat)) _ line seats) in
     record {
-      made = (
-        map view_sight (views_of c.args.old),
-        record {
-          here = c.sight.ensures.here ∙ c.make_node-theirs.ensures.here.0;
-          entries = ap (λ (k : ChangeView). k.entries) c.sight.ensures.change ∙ ap (λ (k : ChangeView). k.entries ++ map sight_of (views_of c.args.old)) c.make_node-theirs.ensures.change
-              ∙ append_assoc r (Did (Make (length (config_of r).slots) c.args.node.now (Some c.args.from)) ∷ []) (map sight_of (views_of c.args.old))
-              ∙ ap (λ (es : List Entry). r ++ Did (Make (length (config_of r).slots) c.args.node.now (Some c.args.from)) ∷ es) (sights_as (views_of c.args.old));
-          nodes = c.sight.ensures.nodes ∙ c.make_node-theirs.ensures.nodes;
-          spare = ap (λ k. k + 1) c.sight.ensures.spare ∙ c.make_node-theirs.ensures.spare;
-          fits = (
-            c.handed.ensures.place.0 ∙ c.made-made.ensures.nodes,
-            (
-              ap table_of_node c.handed.ensures.seat ∙ c.make_node-theirs.ensures.here.1 ∙ c.requires.here,
-              subst (AllByRecursion at) (sym c.handed.ensures.past) (rotated at (table_of_node c.sight.new.self.node.seat) _ tables),
-            ),
-          );
-          below = slot_below (config_of r) c.args.node.now (Some c.args.from) c.requires.may;
-        },
-      );
+      made = record {
+        here = c.sight.ensures.here ∙ c.make_node-theirs.ensures.here.0;
+        entries = record {
+          sights = looked_at.0;
+          adds = seen ∙ ap (λ (k : ChangeView). k.entries ++ map sight_of (views_of c.args.old)) c.make_node-theirs.ensures.change ∙ append_assoc r (make ∷ []) (map sight_of (views_of c.args.old))
+              ∙ ap (λ (es : List Entry). r ++ make ∷ es) looked_at.2;
+          of_source = subst (λ n. SightsLine (config_of (record_of c.sight.new.seat)) n looked_at.0) c.requires.fits.0
+              (subst (λ d. SightsLine d x.slot looked_at.0) (sym (ap config_of seen ∙ config_sighted (record_of c.make_node-theirs.new.seat) (views_of c.args.old))) looked_at.1);
+        };
+        nodes = c.sight.ensures.nodes ∙ c.make_node-theirs.ensures.nodes;
+        spare = ap (λ k. k + 1) c.sight.ensures.spare ∙ c.make_node-theirs.ensures.spare;
+        fits = (
+          c.handed.ensures.place.0 ∙ c.made-made.ensures.nodes,
+          (
+            ap table_of_node c.handed.ensures.seat ∙ c.make_node-theirs.ensures.here.1 ∙ c.requires.here,
+            subst (AllByRecursion at) (sym c.handed.ensures.past) (rotated at (table_of_node c.sight.new.self.node.seat) _ tables),
+          ),
+        );
+        below = slot_below (config_of r) c.args.node.now (Some c.args.from) c.requires.may;
+      };
     }

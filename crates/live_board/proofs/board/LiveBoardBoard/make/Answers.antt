@@ -13,7 +13,7 @@ make_guest-guest-requires-clause-room g c =
 
 pub invariant_of-self : goal.invariant_of-self
 invariant_of-self g c =
-    let made = c.make_guest-guest.ensures.made.1 in (
+    let made = c.make_guest-guest.ensures.made in (
       c.learn.ensures.here ∙ made.here ∙ c.self.invariant.0,
       c.self.invariant.1,
       c.make_guest-guest.ensures.kept,
@@ -23,8 +23,8 @@ invariant_of-self g c =
 pub returns-clause-board : goal.returns-clause-board
 returns-clause-board g c =
     let made = c.make_guest-guest.ensures.made in
-    adds_made _ c.args.self.now c.self.view_is _ refl refl refl c.args.node c.args.from made.0
+    adds_made _ c.args.self.now c.self.view_is _ refl refl refl c.args.node c.args.from made.entries.sights
     (sources_now _ c.args.self.now c.self.view_is c.args.self.now c.args.from c.requires.room)
     (c.note_heir.ensures ∙ ap (with_heir c.self.inside.heirs.items c.args.from) c.made-made.ensures.nodes)
-    (ap (λ (k : ChangeView). k.entries) c.learn.ensures.change ∙ made.1.entries)
+    (ap (λ (k : ChangeView). k.entries) c.learn.ensures.change ∙ made.entries.adds)
     c.learn.ensures.run
