@@ -74,7 +74,9 @@ def fits(line, form, version):
 
 
 def fits_one(line, forms, version):
-    return any(fits(line, form, version) for form in forms)
+    """Whether a line is of one of these forms, each of which begins with a word as it stands."""
+    name = line.split(b" ", 1)[0]
+    return any(form[0] == name and fits(line, form, version) for form in forms)
 
 
 def is_last(line, version):

@@ -154,18 +154,40 @@ class Threads(Search):
         return False
 
 
-def why_not(statements, report, most=MOST):
-    """Why a report can't be one of these statements on threads, or None."""
+def read(statements, report):
+    """What the history and the logs of a report say. `Unlike` is raised at the first line that can't stand there in any order of events."""
     _, history, lines, end = report
     reading, logs = Reading(history), logs_of(history, lines)
+    is_given_up = reading.read(statements)
+    wanted = end_of(reading, statements, folded(reading, logs), is_given_up)
+    if end != wanted:
+        number = 2 + len(history) + sum(map(len, lines))
+        raise Unlike(number, "it has to end with %s" % b", ".join(wanted).decode())
+    return reading, logs
+
+
+def why_not(statements, report, most=MOST):
+    """Why a report can't be one of these statements on threads, or None."""
     try:
-        is_given_up = reading.read(statements)
-        nodes = folded(reading, logs)
+        reading, logs = read(statements, report)
     except Unlike as unlike:
         return str(unlike)
-    wanted = end_of(reading, statements, nodes, is_given_up)
-    if end != wanted:
-        return "it has to end with %s" % b", ".join(wanted).decode()
     if Threads(reading.members(), logs, courses(reading, logs)).finds(most):
         return None
     return "no list of its lines and events is a run with these numbers"
+
+
+def why_not_by_one_way(statements, report):
+    """The same of a report that is too long for the search. One way is gone through the lines and events, as the tool that explains reports does;
+    of the numbers of `run` lines is only asked that all together aren't more than the transactions."""
+    try:
+        reading, logs = read(statements, report)
+    except Unlike as unlike:
+        return str(unlike)
+    search = Search(reading.members(), logs)
+    machine, cut = search.walked()
+    if cut != search.lengths or any(port.phase != "idle" for port in machine.ports):
+        return "its lines and events come to no end in one list"
+    told = sum(int(line.split(b" ")[2]) for line in report[1] if line.startswith(b"run "))
+    ended = sum(event[0] == "end" for log in logs for event in log.events)
+    return None if told <= ended else "its runs tell of %d transactions, and %d ended" % (told, ended)
