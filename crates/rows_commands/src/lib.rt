@@ -2,6 +2,8 @@
 #![tactic(auto)]
 
 #[cfg(test)]
+mod change_check_rows;
+#[cfg(test)]
 mod check_rows;
 #[cfg(test)]
 mod denial_rows;

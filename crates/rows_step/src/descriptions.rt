@@ -35,3 +35,15 @@ component Lone { inst s:source(2); }
 pub const ONE: &str = "component sink { provide in; }
 component One { inst t:sink; }
 ";
+
+/// A source that leads through so many maps to a sink, from the lowest slot on.
+pub const CHAIN: &str = "component source(int n) { require out; }
+component map(int k) { provide in; require next; }
+component sink { provide in; }
+component Chain(int n, int items) {
+  array m[n]:map(1);
+  inst s:source(items); t:sink;
+  forall i:0..n-1 { inst m[i]; when i > 0 bind m[i-1].next -- m[i].in; }
+  bind s.out -- m[0].in; m[n-1].next -- t.in;
+}
+";

@@ -1,7 +1,7 @@
 //! Changes once so many transactions ended: what is counted or kept at the end doesn't depend on it.
 
-use crate::descriptions::{BANK, LINE};
-use crate::running::{AMPLE, STEP, words_of};
+use crate::descriptions::{BANK, CHAIN, LINE};
+use crate::running::{STEP, words_of};
 use cfg_io::{MemShelf, MemSink};
 use command_program::{Status, still};
 use std::alloc::Global;
@@ -57,6 +57,9 @@ static FALLINGS: [Falling; 7] = [
     },
 ];
 
+/// Room of a sink that takes every report of these.
+const ROOM: usize = 16_384;
+
 /// Whether a text has the line.
 fn has_line(text: &[u8], line: &str) -> bool {
     text.split(|byte| *byte == b'\n')
@@ -67,7 +70,7 @@ fn has_lines(text: &[u8], lines: &[&str]) -> bool {
     lines.iter().all(|line| has_line(text, line))
 }
 
-/// Runs a script over the line or the bank, and stops the test where another status comes or one of the lines doesn't.
+/// Runs a script over one of the systems, and stops the test where another status comes or one of the lines doesn't.
 fn run_to(
     rt: &impl Abort,
     alloc: Global,
@@ -78,8 +81,9 @@ fn run_to(
     let mut shelf = MemShelf::new(alloc);
     shelf.add("line.dar", LINE.as_bytes())?;
     shelf.add("bank.dar", BANK.as_bytes())?;
+    shelf.add("chain.dar", CHAIN.as_bytes())?;
     shelf.add("s.cfg", script.as_bytes())?;
-    let mut sink = MemSink::new(alloc, AMPLE)?;
+    let mut sink = MemSink::new(alloc, ROOM)?;
     let words = words_of(alloc, &STEP)?;
     let came = still(alloc, words.as_slice(), &mut shelf, &mut sink);
     assert_eq!(rt; came, status, "{script}");
@@ -126,6 +130,51 @@ fn sums_are_kept_after_each_count(rt: HostRuntime) -> Result<(), Fail> {
             Status::Ok,
             &["moved 4", "log 4 a", "state 94", "state 6"],
         )?;
+    }
+    Ok(())
+}
+
+/// The source of a chain of maps is replaced once its item came to the sink: each map but the last hands the answer back
+/// in two rounds. So many maps, for how many rounds the change waits, and what comes of it.
+struct Wait {
+    maps: u32,
+    within: u32,
+    status: Status,
+    lines: &'static [&'static str],
+}
+
+static WAITS: [Wait; 3] = [
+    // It is drained in the last round.
+    Wait {
+        maps: 61,
+        within: 120,
+        status: Status::Ok,
+        lines: &["drained 61 1", "moved 63", "state 62 63"],
+    },
+    Wait {
+        maps: 61,
+        within: 119,
+        status: Status::Pending,
+        lines: &["pending 119", "open 61 1", "abandon", "state 62"],
+    },
+    Wait {
+        maps: 62,
+        within: 120,
+        status: Status::Pending,
+        lines: &["pending 120", "open 62 1", "abandon", "state 63"],
+    },
+];
+
+#[test]
+fn changes_wait_for_all_their_rounds(rt: HostRuntime) -> Result<(), Fail> {
+    let alloc = rt.alloc();
+    for wait in &WAITS {
+        let maps = wait.maps;
+        let within = wait.within;
+        let script = format!(in alloc;
+            "use chain.dar\nstart Chain({maps},1)\nrun 1\nchange to Chain({maps},2) within {within} moving s -> s\nfinish within 1000\nend\n"
+        )?;
+        run_to(&rt, alloc, script.as_str(), wait.status, wait.lines)?;
     }
     Ok(())
 }

@@ -1,54 +1,76 @@
 //! A turnstile that holds a node of one line while the nodes of another go on.
 
-use crate::looking::await_flag;
+use crate::looking::{Awaited, await_it, word_of};
 use live_board::Turnstile;
-use std::sync::atomic::{AtomicBool, AtomicU32, Ordering};
+use std::sync::atomic::{AtomicBool, Ordering};
+use txn_gate::Gates;
 
-/// The source and the map of the line that is held, and the source, the map and the sink of the other.
+/// The source and the map of the line that is held.
 const HELD_SOURCE: u32 = 0;
 
 const HELD_MAP: u32 = 1;
 
+/// The source and the sink of the other line.
 const OTHER_SOURCE: u32 = 3;
 
 const OTHER_SINK: u32 = 5;
 
-/// So many rounds of turns are more than the items of the other line take.
-const ROUNDS: u32 = 200;
-/// So many turns by the thread of the change are more than those of a run's last scan, and of all scans of the change.
-const TURNS: u32 = 700;
+/// The ports of the two sources.
+const HELD_PORT: u32 = 0;
 
-/// Holds a worker before a turn of the one map, where a transaction of its source waits then, until the other line has done
-/// all and the change was given up.
+const OTHER_PORT: u32 = 2;
+
+/// That the held source began a transaction. It is open until the map goes on.
 #[derive(Drop)]
-pub struct Held {
+struct HasBegun<'a>(&'a Gates);
+
+impl Awaited for HasBegun<'_> {
+    fn has_come(&self) -> bool {
+        word_of(self.0, HELD_PORT).serial > 0
+    }
+}
+
+/// That the other source began its third transaction: so its second, before which it was held back, has ended.
+#[derive(Drop)]
+struct HasGoneOn<'a>(&'a Gates);
+
+impl Awaited for HasGoneOn<'_> {
+    fn has_come(&self) -> bool {
+        word_of(self.0, OTHER_PORT).serial > 2
+    }
+}
+
+/// That the port of the held source is open.
+#[derive(Drop)]
+struct IsOver<'a>(&'a Gates);
+
+impl Awaited for IsOver<'_> {
+    fn has_come(&self) -> bool {
+        !word_of(self.0, HELD_PORT).closed
+    }
+}
+
+/// Holds a worker before a turn of the one map, where a transaction of its source waits then, until the change is over.
+/// Of the other line one transaction is begun before the change, and more are while the thread of the change waits in it.
+#[derive(Drop)]
+pub struct Held<'a> {
+    gates: &'a Gates,
     /// A worker is held before the map's turn.
     holds: AtomicBool,
-    /// How often the source of that map came to a turn since.
-    begun: AtomicU32,
-    /// Its first turn is over, in which it began a transaction.
-    waits: AtomicBool,
-    /// Which nodes of the other line came to a turn in its present round, as bits.
-    turned: AtomicU32,
-    /// How many rounds of the other line are over since.
-    rounds: AtomicU32,
-    /// How many turns the thread of the change gave since all items of the other line came through.
-    turns: AtomicU32,
-    /// The change was given up, and the worker goes on.
+    /// The thread of the change came to a turn in the change.
+    came: AtomicBool,
+    /// The change is over, and the worker goes on.
     released: AtomicBool,
     /// Somebody waited in vain.
     missed: AtomicBool,
 }
 
-impl Held {
-    pub fn new() -> Held {
+impl<'a> Held<'a> {
+    pub fn new(gates: &'a Gates) -> Held<'a> {
         Held {
+            gates,
             holds: AtomicBool::new(false),
-            begun: AtomicU32::new(0),
-            waits: AtomicBool::new(false),
-            turned: AtomicU32::new(0),
-            rounds: AtomicU32::new(0),
-            turns: AtomicU32::new(0),
+            came: AtomicBool::new(false),
             released: AtomicBool::new(false),
             missed: AtomicBool::new(false),
         }
@@ -59,53 +81,58 @@ impl Held {
         self.released.load(Ordering::SeqCst) && !self.missed.load(Ordering::SeqCst)
     }
 
-    /// The source whose map is held takes no turn before that.
-    fn before_held_source(&self) {
-        await_flag(&self.holds, &self.missed);
-        if self.begun.fetch_add(1, Ordering::SeqCst) > 0 {
-            self.waits.store(true, Ordering::SeqCst);
+    fn await_here<A: Awaited>(&self, awaited: &A) {
+        await_it(awaited, &self.missed);
+    }
+
+    /// Whether the change is under way: before the start is over, the port is closed too, and nothing was begun at it.
+    fn is_changing(&self) -> bool {
+        let word = word_of(self.gates, HELD_PORT);
+        word.closed && word.serial > 0
+    }
+
+    /// In the change, its thread waits for the other line, of which it has no node in its hands.
+    fn before_change(&self, slot: u32) {
+        if self.is_changing() && (slot < OTHER_SOURCE || slot > OTHER_SINK) {
+            self.came.store(true, Ordering::SeqCst);
+            self.await_here(&HasGoneOn(self.gates));
         }
     }
 
-    /// A node of the other line comes to a turn; its source to none before the held line's has begun.
-    fn before_other(&self, slot: u32) {
-        if slot == OTHER_SOURCE {
-            await_flag(&self.waits, &self.missed);
-        }
-        let bit = match slot {
-            OTHER_SOURCE => 1_u32,
-            OTHER_SINK => 4,
-            _ => 2,
-        };
-        if self.turned.fetch_or(bit, Ordering::SeqCst) | bit == 7 {
-            self.turned.store(0, Ordering::SeqCst);
-            self.rounds.fetch_add(1, Ordering::SeqCst);
+    /// In the change, workers go on once its thread waits, which so finds a node that lies in the hall. The other source
+    /// has one item under way before.
+    fn before_worker(&self, slot: u32) {
+        let has_more = slot == OTHER_SOURCE && word_of(self.gates, OTHER_PORT).serial > 0;
+        if has_more || self.is_changing() {
+            self.await_here(&self.came);
         }
     }
 
-    /// The thread of the change comes to a turn.
-    fn count_turn(&self) {
-        if self.rounds.load(Ordering::SeqCst) < ROUNDS {
+    /// The map's turn comes once the change is over.
+    fn before_held_map(&self) {
+        if self.released.load(Ordering::SeqCst) {
             return;
         }
-        if self.turns.fetch_add(1, Ordering::SeqCst) > TURNS {
-            self.released.store(true, Ordering::SeqCst);
-        }
+        self.holds.store(true, Ordering::SeqCst);
+        self.await_here(&self.came);
+        self.await_here(&IsOver(self.gates));
+        self.released.store(true, Ordering::SeqCst);
     }
 }
 
-impl Turnstile for Held {
+impl Turnstile for Held<'_> {
     fn before(&self, worker: u32, slot: u32) {
-        if worker == 0 {
-            self.count_turn();
+        match slot {
+            HELD_SOURCE => self.await_here(&self.holds),
+            OTHER_SOURCE => self.await_here(&HasBegun(self.gates)),
+            _ => (),
         }
-        if slot == HELD_SOURCE {
-            self.before_held_source();
-        } else if slot == HELD_MAP && worker > 0 {
-            self.holds.store(true, Ordering::SeqCst);
-            await_flag(&self.released, &self.missed);
-        } else if slot >= OTHER_SOURCE && slot <= OTHER_SINK {
-            self.before_other(slot);
+        if worker == 0 {
+            self.before_change(slot);
+        } else if slot == HELD_MAP {
+            self.before_held_map();
+        } else {
+            self.before_worker(slot);
         }
     }
 }

@@ -1,6 +1,6 @@
 //! A turnstile at which two workers meet.
 
-use crate::looking::await_flag;
+use crate::looking::await_it;
 use live_board::Turnstile;
 use std::sync::atomic::{AtomicBool, Ordering};
 
@@ -34,9 +34,9 @@ impl Turnstile for Meeting {
     fn before(&self, worker: u32, slot: u32) {
         let _ = slot;
         match worker {
-            0 => await_flag(&self.met, &self.missed),
+            0 => await_it(&self.met, &self.missed),
             1 => {
-                await_flag(&self.came, &self.missed);
+                await_it(&self.came, &self.missed);
                 self.met.store(true, Ordering::SeqCst);
             }
             _ => self.came.store(true, Ordering::SeqCst),

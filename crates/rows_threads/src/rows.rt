@@ -1,13 +1,15 @@
 //! The rows.
 
+use crate::counting::{Counting, ITEMS};
 use crate::held::Held;
 use crate::meeting::Meeting;
-use crate::running::{Row, run_row};
+use crate::running::{Row, judge_report, run_row};
 use command_program::Status;
 use live_board::Free;
 use std::process::Abort;
 use std::str::from_utf8;
 use std::test::Fail;
+use txn_gate::Gates;
 
 const TABLE: &str = "component philosopher(int meals) { require dine; }
 component place(int first) { provide dine; require left, right; }
@@ -36,6 +38,12 @@ component Line(int n, int k) {
 component Lines(int k) {
   inst a:source(3); b:map(k); c:sink; d:source(3); e:map(1); f:sink;
   bind a.out -- b.in; b.next -- c.in; d.out -- e.in; e.next -- f.in;
+  array g[3]:sink;
+  forall i:0..2 inst g[i];
+}
+component Sources(int n) {
+  inst a:sink; b:sink; c:source(n); d:source(n); e:sink;
+  bind c.out -- e.in; d.out -- e.in;
 }
 ";
 
@@ -53,6 +61,15 @@ fn count_lines(text: &str, start: &str) -> u32 {
         if line.starts_with(start) {
             count = count.wrapping_add(1);
         }
+    }
+    count
+}
+
+/// How many events of sources and sinks stand in logs.
+fn count_events(text: &str) -> u32 {
+    let mut count = 0_u32;
+    for start in ["begin ", "end ", "take ", "give "] {
+        count = count.wrapping_add(count_lines(text, start));
     }
     count
 }
@@ -79,8 +96,10 @@ fn live_dine(rt: HostRuntime) -> Result<(), Fail> {
         script: "use table.dar\nstart Table(5,3,9)\nrun 10\nchange to Table(6,3,9) within 1000000\nshow\nfinish within 1000000\nend\n",
         workers: "4",
     };
-    let (status, sink) = run_row(rt, rt.alloc(), &row, &Free)?;
+    let (gates, seat) = Gates::new(rt.alloc())?;
+    let (status, sink) = run_row(rt, rt.alloc(), &row, &Free, &gates, seat)?;
     assert_eq!(rt; status, Status::Ok);
+    judge_report(&rt, rt.alloc(), &row, sink.bytes())?;
     let Ok(text) = from_utf8(sink.bytes()) else {
         return Err(Fail::new("a text"));
     };
@@ -104,8 +123,9 @@ fn two_workers(rt: HostRuntime) -> Result<(), Fail> {
         script: "use line.dar\nstart Line(3,10)\nfinish within 1000000\nend\n",
         workers: "2",
     };
+    let (gates, seat) = Gates::new(rt.alloc())?;
     let meeting = Meeting::new();
-    let (status, _sink) = run_row(rt, rt.alloc(), &row, &meeting)?;
+    let (status, _sink) = run_row(rt, rt.alloc(), &row, &meeting, &gates, seat)?;
     assert_eq!(rt; status, Status::Ok);
     assert!(rt; meeting.is_held());
     Ok(())
@@ -119,8 +139,9 @@ fn outside_goes_on(rt: HostRuntime) -> Result<(), Fail> {
         script: "use line.dar\nstart Lines(1)\nrun 1\nchange to Lines(2) within 3\nfinish within 1000000\nend\n",
         workers: "3",
     };
-    let held = Held::new();
-    let (status, sink) = run_row(rt, rt.alloc(), &row, &held)?;
+    let (gates, seat) = Gates::new(rt.alloc())?;
+    let held = Held::new(&gates);
+    let (status, sink) = run_row(rt, rt.alloc(), &row, &held, &gates, seat)?;
     assert_eq!(rt; status, Status::Pending);
     assert!(rt; held.is_held());
     let Ok(text) = from_utf8(sink.bytes()) else {
@@ -129,5 +150,31 @@ fn outside_goes_on(rt: HostRuntime) -> Result<(), Fail> {
     // transactions of the other line ended, while the source of this one waits for its map
     assert_eq!(rt; count_lines(text, "run 1 0"), 0);
     assert!(rt; text.contains("pending 3\nopen 0 1\n"));
+    Ok(())
+}
+
+#[test]
+fn each_turn_is_announced(rt: HostRuntime) -> Result<(), Fail> {
+    let row = Row {
+        file: "line.dar",
+        description: LINES,
+        script: "use line.dar\nstart Sources(3)\nfinish within 1000000\nend\n",
+        workers: "1",
+    };
+    let (gates, seat) = Gates::new(rt.alloc())?;
+    let counting = Counting::new(&gates);
+    let (status, sink) = run_row(rt, rt.alloc(), &row, &counting, &gates, seat)?;
+    assert_eq!(rt; status, Status::Ok);
+    let Ok(text) = from_utf8(sink.bytes()) else {
+        return Err(Fail::new("a text"));
+    };
+    let events = count_events(text);
+    // of each source's items
+    assert_eq!(rt; events, 2 * ITEMS * 4);
+    // one event a turn at most
+    let Some(turns) = counting.turns() else {
+        return Err(Fail::new("calls before turns"));
+    };
+    assert!(rt; turns >= events);
     Ok(())
 }

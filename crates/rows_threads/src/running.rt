@@ -1,15 +1,19 @@
-//! How a script is run on threads.
+//! How a script is run on threads, and its report judged.
+
+ghost use Rattle.std.specs.Prelude.{◌≡◌, []};
+ghost use Rattle.txn_gate.specs.Seats.{IsChangeSeatOf, change_in, collected_in};
+ghost use Rattle.txn_law.specs.Views.{nothing_done};
 
 use cfg_io::{MemShelf, MemSink};
 use command_live::live;
-use command_program::Status;
+use command_program::{Status, still};
 use live_board::Turnstile;
 use std::alloc::Global;
 use std::process::Abort;
 use std::sync::Wait;
 use std::test::Fail;
 use std::thread::Threads;
-use txn_gate::Gates;
+use txn_gate::{ChangeSeat, Gates};
 
 /// A script, the file that it uses, and how many workers run it.
 #[derive(Drop)]
@@ -20,31 +24,68 @@ pub struct Row<'a> {
     pub workers: &'a str,
 }
 
-/// Runs a row, and gives the status and what was written. The test fails where no seat comes back.
+/// A shelf with a row's files.
+fn shelf_of(alloc: Global, row: &Row<'_>) -> Result<MemShelf, Fail> {
+    let mut shelf = MemShelf::new(alloc);
+    shelf.add(row.file, row.description.as_bytes())?;
+    shelf.add("s.cfg", row.script.as_bytes())?;
+    Ok(shelf)
+}
+
+/// The words of a command line.
+fn words_of(alloc: Global, words: &[&str]) -> Result<Vec<String>, Fail> {
+    let mut given = Vec::new(alloc);
+    for word in words {
+        given.push(String::from_str(alloc, word)?)?;
+    }
+    Ok(given)
+}
+
+/// Runs a row on these gates, and gives the status and what was written. The test fails where no seat comes back.
 pub fn run_row<R, T>(
     rt: R,
     alloc: Global,
     row: &Row<'_>,
     stile: &T,
+    gates: &Gates,
+    seat: ChangeSeat,
 ) -> Result<(Status, MemSink), Fail>
 where
     R: Threads + Wait + Abort + Copy + Send + Sync,
     T: Turnstile + Sync,
+    requires here { IsChangeSeatOf seat gates.now }
+    requires fresh { (change_in seat ≡ nothing_done) × (collected_in seat ≡ []) × (seat.spare ≡ 0) }
 {
-    let mut shelf = MemShelf::new(alloc);
-    shelf.add(row.file, row.description.as_bytes())?;
-    shelf.add("s.cfg", row.script.as_bytes())?;
+    let mut shelf = shelf_of(alloc, row)?;
     let mut sink = MemSink::new(alloc, 65_536)?;
-    let words = [
-        String::from_str(alloc, "live")?,
-        String::from_str(alloc, "s.cfg")?,
-        String::from_str(alloc, "--workers")?,
-        String::from_str(alloc, row.workers)?,
-    ];
-    let (gates, seat) = Gates::new(alloc)?;
+    let words = words_of(alloc, &["live", "s.cfg", "--workers", row.workers])?;
     let (status, back) = live(
-        rt, alloc, &words, &mut shelf, &mut sink, stile, &gates, seat,
+        rt,
+        alloc,
+        words.as_slice(),
+        &mut shelf,
+        &mut sink,
+        stile,
+        gates,
+        seat,
     );
     assert!(rt; back.is_some());
     Ok((status, sink))
+}
+
+/// Stops the test where a report can't be one of the row's script.
+pub fn judge_report(
+    rt: &impl Abort,
+    alloc: Global,
+    row: &Row<'_>,
+    report: &[u8],
+) -> Result<(), Fail> {
+    let mut shelf = shelf_of(alloc, row)?;
+    shelf.add("r.txt", report)?;
+    let mut sink = MemSink::new(alloc, 64)?;
+    let words = words_of(alloc, &["check", "s.cfg", "r.txt"])?;
+    let status = still(alloc, words.as_slice(), &mut shelf, &mut sink);
+    assert_eq!(rt; sink.bytes(), "consistent\n".as_bytes());
+    assert_eq!(rt; status, Status::Ok);
+    Ok(())
 }
