@@ -1,5 +1,5 @@
 -- A script that is carried out on threads: what it needs, and what it leaves before the seat has had its last look.
-use Rattle.std.specs.Prelude.{◌≡◌, ℕ, ◌<◌, List, [], length, IsTrue}
+use Rattle.std.specs.Prelude.{◌≡◌, ℕ, ◌<◌, ◌≤◌, List, [], length, IsTrue}
 use Rattle.atomic_table.specs.Seated.{TableId}
 use Rattle.change_law.specs.Asked.{CanDoAll, CanStart, after_start}
 use Rattle.change_law.specs.Statements.{Statement}
@@ -14,10 +14,11 @@ use Rattle.txn_gate.specs.declared.gates.Gates.{Gates}
 use Rattle.txn_law.specs.Views.{is_among, nothing_done}
 use Rattle.txn_records.specs.Entries.{config_of}
 
--- the seat is of these gates and fresh, and the script can be carried out
-pub record IsReady (gates : Gates) (s : ChangeSeat) (start : Start) (steps : List Step) : Type 0 where
+-- the seat is of these gates and fresh, the observers are few, and the script can be carried out
+pub record IsReady (gates : Gates) (s : ChangeSeat) (observers : ℕ) (start : Start) (steps : List Step) : Type 0 where
   pub here : IsChangeSeatOf s gates
   pub fresh : (change_in s ≡ nothing_done) × (collected_in s ≡ []) × (s.spare ≡ 0)
+  pub few : observers ≤ 4
   pub can_start : CanStart start
   pub can_do : CanDoAll (after_start start) steps
 

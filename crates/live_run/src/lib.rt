@@ -1,8 +1,9 @@
-//! A script carried out on threads: workers give nodes their turns, while one thread changes the system.
+//! A script carried out on threads: workers give nodes their turns and observers look on, while one thread changes the
+//! system.
 #![tactic(auto)]
 
 mod ending;
 mod running;
 mod working;
 
-pub use running::run_on_threads;
+pub use running::{Ran, run_on_threads};

@@ -1,19 +1,21 @@
 //! The script, carried out by one thread beside its workers.
 
-ghost use Rattle.std.specs.Prelude.{◌≡◌, ◌≤◌, ◌<◌, ◌+◌, ◌^◌, [], IfOk, length};
+ghost use Rattle.std.specs.Prelude.{◌≡◌, ◌≤◌, ◌<◌, ◌+◌, ◌^◌, [], All, IfOk, length};
 ghost use Rattle.change_law.specs.Asked.{CanDoAll, CanStart, after_start, statements_of};
 ghost use Rattle.live_laws.specs.Ended.{AgreesWith};
 ghost use Rattle.live_run.specs.Carried.{CarriedOut, IsReady};
 ghost use Rattle.report_writing.specs.Reports.{LogsAreMade};
 ghost use Rattle.txn_gate.specs.Seats.{IsChangeSeatOf, change_in, collected_in, record_of};
 ghost use Rattle.txn_law.specs.Views.{nothing_done};
+ghost use Rattle.watch_lines.specs.Observers.{AreToldOf};
+ghost use Rattle.watch_threads.specs.Hearing.{HasHeard};
 
 use crate::ending::look_last;
 use crate::working::{Flags, work};
 use change_board::Board;
 use change_law::{Start, Step};
-use change_runner::{NoOne, run_statements};
-use config_graph::NoMemory;
+use change_runner::run_statements;
+use config_graph::{List, NoMemory};
 use live_board::{LiveBoard, Turnstile, scripts_leave_all_taken_in};
 use live_hall::{Door, Hall, Named};
 use live_hands::{Hand, Inboxes};
@@ -25,22 +27,35 @@ use std::sync::atomic::Ordering;
 use std::thread;
 use std::thread::Threads;
 use txn_gate::{ChangeSeat, Gates};
+use watch_lines::{Sighting, what_was_seen_is_told};
+use watch_threads::{Observers, Watch};
 
-/// Carries the script out on a board over the gates. Gives its report, and the seat of the change.
-fn carry_out<'g, J: Named, R: Wait + Copy, T: Turnstile>(
+/// What a run leaves: its report, the lines of each observer, and the seat of the change.
+pub type Ran = (Report, Vec<List<Sighting>>, ChangeSeat);
+
+/// Carries the script out on a board over the gates, and publishes each commit. Gives the report, the lines of so many
+/// observers, and the seat of the change.
+fn carry_out<'g, J: Named, R: Threads + Wait + Copy + Send, T: Turnstile>(
     alloc: Global,
     board: LiveBoard<'g, J, R, T>,
     start: Start,
     steps: Vec<Step>,
-) -> Result<(Report, ChangeSeat), NoMemory>
+    watch: Watch<R>,
+    observers: u32,
+) -> Result<Ran, NoMemory>
     requires fresh { ⟦<LiveBoard<'g, J, R, T> as Board>⟧.stands_for board [] }
     requires start { CanStart start }
     requires steps { CanDoAll (after_start start) steps.items }
-    ensures { IfOk result (λ x. CarriedOut J.gates (statements_of start steps.items) x.0 x.1) }
+    requires heard { HasHeard watch [] }
+    ensures carried { IfOk result (λ x. CarriedOut J.gates (statements_of start steps.items) x.0 x.2) }
+    ensures observers { IfOk result (λ x. length x.1.items ≡ observers) }
+    ensures seen { IfOk result (λ x. All (AreToldOf x.0.history) x.1.items) }
 {
     scripts_leave_all_taken_in::<J, R, T>();
-    let (report, board, _listener) = run_statements(alloc, board, start, steps, NoOne)?;
-    Ok((report, board.into_seat()))
+    what_was_seen_is_told();
+    let (report, board, watch) = run_statements(alloc, board, start, steps, watch)?;
+    let seen = watch.end(alloc, observers)?;
+    Ok((report, seen, board.into_seat()))
 }
 
 /// The way in of the thread of the change, which is the last of them.
@@ -53,8 +68,8 @@ fn own_way<W>(ways: &mut Vec<W>) -> W
     way
 }
 
-/// Carries the script out beside workers, one for each of these doors and hands but the last. One that can't be started
-/// is left out: the scans of the board give its turns. All have ended when this returns.
+/// Carries the script out beside observers, and beside workers, one for each of these doors and hands but the last. A worker
+/// that can't be started is left out: the scans of the board give its turns. All have ended when this returns.
 fn carry_out_beside<J, R, T>(
     rt: R,
     alloc: Global,
@@ -63,37 +78,44 @@ fn carry_out_beside<J, R, T>(
     stile: &T,
     mut doors: Vec<Door<J, R>>,
     mut hands: Vec<Hand<R>>,
+    observers: &Observers,
     start: Start,
     steps: Vec<Step>,
     told: &Flags,
-) -> Result<(Report, ChangeSeat), NoMemory>
+) -> Result<Ran, NoMemory>
 where
     J: Named + Send + Sync,
     R: Threads + Wait + Copy + Send + Sync,
     T: Turnstile + Sync,
     requires named { J.gates ≡ gates.now.words.shared.table_id }
-    requires ready { IsReady gates.now seat start steps.items }
+    requires ready { IsReady gates.now seat observers.now.count start steps.items }
     requires doors { 1 ≤ length doors.items }
     requires hands { 1 ≤ length hands.items }
-    ensures { IfOk result (λ x. CarriedOut gates.now.words.shared.table_id (statements_of start steps.items) x.0 x.1) }
+    ensures carried { IfOk result (λ x. CarriedOut gates.now.words.shared.table_id (statements_of start steps.items)
+        x.0 x.2) }
+    ensures observers { IfOk result (λ x. length x.1.items ≡ observers.now.count) }
+    ensures seen { IfOk result (λ x. All (AreToldOf x.0.history) x.1.items) }
 {
     let door = own_way(&mut doors);
     let hand = own_way(&mut hands);
     thread::scope(
         thread::scope_env(),
         &rt,
-        move |scope| -> Result<(Report, ChangeSeat), NoMemory>
+        move |scope| -> Result<Ran, NoMemory>
             requires named { J.gates ≡ gates.now.words.shared.table_id }
-            requires ready { IsReady gates.now seat start steps.items }
-            ensures { IfOk result (λ x. CarriedOut J.gates (statements_of start steps.items) x.0 x.1) }
+            requires ready { IsReady gates.now seat observers.now.count start steps.items }
+            ensures carried { IfOk result (λ x. CarriedOut J.gates (statements_of start steps.items) x.0 x.2) }
+            ensures observers { IfOk result (λ x. length x.1.items ≡ observers.entry.now.count) }
+            ensures seen { IfOk result (λ x. All (AreToldOf x.0.history) x.1.items) }
         {
+            let watch = Watch::begin(scope, rt, alloc, observers)?;
             let mut worker = 0_u32;
             for (door, hand) in doors.into_iter().zip(hands) {
                 worker = worker.wrapping_add(1);
                 let _ = scope.spawn(move || work(&rt, gates, door, hand, told, stile, worker));
             }
             let board = LiveBoard::new(rt, alloc, gates, seat, door, hand, stile, &told.short);
-            let ran = carry_out(alloc, board, start, steps);
+            let ran = carry_out(alloc, board, start, steps, watch, observers.count);
             told.stop.store(true, Ordering::SeqCst);
             ran
         },
@@ -108,9 +130,10 @@ fn run_beside<J, R, T>(
     seat: ChangeSeat,
     stile: &T,
     workers: u32,
+    observers: &Observers,
     start: Start,
     steps: Vec<Step>,
-) -> Result<(Report, ChangeSeat), NoMemory>
+) -> Result<Ran, NoMemory>
 where
     J: Named + Send + Sync,
     R: Threads + Wait + Copy + Send + Sync,
@@ -119,31 +142,35 @@ where
     requires here { IsChangeSeatOf seat gates.now }
     requires fresh { (change_in seat ≡ nothing_done) × (collected_in seat ≡ []) × (seat.spare ≡ 0) }
     requires workers { workers + 1 < 2 ^ 32 }
+    requires observers { observers.now.count ≤ 4 }
     requires start { CanStart start }
     requires steps { CanDoAll (after_start start) steps.items }
-    ensures here { IfOk result (λ x. IsChangeSeatOf x.1 gates.now) }
-    ensures agrees { IfOk result (λ x. AgreesWith (statements_of start steps.items) x.0 (record_of x.1)
-        (collected_in x.1)) }
+    ensures here { IfOk result (λ x. IsChangeSeatOf x.2 gates.now) }
+    ensures agrees { IfOk result (λ x. AgreesWith (statements_of start steps.items) x.0 (record_of x.2)
+        (collected_in x.2)) }
     ensures logs { IfOk result (λ x. LogsAreMade x.0) }
+    ensures observers { IfOk result (λ x. length x.1.items ≡ observers.now.count) }
+    ensures seen { IfOk result (λ x. All (AreToldOf x.0.history) x.1.items) }
 {
     let doors = Hall::with_doors::<J, R>(rt, alloc, workers + 1)?;
     let hands = Inboxes::with_hands(rt, alloc, workers + 1)?;
     let flags = Flags::new();
-    let (report, mut seat) = carry_out_beside(
-        rt, alloc, gates, seat, stile, doors, hands, start, steps, &flags,
+    let (report, seen, mut seat) = carry_out_beside(
+        rt, alloc, gates, seat, stile, doors, hands, observers, start, steps, &flags,
     )?;
     // no scan may have come behind a worker's want of memory
     if flags.short.load(Ordering::SeqCst) {
         return Err(AllocError);
     }
     look_last(gates, &mut seat);
-    Ok((report, seat))
+    Ok((report, seen, seat))
 }
 
-/// Carries a script out on these gates: this thread changes the system, and so many workers beside it give nodes their
-/// turns. The turnstile is called before each turn. A worker that can't be started is left out. Gives the report, and the
-/// seat, which agrees with it: the report is lawful on threads, the seat's record bears it, and its logs are what the
-/// seat took in, slot by slot. It may wait for nodes, and a `run` may never end where some node is never done.
+/// Carries a script out on these gates: this thread changes the system, so many workers beside it give nodes their turns,
+/// and observers look at the graph of each commit. The turnstile is called before each turn. A worker that can't be started
+/// is left out. Gives the report, the lines of each observer, which tell of its history, and the seat, which agrees with
+/// it: the report is lawful on threads, the seat's record bears it, and its logs are what the seat took in, slot by slot.
+/// It may wait for nodes, and a `run` may never end where some node is never done.
 pub fn run_on_threads<R, T>(
     rt: R,
     alloc: Global,
@@ -151,21 +178,27 @@ pub fn run_on_threads<R, T>(
     seat: ChangeSeat,
     stile: &T,
     workers: u32,
+    observers: &Observers,
     start: Start,
     steps: Vec<Step>,
-) -> Result<(Report, ChangeSeat), NoMemory>
+) -> Result<Ran, NoMemory>
 where
     R: Threads + Wait + Copy + Send + Sync,
     T: Turnstile + Sync,
     requires here { IsChangeSeatOf seat gates.now }
     requires fresh { (change_in seat ≡ nothing_done) × (collected_in seat ≡ []) × (seat.spare ≡ 0) }
     requires workers { workers + 1 < 2 ^ 32 }
+    requires observers { observers.now.count ≤ 4 }
     requires start { CanStart start }
     requires steps { CanDoAll (after_start start) steps.items }
-    ensures here { IfOk result (λ x. IsChangeSeatOf x.1 gates.now) }
-    ensures agrees { IfOk result (λ x. AgreesWith (statements_of start steps.items) x.0 (record_of x.1)
-        (collected_in x.1)) }
+    ensures here { IfOk result (λ x. IsChangeSeatOf x.2 gates.now) }
+    ensures agrees { IfOk result (λ x. AgreesWith (statements_of start steps.items) x.0 (record_of x.2)
+        (collected_in x.2)) }
     ensures logs { IfOk result (λ x. LogsAreMade x.0) }
+    ensures observers { IfOk result (λ x. length x.1.items ≡ observers.now.count) }
+    ensures seen { IfOk result (λ x. All (AreToldOf x.0.history) x.1.items) }
 {
-    run_beside::<Brand, R, T>(rt, alloc, gates, seat, stile, workers, start, steps)
+    run_beside::<Brand, R, T>(
+        rt, alloc, gates, seat, stile, workers, observers, start, steps,
+    )
 }

@@ -2,8 +2,8 @@
 
 ghost use Rattle.std.specs.Prelude.{◌≡◌, false};
 
-use config_graph::{Graph, Kind, NoMemory, Node, Text, same};
-use std::alloc::Global;
+use crate::graphs::one_sink;
+use config_graph::{Graph, NoMemory, same};
 use std::sync::Wait;
 use std::test::Fail;
 use std::thread;
@@ -15,17 +15,6 @@ const COMMITS: u32 = 2_000;
 
 /// How often it reads at most. So a row ends, and fails, where the last graph is never seen.
 const READS: u32 = 10_000_000;
-
-/// The graph of one node, a sink.
-fn one_sink(alloc: Global) -> Result<Graph, NoMemory> {
-    let mut nodes = Vec::new(alloc);
-    nodes.push(Node {
-        path: Text::from_bytes(alloc, b"t")?,
-        kind: Kind::Sink,
-        arg: None,
-    })?;
-    Graph::build(alloc, nodes, Vec::new(alloc))
-}
 
 /// Whether this number of graphs is seen, and this graph.
 fn are(seen: &Seen, commits: u32, graph: &Graph) -> bool {
@@ -74,6 +63,27 @@ fn one_viewer(rt: HostRuntime) -> Result<(), Fail> {
     };
     let given = commit_one(&rt, writer, viewer, &nothing, &graph)?;
     assert_eq!(rt; given, (true, true));
+    Ok(())
+}
+
+/// Four observers each have a viewer, which reads what was published.
+#[test]
+fn four_viewers(rt: HostRuntime) -> Result<(), Fail> {
+    let graph = one_sink(rt.alloc())?;
+    let (writer, viewers) = Views::new(rt, rt.alloc(), 4)?;
+    let mut writer = writer;
+    writer.commit(&graph)?;
+    let mut count = 0_u32;
+    for viewer in viewers {
+        let Some(mut viewer) = viewer else {
+            return Err(Fail::new("a viewer"));
+        };
+        viewer.learn(&writer.tell());
+        let seen = viewer.read(&rt)?;
+        assert!(rt; are(&seen, 1, &graph));
+        count = count.wrapping_add(1);
+    }
+    assert_eq!(rt; count, 4);
     Ok(())
 }
 
