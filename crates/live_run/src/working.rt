@@ -14,7 +14,7 @@ use std::thread;
 use txn_gate::Gates;
 
 /// A worker looks into the cells of all slots once in so many rounds, and else only where it found nodes before.
-const ROUNDS_TO_FAR_SLOTS: u32 = 16;
+const ROUNDS_TO_FAR_SLOTS: u32 = 256;
 
 /// What the thread of the change and the workers tell one another.
 #[derive(Drop)]
