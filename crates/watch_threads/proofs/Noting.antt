@@ -41,11 +41,11 @@ sighted_within list s is = let low = slice_get-below (no_graph ∷ list) s.commi
 at_place : {A : Type 0} (P : A → Type 0) (xs : List A) (i : ℕ) (x : A) → All P xs → slice_get xs i ≡ Some x → P x
 at_place P xs i x all is = subst P (get_or_from_slice_get xs i x x is) (All-get_or P xs i x (slice_get-below xs i x is) all)
 
-ends_with : {A : Type 0} (xs : List A) (n : ℕ) (x : A) → slice_get xs n ≡ Some x → length xs ≡ n + 1 → (earlier : List A) × (xs ≡ earlier ++ x ∷ [])
-ends_with [] n x is long = absurd (none-some x is)
-ends_with (y ∷ []) zero x is long = ([], ap (λ z. z ∷ []) (same_Some y x is))
-ends_with (y ∷ z ∷ zs) zero x is long = absurd (omega (arith, long))
-ends_with (y ∷ ys) (suc n) x is long = let rest = ends_with ys n x is (omega (arith, long)) in (y ∷ rest.0, ap (λ zs. y ∷ zs) rest.1)
+parted_at_last : {A : Type 0} (xs : List A) (n : ℕ) (x : A) → slice_get xs n ≡ Some x → length xs ≡ n + 1 → (earlier : List A) × (xs ≡ earlier ++ x ∷ [])
+parted_at_last [] n x is long = absurd (none-some x is)
+parted_at_last (y ∷ []) zero x is long = ([], ap (λ z. z ∷ []) (same_Some y x is))
+parted_at_last (y ∷ z ∷ zs) zero x is long = absurd (omega (arith, long))
+parted_at_last (y ∷ ys) (suc n) x is long = let rest = parted_at_last ys n x is (omega (arith, long)) in (y ∷ rest.0, ap (λ zs. y ∷ zs) rest.1)
 
 -- no number that was noted is above that of the last
 rises_to : (noted : List Sighting) (last : Sighting) → slice_get noted (length noted - 1) ≡ Some last → AllPairs IsBelow noted → All (λ s. s.commits ≤ last.commits) noted
@@ -83,5 +83,5 @@ noted_already list noted commits are old number = ends_at (slice_get noted (leng
         let low = ltb-false last.commits commits old in
         let high = sighted_within list last (at_place (IsSightingOf list) noted (length noted - 1) last are.each is) in
         let within = slice_get-below noted (length noted - 1) last is in
-        let parts = ends_with noted (length noted - 1) last is (omega (arith, within)) in
+        let parts = parted_at_last noted (length noted - 1) last is (omega (arith, within)) in
         (parts.0, last, parts.1, omega (arith, low, high, number))
