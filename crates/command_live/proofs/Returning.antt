@@ -15,14 +15,12 @@ use Rattle.command_files.specs.declared.answer.Stop.TheVariants as stops
 use Rattle.command_law.specs.Outcomes.{IsRunStatus}
 use Rattle.command_program.specs.Coming.{result_status, result_text}
 use Rattle.command_law.specs.Runs.{Run, Written, whole, stopped}
-
-pub false_is_not_true : false ≡ true → ⊥
-false_is_not_true is = cc
+use Rattle.std.proofs.lemmas.Bool.{false≢true}
 
 -- no run ended where a text was written with another status
 pub ends_no_run : (own : Status) (text : List ℕ) (seen : Run) → is_of_run own ≡ false → Written own text seen → IsRunStatus seen.status → ⊥
-ends_no_run own text seen none (whole took same ends) is = false_is_not_true (sym none ∙ ap is_of_run (sym ends) ∙ is)
-ends_no_run own text seen none (stopped n short took rose ends) is = false_is_not_true (ap is_of_run (sym ends) ∙ is)
+ends_no_run own text seen none (whole took same ends) is = false≢true (sym none ∙ ap is_of_run (sym ends) ∙ is)
+ends_no_run own text seen none (stopped n short took rose ends) is = false≢true (ap is_of_run (sym ends) ∙ is)
 
 -- nor where a call stopped that no run was of
 pub stop_no_run :

@@ -1,5 +1,5 @@
 -- The run of a script in rounds, from what was prepared for it; and a report that is judged by it.
-use Rattle.std.proofs.Common.{◌≡◌, ◌∙◌, ℕ, Bool, true, false, if◌then◌else◌, List, [], ◌∷◌, ◌++◌, Option, Some, Result, Ok, Err, IfOk, append_assoc, refl, sym, ap, subst}
+use Rattle.std.proofs.Common.{◌≡◌, ◌∙◌, ℕ, Bool, true, false, if◌then◌else◌, List, [], ◌++◌, Option, Some, Result, Ok, Err, IfOk, append_assoc, refl, sym, ap, subst}
 use Rattle.std.specs.Prelude.{◌==◌}
 use Rattle.std.specs.List.{AllByRecursion}
 use Rattle.std.proofs.lemmas.Grind.{flat_map-append}
@@ -30,6 +30,8 @@ use Rattle.command_files.specs.Preparing.{Prepares, statements_in}
 use Rattle.command_files.specs.Refusals.{EndsNoRun}
 use Rattle.command_files.specs.declared.preparing.Prepared.{Prepared}
 use Rattle.command_program.specs.Coming.{ComesBy, EndsBy, EndsInSummary}
+use Rattle.base.proofs.ListLaws.{AllByRecursion-append}
+use Rattle.std.proofs.lemmas.Bool.{false≢true}
 
 module _ {E : Type 0} where
   -- a report of rounds that is lawful too
@@ -48,10 +50,6 @@ module _ {E : Type 0} (lanes : ℕ) where
 
 -- ---- a report that is judged
 
-all_append : {A : Type 0} (P : A → Type 0) (xs ys : List A) → AllByRecursion P xs → AllByRecursion P ys → AllByRecursion P (xs ++ ys)
-all_append P [] ys these those = those
-all_append P (x ∷ xs) ys these those = (these.0, all_append P xs ys these.1 those)
-
 -- by what a script asks for, from a shelf with the same files
 pub judged_by :
     (files files' : Option Files) (name file : List ℕ) (failures before failures' : List (List ℕ)) (asked : Prepared) (r : Result Answer Stop)
@@ -62,7 +60,7 @@ judged_by files files' name file failures before failures' asked r p same by = r
   noted =
       by.noted ∙ ap (λ names. names ++ failed_names by.fetches) p.noted ∙ append_assoc failures (failed_names p.fetches) (failed_names by.fetches)
       ∙ ap (λ names. failures ++ names) (sym (flat_map-append failed_name p.fetches by.fetches));
-  told = all_append (Gave files) p.fetches by.fetches p.told (subst (λ fs. AllByRecursion (Gave fs) by.fetches) same by.told);
+  told = AllByRecursion-append (Gave files) p.fetches by.fetches p.told (subst (λ fs. AllByRecursion (Gave fs) by.fetches) same by.told);
   ends = of r by.ends;
 }
   where
@@ -112,9 +110,6 @@ of_run n = by (n == 7) (n == 8)
     by false true = refl
     by false false = refl
 
-false_true : false ≡ true → ⊥
-false_true is = cc
-
 -- what no run answers is answered as it is
 as_it_is : (lanes : ℕ) (a : values.Answer) → is_of_run (status_of a) ≡ false → in_summary lanes a ≡ a
 as_it_is lanes (refusal why) none = refl
@@ -129,7 +124,7 @@ as_it_is lanes (values.replay count s settled) none = refl
 as_it_is lanes (values.report r) none = refl
 as_it_is lanes values.consistent none = refl
 as_it_is lanes values.unlawful none = refl
-as_it_is lanes (ran r) none = absurd (false_true (sym none ∙ of_run r.status))
+as_it_is lanes (ran r) none = absurd (false≢true (sym none ∙ of_run r.status))
 as_it_is lanes (summary other r) none = refl
 
 -- what is answered to the made script, by fetches of which none failed

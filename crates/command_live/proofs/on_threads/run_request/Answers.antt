@@ -8,8 +8,9 @@ use Rattle.command_words.specs.declared.words.Command.TheVariants as commands
 use Rattle.command_live.specs.Agreeing.{AgreesWithSeat, ComesBack}
 use Rattle.command_program.proofs.ReportingLaws.{comes_wider, reports_so}
 use Rattle.command_program.proofs.RunningLaws.{runs_by}
-use Rattle.command_live.proofs.Returning.{false_is_not_true, of_back, stop_no_run}
+use Rattle.command_live.proofs.Returning.{of_back, stop_no_run}
 use Rattle.command_live.proofs.on_threads.run_request.Goals as goal
+use Rattle.std.proofs.lemmas.Bool.{false≢true}
 
 pub returns-in-Ok-clause-runs : goal.returns-in-Ok-clause-runs
 returns-in-Ok-clause-runs g c =
@@ -51,4 +52,4 @@ pub returns-in-Err-clause-back : goal.returns-in-Err-clause-back
 returns-in-Err-clause-back g c =
     let words = map string_bytes c.args.words.now in
     let seen = run_of g.H.Shelf g.K.Sink words c.args.shelf.now c.answer_script.new.shelf c.args.out.now c.write_answer.new.out c.write_answer.result in
-    (λ some. absurd (false_is_not_true some), λ is. absurd (stop_no_run c.in-Err.stop seen c.in-Err.ensures.no_run (c.write_answer.ensures seen) is))
+    (λ some. absurd (false≢true some), λ is. absurd (stop_no_run c.in-Err.stop seen c.in-Err.ensures.no_run (c.write_answer.ensures seen) is))
