@@ -116,7 +116,7 @@ pub enum Command<'a> {
     Step {
         script: Word<'a>,
     },
-    /// The same on worker threads, from 1 to [`MAX_WORKERS`] of them, beside observers, up to [`MAX_OBSERVERS`] of them.
+    /// The same on worker threads, from 1 to [`MAX_WORKERS`], beside observers, up to [`MAX_OBSERVERS`].
     Live {
         script: Word<'a>,
         workers: u32,
