@@ -24,7 +24,7 @@ asks_for_none words one many command asks = of command asks.0 asks.1
     of (commands.Replay file events) k a = one (commands.Replay file events) (k, a)
     of (commands.Upgrade file) k a = one (commands.Upgrade file) (k, a)
     of (commands.Step script) k a = one (commands.Step script) (k, a)
-    of (commands.Live script workers) k a = many (commands.Live script workers) (k, a)
+    of (commands.Live script workers observers) k a = many (commands.Live script workers observers) (k, a)
     of (commands.Check script report) k a = one (commands.Check script report) (k, a)
     of (commands.Big lanes) k a = one (commands.Big lanes) (k, a)
 
@@ -56,7 +56,7 @@ ones_are_all (commands.Roll file run rounds call target) k = k
 ones_are_all (commands.Replay file events) k = k
 ones_are_all (commands.Upgrade file) k = k
 ones_are_all (commands.Step script) k = k
-ones_are_all (commands.Live script workers) k = refl
+ones_are_all (commands.Live script workers observers) k = refl
 ones_are_all (commands.Check script report) k = k
 ones_are_all (commands.Big lanes) k = k
 
@@ -70,12 +70,12 @@ threads_are_all (commands.Roll file run rounds call target) k = absurd (false≢
 threads_are_all (commands.Replay file events) k = absurd (false≢true k)
 threads_are_all (commands.Upgrade file) k = absurd (false≢true k)
 threads_are_all (commands.Step script) k = absurd (false≢true k)
-threads_are_all (commands.Live script workers) k = refl
+threads_are_all (commands.Live script workers observers) k = refl
 threads_are_all (commands.Check script report) k = absurd (false≢true k)
 threads_are_all (commands.Big lanes) k = absurd (false≢true k)
 
 -- words that ask for a run on threads have a form
 pub none_where_live :
-    (words : List (List ℕ)) (script : List ℕ) (workers : ℕ) → Asks words (commands.Live script workers)
+    (words : List (List ℕ)) (script : List ℕ) (workers observers : ℕ) → Asks words (commands.Live script workers observers)
     → HasNoForm on_threads words → HasNoForm all_commands words
-none_where_live words script workers asks none = absurd (none (commands.Live script workers) (refl, asks))
+none_where_live words script workers observers asks none = absurd (none (commands.Live script workers observers) (refl, asks))
