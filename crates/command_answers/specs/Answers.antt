@@ -13,7 +13,6 @@ use Rattle.report_types.specs.declared.report.Report.{Report}
 use Rattle.command_answers.specs.declared.status.Status.{Status}
 use Rattle.command_answers.specs.declared.status.Status.TheVariants as status
 use Rattle.command_answers.specs.PartTexts.{parts_text, roll_text}
-use Rattle.command_answers.specs.Summaries.{summary_text}
 use Rattle.command_answers.specs.RefusalLines.{read_fault_line, description_line, script_line, denied_line}
 
 pub data Refusal : Type 0 where
@@ -49,10 +48,8 @@ pub data Answer : Type 0 where
   -- a report can be one of this machine for a script, or can't
   consistent : Answer
   unlawful : Answer
-  -- the report of a run that was made now
-  ran : Report → Answer
-  -- the summary of a run that was made now, of so many lanes
-  summary : (lanes : ℕ) → Report → Answer
+  -- the report of a run that was made now, and by which bytes it is shown
+  ran : Report → (shown : List ℕ) → Answer
 
 abbrev pub refusal_status : Refusal → Status
 refusal_status usage = status.Usage
@@ -84,8 +81,7 @@ status_of (replay count s settled) = status.Ok
 status_of (report r) = status.Ok
 status_of consistent = status.Ok
 status_of unlawful = status.Unlawful
-status_of (ran r) = run_status r.status
-status_of (summary lanes r) = run_status r.status
+status_of (ran r shown) = run_status r.status
 
 abbrev pub usage_line : List ℕ
 usage_line = codes "usage" ++ 10 ∷ []
@@ -111,7 +107,9 @@ help_text =
     ++ codes "                                              start the first, run it, and carry those parts out\n"
     ++ codes "darwin_run replay FILE EVENTS                 apply events to the system that they start\n"
     ++ codes "darwin_run step SCRIPT                        run a script on one thread, write its report\n"
-    ++ codes "darwin_run live SCRIPT [--workers W]          run a script on W worker threads (1 to 8, or 4)\n"
+    ++ codes "darwin_run live SCRIPT [--workers W [--watch N]]\n"
+    ++ codes "                                              run a script on W worker threads (1 to 8, or 4),\n"
+    ++ codes "                                              and write what N observers saw of it (1 to 4)\n"
     ++ codes "darwin_run check SCRIPT REPORT                say whether a report can be one of this machine\n"
     ++ codes "darwin_run big N                              run and change a system of N lanes (1 to 40)\n"
     ++ codes "darwin_run upgrade FILE                       write a report in version 2\n"
@@ -154,8 +152,7 @@ text_of (replay count s settled) = replay_text count s settled
 text_of (report r) = report_text r
 text_of consistent = consistent_line
 text_of unlawful = unlawful_line
-text_of (ran r) = report_text r
-text_of (summary lanes r) = summary_text lanes r
+text_of (ran r shown) = shown
 
 -- some answer of a kind has this status and this text
 pub record ShowsAnswer (Is : Answer → Type 0) (own : Status) (text : List ℕ) : Type 0 where

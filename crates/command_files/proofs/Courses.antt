@@ -1,6 +1,5 @@
 -- Courses of lines, put together.
 use Rattle.std.proofs.Common.{◌≡◌, ◌∙◌, ◌++◌, ◌∷◌, [], ℕ, List, Option, Result, Ok, Err, append_assoc, refl, sym, ap, subst}
-use Rattle.std.specs.List.{AllByRecursion}
 use Rattle.std.proofs.lemmas.List.{append-nil}
 use Rattle.std.proofs.lemmas.Grind.{flat_map-append}
 use Rattle.cfg_io.specs.Shelf.{Files}
@@ -15,10 +14,7 @@ use Rattle.command_files.specs.declared.answer.Stop.TheVariants as stops
 use Rattle.command_files.specs.Leading.{LeadOn, StopAt, Took}
 use Rattle.command_files.specs.Ways.{IsAt}
 use Rattle.command_files.specs.declared.way.Way.{Way}
-
-all_append : {A : Type 0} (P : A → Type 0) (xs ys : List A) → AllByRecursion P xs → AllByRecursion P ys → AllByRecursion P (xs ++ ys)
-all_append P [] ys a b = b
-all_append P (x ∷ xs) ys a b = (a.0, all_append P xs ys a.1 b)
+use Rattle.base.proofs.ListLaws.{AllByRecursion-append}
 
 -- no line and no fetch
 pub none_took : {T : Type 0} (done : T) (files : Option Files) (p : Progress) (failures : List (List ℕ)) (way : Way) → IsAt way p
@@ -81,6 +77,6 @@ module _ {T U : Type 0} (done : T) (files : Option Files) (p : Progress) (lines 
         fetches = t.fetches ++ u.fetches;
         noted = u.noted ∙ ap (λ ns. ns ++ failed_names u.fetches) t.noted ∙ append_assoc failures (failed_names t.fetches) (failed_names u.fetches)
             ∙ ap (λ ns. failures ++ ns) (sym (flat_map-append failed_name t.fetches u.fetches));
-        told = all_append (Gave files) t.fetches u.fetches t.told u.told;
+        told = AllByRecursion-append (Gave files) t.fetches u.fetches t.told u.told;
         lead = lead_joined t u.fetches r u.lead;
       }

@@ -177,9 +177,5 @@ pub change_fits : (o : Option Start) (xs : List Step) (made : Made) (c : Replace
 change_fits None xs made c some f = absurd (cc some)
 change_fits (Some s) xs made c some f = room_to_create (last_graph s.graph xs) c.graph c.moves made c.plan f.can_plan f.is_plan
 
-pub is_none_of : {A : Type 0} (o : Option A) → is_some o ≡ false → o ≡ None
-is_none_of None e = refl
-is_none_of (Some a) e = absurd (cc e)
-
 pub stop_marks : (way : Way) → Marks way way bodies.Stop
 stop_marks way = record { described = or_false (is_some way.used); begun = or_false (is_some way.start) }

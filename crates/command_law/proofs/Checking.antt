@@ -5,7 +5,6 @@ use Rattle.std.proofs.lemmas.Grind.{flat_map-append}
 use Rattle.cfg_io.specs.Shelf.{Files}
 use Rattle.cfg_io.specs.Sink.{with_bytes}
 use Rattle.report_types.specs.declared.script.Script.{Script}
-use Rattle.report_writing.specs.Reports.{report_text}
 use Rattle.command_answers.specs.Answers as values
 use Rattle.command_answers.specs.Answers.{no_memory, refusal, status_of, text_of}
 use Rattle.command_answers.specs.RefusalLines.{read_fault_line, script_line}
@@ -18,7 +17,7 @@ use Rattle.command_law.specs.Fetches.{Fetch, fetch_of, failed_name, failed_names
 use Rattle.command_law.specs.Lines.{Progress, begun}
 use Rattle.command_law.specs.OneFile.{JudgementAnswers, judges_no_file, judges_no_long_file, judges_no_fault, judged, ScriptAnswers, cannot_read_script, script_file_too_long, script_file_at_fault}
 use Rattle.command_law.specs.Outcomes.{HoldsFile, MentionsFile, IsScriptOf, Judged, LineRefused, ReportRefused, is_longer, has_fault, ScriptRefused}
-use Rattle.command_law.specs.Schedules.{rounds, IsReportBy}
+use Rattle.command_law.specs.Schedules.{rounds, IsReportBy, IsShownBy}
 use Rattle.command_law.specs.Scripts.{lines_of_script}
 use Rattle.command_law.specs.Ways.{LeadTo}
 use Rattle.command_law.specs.declared.fetched.Fetched.{Fetched}
@@ -103,11 +102,11 @@ check_ends files name file _ _ _ (of_its_lines bytes script fetches answer is fo
 module _ (files : Option Files) (name file : List ℕ) (fetches : List Fetch) where
   -- ---- what a status says
 
-  as_run : {own : Status} {text : List ℕ} → EarlyEnds files name fetches own text → ScriptEnds (IsReportBy rounds) report_text files name fetches own text
+  as_run : {own : Status} {text : List ℕ} → EarlyEnds files name fetches own text → ScriptEnds (IsReportBy rounds) (IsShownBy rounds) files name fetches own text
   as_run e = early e
 
   pub not_denied : (own : Status) (text : List ℕ) → CheckEnds files name file fetches own text → own ≢ status.Denied
-  not_denied own text (too_early e) is = scripts.not_denied (IsReportBy rounds) report_text files name fetches own text (as_run e) is
+  not_denied own text (too_early e) is = scripts.not_denied (IsReportBy rounds) (IsShownBy rounds) files name fetches own text (as_run e) is
   not_denied _ _ (by_report script end given own text script_of lead names gave judgement) is = by given own text judgement is
     where
       by : (g : Fetched) (s : Status) (t : List ℕ) → JudgementAnswers end.statements file g s t → s ≢ status.Denied
@@ -124,7 +123,7 @@ module _ (files : Option Files) (name file : List ℕ) (fetches : List Fetch) wh
       (own : Status) (text : List ℕ) → CheckEnds files name file fetches own text → own ≡ status.ReadFault
       → (other : List ℕ) × MentionsFile (HoldsFile files) (commands.Check name file) other × (failed_names fetches ≡ other ∷ []) × (text ≡ read_fault_line other)
   failed_file own text (too_early e) is =
-      let found = scripts.failed_file (IsReportBy rounds) report_text files name fetches own text (as_run e) is in
+      let found = scripts.failed_file (IsReportBy rounds) (IsShownBy rounds) files name fetches own text (as_run e) is in
       (found.0, inr found.1, found.2, found.3)
   failed_file _ _ (by_report script end given own text script_of lead names gave judgement) is = by given own text judgement names is
     where
@@ -141,7 +140,7 @@ module _ (files : Option Files) (name file : List ℕ) (fetches : List Fetch) wh
           of _ (can_not_be c) same = cc
 
   pub any_failed : (own : Status) (text : List ℕ) → CheckEnds files name file fetches own text → failed_names fetches ≢ [] → own ≡ status.ReadFault
-  any_failed own text (too_early e) some = scripts.any_failed (IsReportBy rounds) report_text files name fetches own text (as_run e) some
+  any_failed own text (too_early e) some = scripts.any_failed (IsReportBy rounds) (IsShownBy rounds) files name fetches own text (as_run e) some
   any_failed _ _ (by_report script end given own text script_of lead names gave judgement) some = by given own text judgement names
     where
       by : (g : Fetched) (s : Status) (t : List ℕ) → JudgementAnswers end.statements file g s t → failed_names fetches ≡ failed_names (report_fetch file g ∷ []) → s ≡ status.ReadFault
@@ -154,7 +153,7 @@ module _ (files : Option Files) (name file : List ℕ) (fetches : List Fetch) wh
     pub refused_file :
         (own : Status) (text : List ℕ) → CheckEnds files name file fetches own text → own ≡ status.Script → taken' ≡ with_bytes taken text
         → ScriptRefused files name taken taken' ⊎ ReportRefused files file taken taken'
-    refused_file own text (too_early e) is took = inl (scripts.script_refused (IsReportBy rounds) report_text files name fetches taken taken' own text (as_run e) is took)
+    refused_file own text (too_early e) is took = inl (scripts.script_refused (IsReportBy rounds) (IsShownBy rounds) files name fetches taken taken' own text (as_run e) is took)
     refused_file _ _ (by_report script end given own text script_of lead names gave judgement) is took = inr (by given own text judgement gave is took)
       where
         by : (g : Fetched) (s : Status) (t : List ℕ) → JudgementAnswers end.statements file g s t → Gave files (report_fetch file g) → s ≡ status.Script → taken' ≡ with_bytes taken t
@@ -172,7 +171,7 @@ module _ (files : Option Files) (name file : List ℕ) (fetches : List Fetch) wh
     pub line_refused :
         (own : Status) (text : List ℕ) → CheckEnds files name file fetches own text → own ≡ status.Description → taken' ≡ with_bytes taken text
         → LineRefused files name taken taken'
-    line_refused own text (too_early e) is took = scripts.line_refused (IsReportBy rounds) report_text files name fetches taken taken' own text (as_run e) is took
+    line_refused own text (too_early e) is took = scripts.line_refused (IsReportBy rounds) (IsShownBy rounds) files name fetches taken taken' own text (as_run e) is took
     line_refused _ _ (by_report script end given own text script_of lead names gave judgement) is took = by given own text judgement is
       where
         by : (g : Fetched) (s : Status) (t : List ℕ) → JudgementAnswers end.statements file g s t → s ≡ status.Description → LineRefused files name taken taken'

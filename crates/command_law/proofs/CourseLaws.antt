@@ -31,7 +31,6 @@ use Rattle.command_law.specs.Plans.{Starts, RefusesStart, has_no_graph, is_full,
 use Rattle.command_law.specs.Queries.{IsRefused, AnswersQuery, IsTextBy}
 use Rattle.command_law.specs.OneFile.{DescriptionAnswers, cannot_read, is_too_long, answered, EventsAnswers, cannot_read_events, events_file_too_long, events_file_at_fault, ScriptAnswers, cannot_read_script, script_file_too_long, script_file_at_fault, ReportAnswers, cannot_read_report, report_too_long, report_at_fault, upgraded, JudgementAnswers, judges_no_file, judges_no_long_file, judges_no_fault, judged}
 use Rattle.command_law.specs.OneFile as files
-use Rattle.command_law.specs.Schedules.{IsReportBy, Schedule}
 use Rattle.command_law.specs.Scripts.{lines_of_script}
 use Rattle.command_law.proofs.Courses.{answer_with, first_made}
 use Rattle.command_law.proofs.Readings as readings
@@ -322,43 +321,37 @@ pub behind_short : (aim : Aim) (p : Progress) → behind aim p [] (refusal no_me
 behind_short aim p = not_made
 
 -- the report of a run of what a script asks for
-module _ (IsReport : List Statement → Report → Type 0) where
+module _ (IsReport : List Statement → Report → Type 0) (Shows : Report → List ℕ → Type 0) where
   pub script_reports :
-      (name : List ℕ) (fetches : List Fetch) (end : Progress) (statements : List Statement) (r : Report) → ScriptLeads name fetches end
-      → end.statements ≡ statements → IsReport statements r → course_of_script (reporting IsReport) name fetches (ran r)
-  script_reports name fetches end statements r leads same is =
-      subst (λ fs. course_of_script (reporting IsReport) name fs (ran r)) (append-nil fetches)
-      (script_leads (reporting IsReport) name fetches [] (ran r) end leads
-      (makes (ran r) [] (ran r) (r, subst (λ ss. IsReport ss r) (sym same) is, refl) (refl, refl)))
+      (name : List ℕ) (fetches : List Fetch) (end : Progress) (statements : List Statement) (r : Report) (shown : List ℕ) → ScriptLeads name fetches end
+      → end.statements ≡ statements → IsReport statements r → Shows r shown → course_of_script (reporting IsReport Shows) name fetches (ran r shown)
+  script_reports name fetches end statements r shown leads same is shows =
+      subst (λ fs. course_of_script (reporting IsReport Shows) name fs (ran r shown)) (append-nil fetches)
+      (script_leads (reporting IsReport Shows) name fetches [] (ran r shown) end leads
+      (makes (ran r shown) [] (ran r shown) (r, subst (λ ss. IsReport ss r) (sym same) is, shown, shows, refl) (refl, refl)))
 
   -- or memory runs out behind its lines
   pub script_reports_short :
-      (name : List ℕ) (fetches : List Fetch) (end : Progress) → ScriptLeads name fetches end → course_of_script (reporting IsReport) name fetches (refusal no_memory)
+      (name : List ℕ) (fetches : List Fetch) (end : Progress) → ScriptLeads name fetches end → course_of_script (reporting IsReport Shows) name fetches (refusal no_memory)
   script_reports_short name fetches end leads =
-      subst (λ fs. course_of_script (reporting IsReport) name fs (refusal no_memory)) (append-nil fetches)
-      (script_leads (reporting IsReport) name fetches [] (refusal no_memory) end leads not_made)
+      subst (λ fs. course_of_script (reporting IsReport Shows) name fs (refusal no_memory)) (append-nil fetches)
+      (script_leads (reporting IsReport Shows) name fetches [] (refusal no_memory) end leads not_made)
 
   -- and a script that ends early is run no further
   pub script_unreported :
       (name : List ℕ) (fetches : List Fetch) (answer : Answer) → course_of_script falls_short name fetches answer
-      → course_of_script (reporting IsReport) name fetches answer
-  script_unreported name fetches answer = script_ends_early (reporting IsReport) (λ p. not_made) name fetches answer
-
--- by a schedule
-pub script_ran :
-    (schedule : Schedule) (name : List ℕ) (fetches : List Fetch) (end : Progress) (statements : List Statement) (r : Report) → ScriptLeads name fetches end
-    → end.statements ≡ statements → IsReportBy schedule statements r → course_of_script (behind (running schedule)) name fetches (ran r)
-script_ran schedule = script_reports (IsReportBy schedule)
+      → course_of_script (reporting IsReport Shows) name fetches answer
+  script_unreported name fetches answer = script_ends_early (reporting IsReport Shows) (λ p. not_made) name fetches answer
 
 -- what is known of more reports is known of fewer
-module _ (IsReport IsAlso : List Statement → Report → Type 0) (wider : (statements : List Statement) (r : Report) → IsReport statements r → IsAlso statements r) where
-  widen_end : (p : Progress) (fetches : List Fetch) (answer : Answer) → reporting IsReport p fetches answer → reporting IsAlso p fetches answer
+module _ (IsReport IsAlso : List Statement → Report → Type 0) (Shows : Report → List ℕ → Type 0) (wider : (statements : List Statement) (r : Report) → IsReport statements r → IsAlso statements r) where
+  widen_end : (p : Progress) (fetches : List Fetch) (answer : Answer) → reporting IsReport Shows p fetches answer → reporting IsAlso Shows p fetches answer
   widen_end p _ _ not_made = not_made
-  widen_end p _ _ (makes what fetches answer is says) = makes what fetches answer (is.0, wider p.statements is.0 is.1, is.2) says
+  widen_end p _ _ (makes what fetches answer is says) = makes what fetches answer (is.0, wider p.statements is.0 is.1, is.2, is.3, is.4) says
 
   widen_lines :
-      (p : Progress) (lines : List RunLine) (fetches : List Fetch) (answer : Answer) → FollowsLines (reporting IsReport) p lines fetches answer
-      → FollowsLines (reporting IsAlso) p lines fetches answer
+      (p : Progress) (lines : List RunLine) (fetches : List Fetch) (answer : Answer) → FollowsLines (reporting IsReport Shows) p lines fetches answer
+      → FollowsLines (reporting IsAlso Shows) p lines fetches answer
   widen_lines p [] fetches answer then_ = widen_end p fetches answer then_
   widen_lines p (uses file ∷ lines) _ _ not_fetched = not_fetched
   widen_lines p (uses file ∷ lines) _ _ (fetched_alone given) = fetched_alone given
@@ -375,8 +368,8 @@ module _ (IsReport IsAlso : List Statement → Report → Type 0) (wider : (stat
   widen_lines p (does what ∷ lines) fetches answer follows = widen_lines (with_statement p what) lines fetches answer follows
 
   pub reports_widen :
-      (name : List ℕ) (fetches : List Fetch) (answer : Answer) → course_of_script (reporting IsReport) name fetches answer
-      → course_of_script (reporting IsAlso) name fetches answer
+      (name : List ℕ) (fetches : List Fetch) (answer : Answer) → course_of_script (reporting IsReport Shows) name fetches answer
+      → course_of_script (reporting IsAlso Shows) name fetches answer
   reports_widen name _ _ not_fetched = not_fetched
   reports_widen name _ _ (fetched_alone given) = fetched_alone given
   reports_widen name _ _ failed = failed

@@ -8,13 +8,11 @@ use Rattle.cfg_io.specs.Sink.{with_bytes}
 use Rattle.command_answers.specs.declared.status.Status.{Status}
 use Rattle.command_answers.specs.declared.status.Status.TheVariants as status
 use Rattle.command_answers.specs.RefusalLines.{read_fault_line}
-use Rattle.command_answers.specs.Summaries.{summary_text}
 use Rattle.command_words.specs.BigFiles.{made_files, script_name}
-use Rattle.report_writing.specs.Reports.{report_text}
 use Rattle.command_words.specs.declared.words.Command.{Command}
 use Rattle.command_words.specs.declared.words.Command.TheVariants as commands
 use Rattle.command_law.specs.Known.{AsksOf, HasNoForm}
-use Rattle.command_law.specs.Schedules.{rounds, threads, IsReportBy}
+use Rattle.command_law.specs.Schedules.{rounds, threads, IsReportBy, IsShownBy}
 use Rattle.command_law.specs.declared.query.Query.{Query}
 use Rattle.command_law.specs.declared.query.Cut.TheVariants as cuts
 use Rattle.command_law.specs.declared.query.Query.TheVariants as queries
@@ -32,6 +30,7 @@ use Rattle.command_law.proofs.Checking as checks
 use Rattle.command_law.proofs.ScriptEnds.{script_ends}
 use Rattle.command_law.proofs.ScriptEnds as scripts
 use Rattle.command_law.proofs.Wanting.{gives_status}
+use Rattle.command_law.specs.Commands.{IsSummary}
 
 -- ---- statuses of answers
 
@@ -125,15 +124,15 @@ failed_file files (commands.Upgrade file) fetches own text answer told is =
     let fault = report_fault file answer.given own text answer.answer is in
     (file, refl, ap failed_names answer.is ∙ fault.0, fault.1)
 failed_file files (commands.Step name) fetches own text answer told is =
-    scripts.failed_file (IsReportBy rounds) report_text files name fetches own text (script_ends (IsReportBy rounds) report_text files name fetches own text answer told) is
-failed_file files (commands.Live name workers) fetches own text answer told is =
-    scripts.failed_file (IsReportBy threads) report_text files name fetches own text (script_ends (IsReportBy threads) report_text files name fetches own text answer told) is
+    scripts.failed_file (IsReportBy rounds) (IsShownBy rounds) files name fetches own text (script_ends (IsReportBy rounds) (IsShownBy rounds) files name fetches own text answer told) is
+failed_file files (commands.Live name workers observers) fetches own text answer told is =
+    scripts.failed_file (IsReportBy (threads observers)) (IsShownBy (threads observers)) files name fetches own text (script_ends (IsReportBy (threads observers)) (IsShownBy (threads observers)) files name fetches own text answer told) is
 failed_file files (commands.Check name file) fetches own text answer told is =
     checks.failed_file files name file fetches own text (check_ends files name file fetches own text answer told) is
 failed_file files (commands.Big lanes) fetches own text answer told is =
-    let show = summary_text lanes in
+    let Shows = IsSummary lanes in
     let made = Some (made_files lanes) in
-    let found = scripts.failed_file (IsReportBy rounds) show made script_name answer.within own text (script_ends (IsReportBy rounds) show made script_name answer.within own text answer.answer answer.told) is in
+    let found = scripts.failed_file (IsReportBy rounds) Shows made script_name answer.within own text (script_ends (IsReportBy rounds) Shows made script_name answer.within own text answer.answer answer.told) is in
     absurd (no_name found.0 (sym answer.none_failed ∙ found.2))
   where
     no_name : (name : List ℕ) → [] ≡ name ∷ [] → ⊥
@@ -159,9 +158,9 @@ any_failed files (commands.Replay file name) fetches own text (inr answer) told 
 any_failed files (commands.Upgrade file) fetches own text answer told some =
     report_failed file answer.given own text answer.answer (λ none. some (ap failed_names answer.is ∙ none))
 any_failed files (commands.Step name) fetches own text answer told some =
-    scripts.any_failed (IsReportBy rounds) report_text files name fetches own text (script_ends (IsReportBy rounds) report_text files name fetches own text answer told) some
-any_failed files (commands.Live name workers) fetches own text answer told some =
-    scripts.any_failed (IsReportBy threads) report_text files name fetches own text (script_ends (IsReportBy threads) report_text files name fetches own text answer told) some
+    scripts.any_failed (IsReportBy rounds) (IsShownBy rounds) files name fetches own text (script_ends (IsReportBy rounds) (IsShownBy rounds) files name fetches own text answer told) some
+any_failed files (commands.Live name workers observers) fetches own text answer told some =
+    scripts.any_failed (IsReportBy (threads observers)) (IsShownBy (threads observers)) files name fetches own text (script_ends (IsReportBy (threads observers)) (IsShownBy (threads observers)) files name fetches own text answer told) some
 any_failed files (commands.Check name file) fetches own text answer told some =
     checks.any_failed files name file fetches own text (check_ends files name file fetches own text answer told) some
 any_failed files (commands.Big lanes) fetches own text answer told some = absurd (some (ap failed_names answer.is))

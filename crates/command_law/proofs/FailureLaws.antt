@@ -8,8 +8,7 @@ use Rattle.change_script.specs.ScriptFiles.{IsScript}
 use Rattle.std.specs.Prelude.{Contains}
 use Rattle.base.proofs.ContainsLaws.{Contains-here}
 use Rattle.command_words.specs.BigFiles.{made_files, script_name}
-use Rattle.command_answers.specs.Answers.{Answer, Refusal, refusal, description, script, read_fault, no_memory, help, version, graph, plan, parts, rolled, denied, replay, report, consistent, unlawful, ran, summary, status_of}
-use Rattle.command_answers.specs.Summaries.{summary_text}
+use Rattle.command_answers.specs.Answers.{Answer, Refusal, refusal, description, script, read_fault, no_memory, help, version, graph, plan, parts, rolled, denied, replay, report, consistent, unlawful, status_of, text_of}
 use Rattle.command_words.specs.declared.words.Command.{Command}
 use Rattle.command_words.specs.declared.words.Command.TheVariants as commands
 use Rattle.command_law.specs.Schedules.{rounds, threads, IsReportBy}
@@ -18,7 +17,8 @@ use Rattle.command_law.specs.declared.query.Cut.TheVariants as cuts
 use Rattle.command_law.specs.declared.query.Query.{Query}
 use Rattle.command_law.specs.declared.query.Query.TheVariants as queries
 use Rattle.report_types.specs.declared.report.Report.{Report}
-use Rattle.command_law.specs.Commands.{can_be, can_not_be, IsJudged, judges, RefusesEvents, RefusesReport, RefusesScript, TellsReport, calls_of, course_of_query, in_summary, OfMadeFiles}
+use Rattle.report_types.specs.declared.script.Script.{Script}
+use Rattle.command_law.specs.Commands.{can_be, can_not_be, IsJudged, judges, RefusesEvents, RefusesReport, RefusesScript, TellsReport, calls_of, course_of_query, course_of_script, OfMadeFiles, IsSummary}
 use Rattle.command_law.specs.Courses.{Unrefused, FetchCourse, SaysAlone, AfterFetch, not_fetched, fetched_alone, failed, too_long, leads_on, After, not_judged, refused, gives, not_made, makes}
 use Rattle.command_law.specs.Descriptions.{IsTextRefusal, IsChecked}
 use Rattle.command_law.specs.Failures.{Uses, FailsLast}
@@ -30,7 +30,7 @@ use Rattle.command_law.specs.Replays.{IsReplayed, one_denied, all_steps}
 use Rattle.command_law.specs.Scripts.{lines_of_script}
 use Rattle.command_law.specs.Runs.{AnswersWords, asked}
 use Rattle.command_law.specs.Runs as runs
-use Rattle.command_law.proofs.Inverting.{OfStep, from_script, shown_text}
+use Rattle.command_law.proofs.Inverting.{OfStep, from_script}
 use Rattle.command_law.proofs.ScriptEnds.{failed_file, script_ends}
 
 -- ---- answers that aren't refusals
@@ -45,7 +45,7 @@ concludes_well (planning cuts.Whole call target) p answer why (old, new, earlier
 concludes_well (planning cuts.InParts call target) p answer why (old, new, earlier, graphs, (ps, are, what)) same = cc (what, same)
 concludes_well (planning (cuts.Rolled run within) call target) p answer why (old, new, earlier, graphs, (ps, are, given_up, is, what)) same = cc (what, same)
 concludes_well (replaying events) p answer why (g, earlier, graphs, what) same = no_refusal_of (started g) events answer why what same
-concludes_well (running schedule) p answer why (r, is, what) same = cc (what, same)
+concludes_well (running schedule) p answer why (r, is, shown, shows, what) same = cc (what, same)
 
 -- ---- the single steps
 
@@ -182,34 +182,32 @@ held name bytes fetches later here = subst (λ fs. Contains fs (fetch_of name (H
 
 -- no fetch of a made file failed
 not_unread : (lanes : ℕ) (answer : Answer) → OfMadeFiles lanes answer → (file : List ℕ) → answer ≢ refusal (read_fault file)
-not_unread lanes answer made file is = by made.made (of_refusal lanes made.made (read_fault file) (sym made.is ∙ is)) (from_script (IsReportBy rounds) (summary_text lanes) script_name made.own made.made made.course)
+not_unread lanes answer made file is = by (from_script (IsReportBy rounds) (IsSummary lanes) script_name made.own answer made.course)
   where
-    of_refusal : (n : ℕ) (a : Answer) (why : Refusal) → in_summary n a ≡ refusal why → a ≡ refusal why
-    of_refusal n (refusal other) why same = same
-    of_refusal n help why same = same
-    of_refusal n version why same = same
-    of_refusal n (graph g) why same = same
-    of_refusal n (plan old new steps) why same = same
-    of_refusal n (parts old ps) why same = same
-    of_refusal n (rolled old ps given_up left) why same = same
-    of_refusal n (denied number rule) why same = same
-    of_refusal n (replay count s settled) why same = same
-    of_refusal n (report r) why same = same
-    of_refusal n consistent why same = same
-    of_refusal n unlawful why same = same
-    of_refusal n (ran r) why same = cc
-    of_refusal n (summary other r) why same = same
-
     clash : (other : List ℕ) → failed_names made.own ≡ [] → failed_names made.own ≡ other ∷ [] → ⊥
     clash other none one = cc
 
-    by : (a : Answer) → a ≡ refusal (read_fault file)
-        → OfStep (IsReportBy rounds) (summary_text lanes) script_name made.own (status_of a) (shown_text (summary_text lanes) a) ⊎ (a ≡ refusal no_memory) → ⊥
-    by a same (inl of) =
-        let unread = failed_file (IsReportBy rounds) (summary_text lanes) (Some (made_files lanes)) script_name made.own (status_of a) (shown_text (summary_text lanes) a)
-        (script_ends (IsReportBy rounds) (summary_text lanes) (Some (made_files lanes)) script_name made.own (status_of a) (shown_text (summary_text lanes) a) of made.told) (ap status_of same) in
+    by : OfStep (IsReportBy rounds) (IsSummary lanes) script_name made.own (status_of answer) (text_of answer) ⊎ (answer ≡ refusal no_memory) → ⊥
+    by (inl of) =
+        let unread = failed_file (IsReportBy rounds) (IsSummary lanes) (Some (made_files lanes)) script_name made.own (status_of answer) (text_of answer)
+        (script_ends (IsReportBy rounds) (IsSummary lanes) (Some (made_files lanes)) script_name made.own (status_of answer) (text_of answer) of made.told) (ap status_of is) in
         clash unread.0 made.none_failed unread.2
-    by a same (inr short) = cc (same, short)
+    by (inr short) = cc (is, short)
+
+-- of a script, behind whose lines no fetch fails but the last
+of_script :
+    (Named : List ℕ → Type 0) (Then : Progress → FetchCourse)
+    → ((p : Progress) (fs : List Fetch) (a : Answer) → Then p fs a → FailsLast Named fs a)
+    → (name : List ℕ) (fetches : List Fetch) (answer : Answer) → Named name
+    → ((bytes : List ℕ) (lines : Script) (file : List ℕ) → WasHeld fetches name bytes → IsScript bytes lines → Uses (lines_of_script lines.lines) file → Named file)
+    → course_of_script Then name fetches answer → FailsLast Named fetches answer
+of_script Named Then of_then name fetches answer named used course =
+    let refuse = λ (ws : List (List ℕ)). refusal (script name ws) in
+    let Read = λ (bytes : List ℕ). After (RefusesScript bytes) refuse (IsScript bytes) (λ lines. FollowsLines Then begun (lines_of_script lines.lines)) in
+    of_fetch Named name file_limit refuse Read fetches answer named (other_script Named name)
+    (λ bytes fs a here then_. of_step Named (RefusesScript bytes) refuse (IsScript bytes) (λ lines. FollowsLines Then begun (lines_of_script lines.lines)) fs a (other_script Named name)
+    (λ lines gs b is rest. of_lines Named Then of_then begun (lines_of_script lines.lines) gs b
+    (λ file uses_it. used bytes lines file (held name bytes fetches fs here) is uses_it) rest) then_) course
 
 pub of_words :
     (knows : Command → Bool) (words : List (List ℕ)) (fetches : List Fetch) (answer : Answer) → AnswersWords knows words fetches answer
@@ -242,26 +240,14 @@ of_words knows words _ _ (asked (commands.Upgrade file) fetches answer asks cour
     (λ r gs b is says. of_says Named (report r) gs b (λ other same. cc) says) then_) course
 of_words knows words _ _ (asked (commands.Check name file) fetches answer asks course) =
     let Named = NamesFile knows (WasHeld fetches) words in
-    let refuse = λ (ws : List (List ℕ)). refusal (script name ws) in
-    let Then = λ (bytes : List ℕ). After (RefusesScript bytes) refuse (IsScript bytes) (λ lines. FollowsLines (judges file) begun (lines_of_script lines.lines)) in
-    of_fetch Named name file_limit refuse Then fetches answer (commands.Check name file, asks, inr (inl refl)) (other_script Named name)
-    (λ bytes fs a here then_. of_step Named (RefusesScript bytes) refuse (IsScript bytes) (λ lines. FollowsLines (judges file) begun (lines_of_script lines.lines)) fs a (other_script Named name)
-    (λ lines gs b is rest. of_lines Named (judges file) (of_judges Named file (commands.Check name file, asks, inl refl)) begun (lines_of_script lines.lines) gs b
-    (λ used_file used. (commands.Check name file, asks, inr (inr (bytes, lines, held name bytes fetches fs here, is, used)))) rest) then_) course
+    of_script Named (judges file) (of_judges Named file (commands.Check name file, asks, inl refl)) name fetches answer (commands.Check name file, asks, inr (inl refl))
+    (λ bytes lines used_file holds is used. (commands.Check name file, asks, inr (inr (bytes, lines, holds, is, used)))) course
 of_words knows words _ _ (asked (commands.Big lanes) fetches answer asks course) = inl (ap failed_names course.0, not_unread lanes answer course.1)
 of_words knows words _ _ (asked (commands.Step name) fetches answer asks course) =
     let Named = NamesFile knows (WasHeld fetches) words in
-    let refuse = λ (ws : List (List ℕ)). refusal (script name ws) in
-    let Then = λ (bytes : List ℕ). After (RefusesScript bytes) refuse (IsScript bytes) (λ lines. FollowsLines (behind (running rounds)) begun (lines_of_script lines.lines)) in
-    of_fetch Named name file_limit refuse Then fetches answer (commands.Step name, asks, inl refl) (other_script Named name)
-    (λ bytes fs a here then_. of_step Named (RefusesScript bytes) refuse (IsScript bytes) (λ lines. FollowsLines (behind (running rounds)) begun (lines_of_script lines.lines)) fs a (other_script Named name)
-    (λ lines gs b is rest. of_aim Named (running rounds) begun (lines_of_script lines.lines) gs b
-    (λ file used. (commands.Step name, asks, inr (bytes, lines, held name bytes fetches fs here, is, used))) rest) then_) course
-of_words knows words _ _ (asked (commands.Live name workers) fetches answer asks course) =
+    of_script Named (behind (running rounds)) (of_end Named (running rounds)) name fetches answer (commands.Step name, asks, inl refl)
+    (λ bytes lines file holds is used. (commands.Step name, asks, inr (bytes, lines, holds, is, used))) course
+of_words knows words _ _ (asked (commands.Live name workers observers) fetches answer asks course) =
     let Named = NamesFile knows (WasHeld fetches) words in
-    let refuse = λ (ws : List (List ℕ)). refusal (script name ws) in
-    let Then = λ (bytes : List ℕ). After (RefusesScript bytes) refuse (IsScript bytes) (λ lines. FollowsLines (behind (running threads)) begun (lines_of_script lines.lines)) in
-    of_fetch Named name file_limit refuse Then fetches answer (commands.Live name workers, asks, inl refl) (other_script Named name)
-    (λ bytes fs a here then_. of_step Named (RefusesScript bytes) refuse (IsScript bytes) (λ lines. FollowsLines (behind (running threads)) begun (lines_of_script lines.lines)) fs a (other_script Named name)
-    (λ lines gs b is rest. of_aim Named (running threads) begun (lines_of_script lines.lines) gs b
-    (λ file used. (commands.Live name workers, asks, inr (bytes, lines, held name bytes fetches fs here, is, used))) rest) then_) course
+    of_script Named (behind (running (threads observers))) (of_end Named (running (threads observers))) name fetches answer (commands.Live name workers observers, asks, inl refl)
+    (λ bytes lines file holds is used. (commands.Live name workers observers, asks, inr (bytes, lines, holds, is, used))) course

@@ -14,8 +14,8 @@ use Rattle.change_script.specs.EventFiles.{IsEventFile, IsFirstFault}
 use Rattle.report_types.specs.declared.report.Report.{Report}
 use Rattle.report_texts.specs.Stages.{IsReportFault}
 use Rattle.report_texts.specs.declared.error.ReportFault.{ReportFault}
-use Rattle.command_law.specs.Schedules.{rounds, threads, IsReportBy}
-use Rattle.command_law.specs.Commands.{TellsReport}
+use Rattle.command_law.specs.Schedules.{rounds, threads, IsReportBy, IsShownBy}
+use Rattle.command_law.specs.Commands.{TellsReport, IsSummary}
 use Rattle.command_words.specs.declared.words.TopCall.{TopCall}
 use Rattle.command_answers.specs.declared.status.Status.{Status}
 use Rattle.command_answers.specs.declared.status.Status.TheVariants as status
@@ -42,8 +42,6 @@ use Rattle.command_law.specs.Outcomes.{ReadFrom, Ends, IsRollStatus, Rolled, Wan
 use Rattle.command_law.proofs.Inverting.{Answer, of_words, AnswersCommand, no_form, answered_to, no_memory, Ran, OfDescription, OfScript, OfReplay, OfReport}
 use Rattle.change_script.proofs.EventFileLaws as scripts
 use Rattle.command_words.specs.BigFiles.{made_files, script_name}
-use Rattle.report_writing.specs.Reports.{report_text}
-use Rattle.command_answers.specs.Summaries.{summary_text}
 use Rattle.command_law.proofs.Checking.{check_ends}
 use Rattle.command_law.proofs.Checking as checks
 use Rattle.command_law.proofs.Reports.{need_no_fault, no_fault_refuses, not_longer}
@@ -378,13 +376,13 @@ module _ (knows : Command → Bool) (seen : Run) (run : Ran knows seen) where
           (file, name, asks, of_replay seen.files seen.taken seen.taken' file name run.fetches run.own run.text status.Denied with_denial r is run.told took)
       of (commands.Upgrade file) asks answer is took = absurd (report_not_denied seen.files seen.taken seen.taken' file answer.given run.own run.text answer.answer is)
       of (commands.Step name) asks answer is took =
-          absurd (ending.not_denied (IsReportBy rounds) report_text seen.files name run.fetches run.own run.text (script_ends (IsReportBy rounds) report_text seen.files name run.fetches run.own run.text answer run.told) is)
-      of (commands.Live name workers) asks answer is took =
-          absurd (ending.not_denied (IsReportBy threads) report_text seen.files name run.fetches run.own run.text (script_ends (IsReportBy threads) report_text seen.files name run.fetches run.own run.text answer run.told) is)
+          absurd (ending.not_denied (IsReportBy rounds) (IsShownBy rounds) seen.files name run.fetches run.own run.text (script_ends (IsReportBy rounds) (IsShownBy rounds) seen.files name run.fetches run.own run.text answer run.told) is)
+      of (commands.Live name workers observers) asks answer is took =
+          absurd (ending.not_denied (IsReportBy (threads observers)) (IsShownBy (threads observers)) seen.files name run.fetches run.own run.text (script_ends (IsReportBy (threads observers)) (IsShownBy (threads observers)) seen.files name run.fetches run.own run.text answer run.told) is)
       of (commands.Check name file) asks answer is took =
           absurd (checks.not_denied seen.files name file run.fetches run.own run.text (check_ends seen.files name file run.fetches run.own run.text answer run.told) is)
       of (commands.Big lanes) asks answer is took =
-          absurd (ending.not_denied (IsReportBy rounds) (summary_text lanes) (Some (made_files lanes)) script_name answer.within run.own run.text (big_ends lanes run.fetches run.own run.text answer) is)
+          absurd (ending.not_denied (IsReportBy rounds) (IsSummary lanes) (Some (made_files lanes)) script_name answer.within run.own run.text (big_ends lanes run.fetches run.own run.text answer) is)
 
       own : (fetches : List Fetch) (s : Status) (text : List ℕ) → AnswersCommand knows seen.words fetches s text → s ≡ status.Denied
           → ((command : Command) → AsksOf knows seen.words command → Answer command fetches s text → s ≡ status.Denied
@@ -435,13 +433,13 @@ module _ (knows : Command → Bool) (seen : Run) (run : Ran knows seen) where
       of (commands.Upgrade file) fetches own text asks answer is told took =
           absurd (report_not_description seen.files seen.taken seen.taken' file answer.given own text answer.answer is)
       of (commands.Step name) fetches own text asks answer is told took =
-          inr (inl (rounds, name, asks, ending.line_refused (IsReportBy rounds) report_text seen.files name fetches seen.taken seen.taken' own text (script_ends (IsReportBy rounds) report_text seen.files name fetches own text answer told) is took))
-      of (commands.Live name workers) fetches own text asks answer is told took =
-          inr (inl (threads, name, (workers, asks), ending.line_refused (IsReportBy threads) report_text seen.files name fetches seen.taken seen.taken' own text (script_ends (IsReportBy threads) report_text seen.files name fetches own text answer told) is took))
+          inr (inl (rounds, name, asks, ending.line_refused (IsReportBy rounds) (IsShownBy rounds) seen.files name fetches seen.taken seen.taken' own text (script_ends (IsReportBy rounds) (IsShownBy rounds) seen.files name fetches own text answer told) is took))
+      of (commands.Live name workers observers) fetches own text asks answer is told took =
+          inr (inl (threads observers, name, (workers, asks), ending.line_refused (IsReportBy (threads observers)) (IsShownBy (threads observers)) seen.files name fetches seen.taken seen.taken' own text (script_ends (IsReportBy (threads observers)) (IsShownBy (threads observers)) seen.files name fetches own text answer told) is took))
       of (commands.Check name file) fetches own text asks answer is told took =
           inr (inr (inl (name, file, asks, checks.line_refused seen.files name file fetches seen.taken seen.taken' own text (check_ends seen.files name file fetches own text answer told) is took)))
       of (commands.Big lanes) fetches own text asks answer is told took =
-          inr (inr (inr (lanes, asks, ending.line_refused (IsReportBy rounds) (summary_text lanes) (Some (made_files lanes)) script_name answer.within seen.taken seen.taken' own text (big_ends lanes fetches own text answer) is took)))
+          inr (inr (inr (lanes, asks, ending.line_refused (IsReportBy rounds) (IsSummary lanes) (Some (made_files lanes)) script_name answer.within seen.taken seen.taken' own text (big_ends lanes fetches own text answer) is took)))
 
       own : (fetches : List Fetch) (s : Status) (text : List ℕ) → AnswersCommand knows seen.words fetches s text → s ≡ status.Description → AllByRecursion (Gave seen.files) fetches
           → seen.taken' ≡ with_bytes seen.taken text → RefusesDescription knows seen
@@ -477,13 +475,13 @@ module _ (knows : Command → Bool) (seen : Run) (run : Ran knows seen) where
           let each = subst (AllByRecursion (Gave seen.files)) answer.is told in
           inr (inl (file, asks, of_report_refusal seen.files seen.taken seen.taken' file answer.given own text answer.answer is each.0 took))
       of (commands.Step name) fetches own text asks answer is told took =
-          inr (inr (inl (rounds, name, asks, ending.script_refused (IsReportBy rounds) report_text seen.files name fetches seen.taken seen.taken' own text (script_ends (IsReportBy rounds) report_text seen.files name fetches own text answer told) is took)))
-      of (commands.Live name workers) fetches own text asks answer is told took =
-          inr (inr (inl (threads, name, (workers, asks), ending.script_refused (IsReportBy threads) report_text seen.files name fetches seen.taken seen.taken' own text (script_ends (IsReportBy threads) report_text seen.files name fetches own text answer told) is took)))
+          inr (inr (inl (rounds, name, asks, ending.script_refused (IsReportBy rounds) (IsShownBy rounds) seen.files name fetches seen.taken seen.taken' own text (script_ends (IsReportBy rounds) (IsShownBy rounds) seen.files name fetches own text answer told) is took)))
+      of (commands.Live name workers observers) fetches own text asks answer is told took =
+          inr (inr (inl (threads observers, name, (workers, asks), ending.script_refused (IsReportBy (threads observers)) (IsShownBy (threads observers)) seen.files name fetches seen.taken seen.taken' own text (script_ends (IsReportBy (threads observers)) (IsShownBy (threads observers)) seen.files name fetches own text answer told) is took)))
       of (commands.Check name file) fetches own text asks answer is told took =
           inr (inr (inr (inl (name, file, asks, checks.refused_file seen.files name file fetches seen.taken seen.taken' own text (check_ends seen.files name file fetches own text answer told) is took))))
       of (commands.Big lanes) fetches own text asks answer is told took =
-          inr (inr (inr (inr (lanes, asks, ending.script_refused (IsReportBy rounds) (summary_text lanes) (Some (made_files lanes)) script_name answer.within seen.taken seen.taken' own text (big_ends lanes fetches own text answer) is took))))
+          inr (inr (inr (inr (lanes, asks, ending.script_refused (IsReportBy rounds) (IsSummary lanes) (Some (made_files lanes)) script_name answer.within seen.taken seen.taken' own text (big_ends lanes fetches own text answer) is took))))
 
       own : (fetches : List Fetch) (s : Status) (text : List ℕ) → AnswersCommand knows seen.words fetches s text → s ≡ status.Script → AllByRecursion (Gave seen.files) fetches
           → seen.taken' ≡ with_bytes seen.taken text → RefusesFile knows seen

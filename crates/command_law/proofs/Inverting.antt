@@ -21,10 +21,8 @@ use Rattle.command_answers.specs.Answers as values
 use Rattle.command_answers.specs.Answers.{refusal, run_status, status_of, text_of, usage_line, no_memory_line, help_text, version_text}
 use Rattle.command_answers.specs.RefusalLines.{read_fault_line, script_line}
 use Rattle.command_words.specs.BigFiles.{made_files, script_name}
-use Rattle.report_writing.specs.Reports.{report_text}
 use Rattle.report_types.specs.declared.report.Report.{Report}
-use Rattle.command_answers.specs.Summaries.{summary_text}
-use Rattle.command_law.specs.Commands.{can_be, can_not_be, course_of, course_of_query, course_of_script, in_summary, IsJudged, judges, OfMadeFiles}
+use Rattle.command_law.specs.Commands.{can_be, can_not_be, course_of, course_of_query, course_of_script, IsJudged, judges, OfMadeFiles, IsSummary}
 use Rattle.command_law.specs.Courses.{FetchCourse, not_fetched, fetched_alone, failed, too_long, leads_on, not_judged}
 use Rattle.command_law.specs.Courses as courses
 use Rattle.command_law.specs.Fetches.{Fetch, fetch_of, failed_names, Gave, report_fetch}
@@ -32,7 +30,7 @@ use Rattle.command_law.specs.Lines.{RunLine, uses, calls, does, Progress, begun,
 use Rattle.command_law.specs.OneFile.{DescriptionAnswers, cannot_read, is_too_long, refused, answered, EventsAnswers, cannot_read_events, events_file_too_long, events_file_at_fault, ScriptAnswers, cannot_read_script, script_file_too_long, script_file_at_fault, ReportAnswers, cannot_read_report, report_too_long, report_at_fault, upgraded}
 use Rattle.command_law.specs.Runs.{Written, AnswersWords, asked, Run, Runs}
 use Rattle.command_law.specs.Runs as runs
-use Rattle.command_law.specs.Schedules.{rounds, threads, IsReportBy}
+use Rattle.command_law.specs.Schedules.{rounds, threads, IsReportBy, IsShownBy}
 use Rattle.command_law.specs.Outcomes.{AsksForRun}
 use Rattle.command_law.specs.Scripts.{lines_of_script}
 use Rattle.command_words.proofs.WordsLaws.{one_command}
@@ -99,11 +97,11 @@ module _
 
 -- of a run that is behind them
 run_status_behind :
-    (IsReport : List Statement → Report → Type 0) (p : Progress) (fetches : List Fetch) (answer : values.Answer) → reporting IsReport p fetches answer
+    (IsReport : List Statement → Report → Type 0) (Shows : Report → List ℕ → Type 0) (p : Progress) (fetches : List Fetch) (answer : values.Answer) → reporting IsReport Shows p fetches answer
     → Own (status_of answer) ⊎ (answer ≡ refusal values.no_memory)
-run_status_behind IsReport p _ _ courses.not_made = inr refl
-run_status_behind IsReport p _ _ (courses.makes what fetches answer concludes says) =
-    inl (subst (λ a. Own (status_of a)) (sym (says.1 ∙ concludes.2)) (run_own concludes.0.status))
+run_status_behind IsReport Shows p _ _ courses.not_made = inr refl
+run_status_behind IsReport Shows p _ _ (courses.makes what fetches answer concludes says) =
+    inl (subst (λ a. Own (status_of a)) (sym (says.1 ∙ concludes.4)) (run_own concludes.0.status))
 
 -- of a report that is judged behind them
 judged_status_behind :
@@ -149,31 +147,14 @@ pub record OfReport (name : List ℕ) (fetches : List Fetch) (own : Status) (tex
   pub is : fetches ≡ report_fetch name given ∷ []
   pub answer : ReportAnswers name given own text
 
--- the text of an answer, where this is shown of the report of a run
-abbrev pub shown_text : (Report → List ℕ) → values.Answer → List ℕ
-shown_text show (values.refusal why) = text_of (values.refusal why)
-shown_text show values.help = help_text
-shown_text show values.version = version_text
-shown_text show (values.graph g) = text_of (values.graph g)
-shown_text show (values.plan old new steps) = text_of (values.plan old new steps)
-shown_text show (values.parts old ps) = text_of (values.parts old ps)
-shown_text show (values.rolled old ps given_up left) = text_of (values.rolled old ps given_up left)
-shown_text show (values.denied number rule) = text_of (values.denied number rule)
-shown_text show (values.replay count s settled) = text_of (values.replay count s settled)
-shown_text show (values.report r) = text_of (values.report r)
-shown_text show values.consistent = text_of values.consistent
-shown_text show values.unlawful = text_of values.unlawful
-shown_text show (values.ran r) = show r
-shown_text show (values.summary lanes r) = text_of (values.summary lanes r)
-
 -- an answer of a script: it isn't one, or its lines have an answer that isn't for want of memory
-pub data OfStep (IsReport : List Statement → Report → Type 0) (show : Report → List ℕ) (name : List ℕ) : List Fetch → Status → List ℕ → Type 0 where
+pub data OfStep (IsReport : List Statement → Report → Type 0) (Shows : Report → List ℕ → Type 0) (name : List ℕ) : List Fetch → Status → List ℕ → Type 0 where
   of_script :
-      (given : Fetched) (own : Status) (text : List ℕ) → ScriptAnswers name given own text → OfStep IsReport show name (fetch_of name given ∷ []) own text
+      (given : Fetched) (own : Status) (text : List ℕ) → ScriptAnswers name given own text → OfStep IsReport Shows name (fetch_of name given ∷ []) own text
   of_lines :
       (bytes : List ℕ) (parsed : Script) (fetches : List Fetch) (answer : values.Answer) → IsScript bytes parsed
-      → FollowsLines (reporting IsReport) begun (lines_of_script parsed.lines) fetches answer → Own (status_of answer)
-      → OfStep IsReport show name (fetch_of name (Held bytes) ∷ fetches) (status_of answer) (shown_text show answer)
+      → FollowsLines (reporting IsReport Shows) begun (lines_of_script parsed.lines) fetches answer → Own (status_of answer)
+      → OfStep IsReport Shows name (fetch_of name (Held bytes) ∷ fetches) (status_of answer) (text_of answer)
 
 -- an answer of a script by which a report is judged
 pub data OfCheck (name file : List ℕ) : List Fetch → Status → List ℕ → Type 0 where
@@ -190,7 +171,7 @@ pub record OfBig (lanes : ℕ) (fetches : List Fetch) (own : Status) (text : Lis
   pub within : List Fetch
   pub told : AllByRecursion (Gave (Some (made_files lanes))) within
   pub none_failed : failed_names within ≡ []
-  pub answer : OfStep (IsReportBy rounds) (summary_text lanes) script_name within own text
+  pub answer : OfStep (IsReportBy rounds) (IsSummary lanes) script_name within own text
 
 -- what is answered to a command
 abbrev pub Answer : Command → List Fetch → Status → List ℕ → Type 0
@@ -202,15 +183,15 @@ Answer (commands.Parts file call target) fetches own text = OfDescription file (
 Answer (commands.Roll file run within call target) fetches own text = OfDescription file (queries.Change (cuts.Rolled run within) call target) fetches own text
 Answer (commands.Replay file name) fetches own text = OfScript name fetches own text ⊎ OfReplay file name fetches own text
 Answer (commands.Upgrade file) fetches own text = OfReport file fetches own text
-Answer (commands.Step name) fetches own text = OfStep (IsReportBy rounds) report_text name fetches own text
-Answer (commands.Live name workers) fetches own text = OfStep (IsReportBy threads) report_text name fetches own text
+Answer (commands.Step name) fetches own text = OfStep (IsReportBy rounds) (IsShownBy rounds) name fetches own text
+Answer (commands.Live name workers observers) fetches own text = OfStep (IsReportBy (threads observers)) (IsShownBy (threads observers)) name fetches own text
 Answer (commands.Check name file) fetches own text = OfCheck name file fetches own text
 Answer (commands.Big lanes) fetches own text = OfBig lanes fetches own text
 
-module _ (IsReport : List Statement → Report → Type 0) (show : Report → List ℕ) (name : List ℕ) where
+module _ (IsReport : List Statement → Report → Type 0) (Shows : Report → List ℕ → Type 0) (name : List ℕ) where
   pub from_script :
-      (fetches : List Fetch) (answer : values.Answer) → course_of_script (reporting IsReport) name fetches answer
-      → OfStep IsReport show name fetches (status_of answer) (shown_text show answer) ⊎ (answer ≡ refusal values.no_memory)
+      (fetches : List Fetch) (answer : values.Answer) → course_of_script (reporting IsReport Shows) name fetches answer
+      → OfStep IsReport Shows name fetches (status_of answer) (text_of answer) ⊎ (answer ≡ refusal values.no_memory)
   from_script _ _ not_fetched = inr refl
   from_script _ _ (fetched_alone what) = inr refl
   from_script _ _ failed = inl (of_script Failed status.ReadFault (read_fault_line name) cannot_read_script)
@@ -220,10 +201,10 @@ module _ (IsReport : List Statement → Report → Type 0) (show : Report → Li
       inl (of_script (Held bytes) status.Script (script_line name words)
       (subst (λ w. ScriptAnswers name (Held bytes) status.Script (script_line name w)) (sym is) (script_file_at_fault bytes fault first)))
   from_script _ _ (leads_on bytes _ _ (courses.gives parsed fetches answer is follows)) =
-      by (follows_status Own plain (reporting IsReport) (run_status_behind IsReport) begun (lines_of_script parsed.lines) fetches answer follows)
+      by (follows_status Own plain (reporting IsReport Shows) (run_status_behind IsReport Shows) begun (lines_of_script parsed.lines) fetches answer follows)
     where
       by : Own (status_of answer) ⊎ (answer ≡ refusal values.no_memory)
-          → OfStep IsReport show name (fetch_of name (Held bytes) ∷ fetches) (status_of answer) (shown_text show answer) ⊎ (answer ≡ refusal values.no_memory)
+          → OfStep IsReport Shows name (fetch_of name (Held bytes) ∷ fetches) (status_of answer) (text_of answer) ⊎ (answer ≡ refusal values.no_memory)
       by (inl own) = inl (of_lines bytes parsed fetches answer is follows own)
       by (inr short) = inr short
 
@@ -246,63 +227,16 @@ from_checked name file _ _ (leads_on bytes _ _ (courses.gives parsed fetches ans
     by (inl own) = inl (of_its_lines bytes parsed fetches answer is follows own)
     by (inr short) = inr short
 
-pub shown_as_is : (answer : values.Answer) → shown_text report_text answer ≡ text_of answer
-shown_as_is (values.refusal why) = refl
-shown_as_is values.help = refl
-shown_as_is values.version = refl
-shown_as_is (values.graph g) = refl
-shown_as_is (values.plan old new steps) = refl
-shown_as_is (values.parts old ps) = refl
-shown_as_is (values.rolled old ps given_up left) = refl
-shown_as_is (values.denied number rule) = refl
-shown_as_is (values.replay count s settled) = refl
-shown_as_is (values.report r) = refl
-shown_as_is values.consistent = refl
-shown_as_is values.unlawful = refl
-shown_as_is (values.ran r) = refl
-shown_as_is (values.summary lanes r) = refl
-
-summary_shown :
-    (lanes : ℕ) (answer : values.Answer)
-    → (status_of (in_summary lanes answer) ≡ status_of answer) × (text_of (in_summary lanes answer) ≡ shown_text (summary_text lanes) answer)
-summary_shown lanes (values.refusal why) = (refl, refl)
-summary_shown lanes values.help = (refl, refl)
-summary_shown lanes values.version = (refl, refl)
-summary_shown lanes (values.graph g) = (refl, refl)
-summary_shown lanes (values.plan old new steps) = (refl, refl)
-summary_shown lanes (values.parts old ps) = (refl, refl)
-summary_shown lanes (values.rolled old ps given_up left) = (refl, refl)
-summary_shown lanes (values.denied number rule) = (refl, refl)
-summary_shown lanes (values.replay count s settled) = (refl, refl)
-summary_shown lanes (values.report r) = (refl, refl)
-summary_shown lanes values.consistent = (refl, refl)
-summary_shown lanes values.unlawful = (refl, refl)
-summary_shown lanes (values.ran r) = (refl, refl)
-summary_shown lanes (values.summary other r) = (refl, refl)
-
 from_made :
     (lanes : ℕ) (fetches : List Fetch) (answer : values.Answer) → fetches ≡ [] → OfMadeFiles lanes answer
     → OfBig lanes fetches (status_of answer) (text_of answer) ⊎ (answer ≡ refusal values.no_memory)
-from_made lanes fetches answer none of_made = by (from_script (IsReportBy rounds) (summary_text lanes) script_name of_made.own of_made.made of_made.course)
+from_made lanes fetches answer none of_made = by (from_script (IsReportBy rounds) (IsSummary lanes) script_name of_made.own answer of_made.course)
   where
-    shown : (status_of answer ≡ status_of of_made.made) × (text_of answer ≡ shown_text (summary_text lanes) of_made.made)
-    shown =
-        let s = summary_shown lanes of_made.made in
-        (ap status_of of_made.is ∙ s.0, ap text_of of_made.is ∙ s.1)
-
-    by : OfStep (IsReportBy rounds) (summary_text lanes) script_name of_made.own (status_of of_made.made) (shown_text (summary_text lanes) of_made.made)
-        ⊎ (of_made.made ≡ refusal values.no_memory)
+    by : OfStep (IsReportBy rounds) (IsSummary lanes) script_name of_made.own (status_of answer) (text_of answer) ⊎ (answer ≡ refusal values.no_memory)
         → OfBig lanes fetches (status_of answer) (text_of answer) ⊎ (answer ≡ refusal values.no_memory)
-    by (inl of) = inl (record {
-      is = none;
-      within = of_made.own;
-      told = of_made.told;
-      none_failed = of_made.none_failed;
-      answer =
-          subst (λ s. OfStep (IsReportBy rounds) (summary_text lanes) script_name of_made.own s (text_of answer)) (sym shown.0)
-          (subst (λ t. OfStep (IsReportBy rounds) (summary_text lanes) script_name of_made.own (status_of of_made.made) t) (sym shown.1) of);
-    })
-    by (inr short) = inr (of_made.is ∙ ap (in_summary lanes) short)
+    by (inl of) =
+        inl (record { is = none; within = of_made.own; told = of_made.told; none_failed = of_made.none_failed; answer = of })
+    by (inr short) = inr short
 
 -- what is wanted of a description
 by_query :
@@ -314,18 +248,6 @@ by_query file query fetches answer course = by fetches answer (from_query file q
         → OfDescription file query fs (status_of a) (text_of a) ⊎ (a ≡ refusal values.no_memory)
     by _ _ (out_of_memory fs) = inr refl
     by _ _ (of_description what a d) = inl (record { given = what; is = refl; answer = d })
-
--- of a script, where all of the report is shown
-pub in_full :
-    (IsReport : List Statement → Report → Type 0) (name : List ℕ) (fetches : List Fetch) (answer : values.Answer)
-    → course_of_script (reporting IsReport) name fetches answer
-    → OfStep IsReport report_text name fetches (status_of answer) (text_of answer) ⊎ (answer ≡ refusal values.no_memory)
-in_full IsReport name fetches answer course = by (from_script IsReport report_text name fetches answer course)
-  where
-    by : OfStep IsReport report_text name fetches (status_of answer) (shown_text report_text answer) ⊎ (answer ≡ refusal values.no_memory)
-        → OfStep IsReport report_text name fetches (status_of answer) (text_of answer) ⊎ (answer ≡ refusal values.no_memory)
-    by (inl of) = inl (subst (λ t. OfStep IsReport report_text name fetches (status_of answer) t) (shown_as_is answer) of)
-    by (inr short) = inr short
 
 pub from_command :
     (command : Command) (fetches : List Fetch) (answer : values.Answer) → course_of command fetches answer
@@ -373,8 +295,8 @@ from_command (commands.Upgrade file) _ _ (leads_on bytes _ _ (courses.gives r fe
       is = ap (λ fs. report_fetch file (Held bytes) ∷ fs) says.0;
       answer = subst (λ a. ReportAnswers file (Held bytes) (status_of a) (text_of a)) (sym says.1) (upgraded bytes r is);
     })
-from_command (commands.Step name) fetches answer course = in_full (IsReportBy rounds) name fetches answer course
-from_command (commands.Live name workers) fetches answer course = in_full (IsReportBy threads) name fetches answer course
+from_command (commands.Step name) fetches answer course = from_script (IsReportBy rounds) (IsShownBy rounds) name fetches answer course
+from_command (commands.Live name workers observers) fetches answer course = from_script (IsReportBy (threads observers)) (IsShownBy (threads observers)) name fetches answer course
 from_command (commands.Check name file) fetches answer course = from_checked name file fetches answer course
 from_command (commands.Big lanes) fetches answer course = from_made lanes fetches answer course.0 course.1
 
@@ -483,10 +405,10 @@ statements_status name _ _ _ script_file_too_long = script
 statements_status name _ _ _ (script_file_at_fault bytes fault first) = script
 
 step_status :
-    (IsReport : List Statement → Report → Type 0) (show : Report → List ℕ) (name : List ℕ) (fetches : List Fetch) (own : Status) (text : List ℕ) → OfStep IsReport show name fetches own text
+    (IsReport : List Statement → Report → Type 0) (Shows : Report → List ℕ → Type 0) (name : List ℕ) (fetches : List Fetch) (own : Status) (text : List ℕ) → OfStep IsReport Shows name fetches own text
     → Own own
-step_status IsReport show name _ _ _ (of_script given own text answer) = plain own (statements_status name given own text answer)
-step_status IsReport show name _ _ _ (of_lines bytes parsed fetches answer is follows own) = own
+step_status IsReport Shows name _ _ _ (of_script given own text answer) = plain own (statements_status name given own text answer)
+step_status IsReport Shows name _ _ _ (of_lines bytes parsed fetches answer is follows own) = own
 
 check_status : (name file : List ℕ) (fetches : List Fetch) (own : Status) (text : List ℕ) → OfCheck name file fetches own text → OfJudgement own
 check_status name file _ _ _ (of_its_script given own text answer) = before own (statements_status name given own text answer)
@@ -502,10 +424,10 @@ command_status (commands.Roll file run within call target) fetches own text answ
 command_status (commands.Replay file name) fetches own text (inl answer) = of_run own (plain own (script_status name answer.given own text answer.answer))
 command_status (commands.Replay file name) fetches own text (inr answer) = of_run own (description_status file (queries.Replay answer.events_file) answer.given own text answer.answer)
 command_status (commands.Upgrade file) fetches own text answer = of_run own (plain own (report_status file answer.given own text answer.answer))
-command_status (commands.Step name) fetches own text answer = of_run own (step_status (IsReportBy rounds) report_text name fetches own text answer)
-command_status (commands.Live name workers) fetches own text answer = of_run own (step_status (IsReportBy threads) report_text name fetches own text answer)
+command_status (commands.Step name) fetches own text answer = of_run own (step_status (IsReportBy rounds) (IsShownBy rounds) name fetches own text answer)
+command_status (commands.Live name workers observers) fetches own text answer = of_run own (step_status (IsReportBy (threads observers)) (IsShownBy (threads observers)) name fetches own text answer)
 command_status (commands.Check name file) fetches own text answer = of_judgement own (check_status name file fetches own text answer)
-command_status (commands.Big lanes) fetches own text answer = of_run own (step_status (IsReportBy rounds) (summary_text lanes) script_name answer.within own text answer.answer)
+command_status (commands.Big lanes) fetches own text answer = of_run own (step_status (IsReportBy rounds) (IsSummary lanes) script_name answer.within own text answer.answer)
 
 pub not_usage : (own : Status) → Own own → own ≢ status.Usage
 not_usage _ (plain _ well) is = cc
@@ -603,7 +525,7 @@ only_scripts knows words (commands.Replay file name) fetches own text asks (inr 
     absurd (not_run own (plain_status file (queries.Replay answer.events_file) tt answer.given own text answer.answer) is)
 only_scripts knows words (commands.Upgrade file) fetches own text asks answer is = absurd (not_run own (report_status file answer.given own text answer.answer) is)
 only_scripts knows words (commands.Step name) fetches own text asks answer is = inl (rounds, name, asks)
-only_scripts knows words (commands.Live name workers) fetches own text asks answer is = inl (threads, name, (workers, asks))
+only_scripts knows words (commands.Live name workers observers) fetches own text asks answer is = inl (threads observers, name, (workers, asks))
 only_scripts knows words (commands.Check name file) fetches own text asks answer is = absurd (not_run_judged own (check_status name file fetches own text answer) is)
 only_scripts knows words (commands.Big lanes) fetches own text asks answer is = inr (inl (lanes, asks))
 
@@ -628,9 +550,9 @@ only_checks (commands.Replay file name) fetches own text (inr answer) is =
 only_checks (commands.Upgrade file) fetches own text answer is =
     absurd (not_unlawful own (plain own (report_status file answer.given own text answer.answer)) is)
 only_checks (commands.Step name) fetches own text answer is =
-    absurd (not_unlawful own (step_status (IsReportBy rounds) report_text name fetches own text answer) is)
-only_checks (commands.Live name workers) fetches own text answer is =
-    absurd (not_unlawful own (step_status (IsReportBy threads) report_text name fetches own text answer) is)
+    absurd (not_unlawful own (step_status (IsReportBy rounds) (IsShownBy rounds) name fetches own text answer) is)
+only_checks (commands.Live name workers observers) fetches own text answer is =
+    absurd (not_unlawful own (step_status (IsReportBy (threads observers)) (IsShownBy (threads observers)) name fetches own text answer) is)
 only_checks (commands.Check name file) fetches own text answer is = (name, file, refl)
 only_checks (commands.Big lanes) fetches own text answer is =
-    absurd (not_unlawful own (step_status (IsReportBy rounds) (summary_text lanes) script_name answer.within own text answer.answer) is)
+    absurd (not_unlawful own (step_status (IsReportBy rounds) (IsSummary lanes) script_name answer.within own text answer.answer) is)

@@ -20,4 +20,5 @@ pub mod Stepping
 pub mod Telling
 pub mod TotalityLaws
 pub mod Wanting
+pub mod Watching
 pub mod WayLaws

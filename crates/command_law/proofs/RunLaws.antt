@@ -1,10 +1,11 @@
 -- What a run says of what was written, by the command that its words ask for.
-use Rattle.std.proofs.Common.{◌≡◌, ◌⊎◌, inl, inr, ℕ, Bool, List, Some, sym, subst}
+use Rattle.std.proofs.Common.{◌≡◌, ◌⊎◌, inl, inr, ℕ, Bool, List, Option, Some, sym, subst}
 use Rattle.std.specs.List.{AllByRecursion}
 use Rattle.cfg_io.specs.Shelf.{Files}
 use Rattle.cfg_io.specs.Sink.{with_bytes}
 use Rattle.change_law.specs.Statements.{Statement}
 use Rattle.report_types.specs.declared.report.Report.{Report}
+use Rattle.command_answers.specs.declared.status.Status.{Status}
 use Rattle.command_answers.specs.declared.status.Status.TheVariants as status
 use Rattle.command_answers.specs.Answers as values
 use Rattle.command_answers.specs.Answers.{Answer, status_of, text_of}
@@ -18,12 +19,13 @@ use Rattle.command_law.specs.Fetches.{Fetch, Gave}
 use Rattle.command_law.specs.Lines.{reporting}
 use Rattle.command_law.specs.Outcomes as outcomes
 use Rattle.command_law.specs.Outcomes.{AsksToRun, ReadFrom, Flattened, Parted, Planned, Replayed, Upgraded, IsRunStatus, IsVerdict, Judged, NothingRefuses, EndsAsGiven, NothingRefusesReport, Ends, NothingRefusesLines, EndsAsRun, EndsAsJudged, Wants}
-use Rattle.command_law.specs.Schedules.{Schedule}
 use Rattle.report_writing.specs.Reports.{report_text}
+use Rattle.command_law.specs.Schedules.{Schedule, threads}
+use Rattle.command_law.proofs.Watching.{unwatched}
 use Rattle.command_law.specs.Runs.{Written, whole, stopped, Run, RunsWith, Runs}
 use Rattle.command_law.specs.declared.query.Query.{Query}
 use Rattle.command_law.proofs.Flattening as flattening
-use Rattle.command_law.proofs.Inverting.{OfStep, in_full, ran}
+use Rattle.command_law.proofs.Inverting.{from_script, OfStep, ran}
 use Rattle.command_law.proofs.ScriptEnds.{for_memory, for_sink, no_run, reported, script_ends}
 use Rattle.command_law.proofs.Stepping as stepping
 
@@ -39,27 +41,32 @@ runs_with Is knows seen run = record {
   written = run.written;
 }
 
--- What a run of a script has written, by the course of its reports: the report of which so much is so.
-module _ (IsReport : List Statement → Report → Type 0) (seen : Run) (name : List ℕ) (fetches : List Fetch) (told : AllByRecursion (Gave seen.files) fetches) where
+-- What a run of a script has written, by the course of its reports: the report of which so much is so, by bytes that show it.
+module _ (IsReport : List Statement → Report → Type 0) (Shows : Report → List ℕ → Type 0) (seen : Run) (name : List ℕ) (fetches : List Fetch) (told : AllByRecursion (Gave seen.files) fetches) where
   pub reported_by :
-      (answer : values.Answer) → course_of_script (reporting IsReport) name fetches answer → Written (status_of answer) (text_of answer) seen
-      → IsRunStatus seen.status → outcomes.Reported IsReport report_text seen.files name seen.status seen.taken seen.taken'
+      (answer : values.Answer) → course_of_script (reporting IsReport Shows) name fetches answer → Written (status_of answer) (text_of answer) seen
+      → IsRunStatus seen.status → outcomes.Reported IsReport Shows seen.files name seen.status seen.taken seen.taken'
   reported_by answer course written is = by written is
     where
-      own : OfStep IsReport report_text name fetches (status_of answer) (text_of answer) ⊎ (answer ≡ values.refusal values.no_memory)
+      own : OfStep IsReport Shows name fetches (status_of answer) (text_of answer) ⊎ (answer ≡ values.refusal values.no_memory)
           → IsRunStatus (status_of answer) → seen.taken' ≡ with_bytes seen.taken (text_of answer)
-          → outcomes.Reported IsReport report_text seen.files name (status_of answer) seen.taken seen.taken'
+          → outcomes.Reported IsReport Shows seen.files name (status_of answer) seen.taken seen.taken'
       own (inl of) is took =
-          reported IsReport report_text seen.files name fetches seen.taken seen.taken' (status_of answer) (text_of answer)
-          (script_ends IsReport report_text seen.files name fetches (status_of answer) (text_of answer) of told) is took
+          reported IsReport Shows seen.files name fetches seen.taken seen.taken' (status_of answer) (text_of answer)
+          (script_ends IsReport Shows seen.files name fetches (status_of answer) (text_of answer) of told) is took
       own (inr short) is took = absurd (no_run status.NoMemory for_memory (subst (λ a. IsRunStatus (status_of a)) short is))
 
       by : Written (status_of answer) (text_of answer) seen → IsRunStatus seen.status
-          → outcomes.Reported IsReport report_text seen.files name seen.status seen.taken seen.taken'
+          → outcomes.Reported IsReport Shows seen.files name seen.status seen.taken seen.taken'
       by (whole took same ends) is =
-          subst (λ s. outcomes.Reported IsReport report_text seen.files name s seen.taken seen.taken') (sym ends)
-          (own (in_full IsReport name fetches answer course) (subst IsRunStatus ends is) took)
+          subst (λ s. outcomes.Reported IsReport Shows seen.files name s seen.taken seen.taken') (sym ends)
+          (own (from_script IsReport Shows name fetches answer course) (subst IsRunStatus ends is) took)
       by (stopped n short took rose ends) is = absurd (no_run status.WriteFault for_sink (subst IsRunStatus ends is))
+
+-- of a run that nobody watches the text of the report was written
+pub in_full : {files : Option Files} {name : List ℕ} {own : Status} {taken taken' : Option (List ℕ)} → outcomes.RanBy (threads 0) files name own taken taken'
+    → outcomes.RanShowing (threads 0) (λ report bytes. bytes ≡ report_text report) files name own taken taken'
+in_full r = record { was_run = r.was_run; bytes = r.bytes; shown = (unwatched r.was_run.report r.bytes).0 r.shown; written = r.written }
 
 module _ (knows : Command → Bool) (seen : Run) (run : Runs knows seen) where
   pub flattens :
@@ -93,7 +100,7 @@ module _ (knows : Command → Bool) (seen : Run) (run : Runs knows seen) where
   -- what a script was run to
   pub runs :
       (schedule : Schedule) (name : List ℕ) → AsksToRun knows seen.words schedule name → IsRunStatus seen.status
-      → outcomes.RanShowing schedule report_text seen.files name seen.status seen.taken seen.taken'
+      → outcomes.RanBy schedule seen.files name seen.status seen.taken seen.taken'
   runs = stepping.runs knows seen (ran knows seen run)
 
   -- what a report was judged to

@@ -20,9 +20,9 @@ use Rattle.report_texts.specs.Stages.{IsReportFault}
 use Rattle.report_texts.specs.declared.error.ReportFault.{ReportFault}
 use Rattle.command_words.specs.declared.words.Command.TheVariants as commands
 use Rattle.command_law.specs.Known.{AsksOf}
-use Rattle.command_law.specs.Schedules.{Schedule, rounds, threads, IsReportBy}
+use Rattle.command_law.specs.Schedules.{Schedule, rounds, threads, IsReportBy, IsShownBy}
 use Rattle.command_law.specs.declared.fetched.Fetched.{Fetched}
-use Rattle.command_law.specs.Commands.{can_be, can_not_be, IsJudged, TellsReport}
+use Rattle.command_law.specs.Commands.{can_be, can_not_be, IsJudged, TellsReport, IsSummary}
 use Rattle.command_law.specs.Fetches.{Fetch, failed_names, file_limit, Gave, report_fetch}
 use Rattle.command_law.specs.Lines.{begun, Progress}
 use Rattle.command_law.specs.OneFile.{cannot_read_script, script_file_too_long, script_file_at_fault, JudgementAnswers, judges_no_file, judges_no_long_file, judges_no_fault, judged}
@@ -37,9 +37,7 @@ use Rattle.command_law.proofs.Inverting.{Answer, of_words, AnswersCommand, no_fo
 use Rattle.command_law.proofs.Reports.{need_no_fault, no_fault_refuses, not_longer}
 use Rattle.command_law.proofs.WayLaws as ways
 use Rattle.command_words.specs.BigFiles.{made_files, script_name}
-use Rattle.report_writing.specs.Reports.{report_text}
 use Rattle.report_types.specs.declared.report.Report.{Report}
-use Rattle.command_answers.specs.Summaries.{summary_text}
 use Rattle.command_words.specs.declared.words.Command.{Command}
 use Rattle.command_law.proofs.ScriptEnds.{big_ends, early_other, EarlyEnds, ScriptEnds, early, is_none, unread, refuses, reports, script_ends, reported, run_is, no_run, for_memory, for_sink}
 use Rattle.command_law.proofs.Statuses.{usage_pending, usage_unfinished, usage_unlawful, memory_pending, memory_unfinished, memory_unlawful, write_fault_pending, write_fault_unfinished, write_fault_unlawful}
@@ -58,14 +56,13 @@ status_by :
     (schedule : Schedule) (statements : List Statement) (report : Report) → IsReportBy schedule statements report
     → report.status ≡ (if list_any is_pending report.history then 7 else if is_some report.unfinished then 8 else 0)
 status_by rounds statements report is = is.lawful.lawful.by_them.status
-status_by threads statements report is = is.lawful.by_them.status
+status_by (threads observers) statements report is = is.lawful.by_them.status
 
 pub ends_by_report :
-    (schedule : Schedule) (show : Report → List ℕ) (files : Option Files) (name : List ℕ) (own : Status) (taken taken' : Option (List ℕ))
-    (r : outcomes.RanShowing schedule show files name own taken taken')
+    (schedule : Schedule) (files : Option Files) (name : List ℕ) (own : Status) (r : outcomes.WasRunBy schedule files name own)
     → ((own ≡ status.Pending) ↔ (list_any is_pending r.report.history ≡ true))
     × ((own ≡ status.Unfinished) ↔ ((list_any is_pending r.report.history ≡ false) × (is_some r.report.unfinished ≡ true)))
-ends_by_report schedule show files name own taken taken' r =
+ends_by_report schedule files name own r =
     ends_with own (list_any is_pending r.report.history) (is_some r.report.unfinished) (r.ended ∙ ap run_status (status_by schedule r.statements r.report r.is_report))
 
 -- ---- what a verdict says
@@ -148,23 +145,23 @@ not_long f file text is long = within_not_long (f file) text is.0 is.1 long
 
 -- ---- which status is due, where the files are told and no fetch failed
 
-module _ (IsReport : List Statement → Report → Type 0) (show : Report → List ℕ) (f : Files) (name : List ℕ) (fetches : List Fetch) (none_failed : failed_names fetches ≡ []) where
+module _ (IsReport : List Statement → Report → Type 0) (Shows : Report → List ℕ → Type 0) (f : Files) (name : List ℕ) (fetches : List Fetch) (none_failed : failed_names fetches ≡ []) where
   failed_none : (file : List ℕ) → failed_names fetches ≡ file ∷ [] → ⊥
   failed_none file names = let e : [] ≡ file ∷ [] = sym none_failed ∙ names in cc
 
-  pub refused_script : MustRefuseScript (f name) → (own : Status) (text : List ℕ) → ScriptEnds IsReport show (Some f) name fetches own text → own ≡ status.Script
+  pub refused_script : MustRefuseScript (f name) → (own : Status) (text : List ℕ) → ScriptEnds IsReport Shows (Some f) name fetches own text → own ≡ status.Script
   refused_script must = of_end
     where
       not_one : (script : Script) → IsScriptOf (Some f) name script → ⊥
       not_one script is = need_no_refusal (f name) is.bytes script must is.told is.within is.is_script
 
-      of_end : (own : Status) (text : List ℕ) → ScriptEnds IsReport show (Some f) name fetches own text → own ≡ status.Script
+      of_end : (own : Status) (text : List ℕ) → ScriptEnds IsReport Shows (Some f) name fetches own text → own ≡ status.Script
       of_end _ _ (early (is_none _ _ _ names gave cannot_read_script)) = absurd (failed_none name names)
       of_end _ _ (early (is_none _ _ _ names gave script_file_too_long)) = refl
       of_end _ _ (early (is_none _ _ _ names gave (script_file_at_fault bytes fault first))) = refl
       of_end _ _ (early (unread script file is used names)) = absurd (not_one script is)
       of_end _ _ (early (refuses script file ws is are none)) = absurd (not_one script is)
-      of_end _ _ (reports script end report is lead is_report none) = absurd (not_one script is)
+      of_end _ _ (reports script end report shown is lead is_report shows none) = absurd (not_one script is)
 
   -- a file that holds one script
   one_script : (bytes : List ℕ) (script other : Script) → f name ≡ Some bytes → IsScript bytes script → IsScriptOf (Some f) name other → other ≡ script
@@ -183,28 +180,28 @@ module _ (IsReport : List Statement → Report → Type 0) (show : Report → Li
       (sym (one_script r.bytes r.script script r.holds r.is_script is)) r.refused)
 
   pub refused_line :
-      GraphOrFault → MustRefuseLine f (f name) → (own : Status) (text : List ℕ) → ScriptEnds IsReport show (Some f) name fetches own text → own ≡ status.Description
+      GraphOrFault → MustRefuseLine f (f name) → (own : Status) (text : List ℕ) → ScriptEnds IsReport Shows (Some f) name fetches own text → own ≡ status.Description
   refused_line graphs must = of_end
     where
       r : Refusing f name
       r = refusing f name must
 
-      of_end : (own : Status) (text : List ℕ) → ScriptEnds IsReport show (Some f) name fetches own text → own ≡ status.Description
+      of_end : (own : Status) (text : List ℕ) → ScriptEnds IsReport Shows (Some f) name fetches own text → own ≡ status.Description
       of_end _ _ (early (is_none _ _ _ names gave cannot_read_script)) = absurd (failed_none name names)
       of_end _ _ (early (is_none _ _ _ names gave script_file_too_long)) = absurd (within_not_long (f name) r.bytes r.holds r.within gave.1)
       of_end _ _ (early (is_none _ _ _ names gave (script_file_at_fault bytes fault first))) =
           absurd (scripts.never_both r.bytes r.script fault r.is_script (subst (λ b. IsScriptFault b fault) (same_content (f name) bytes r.bytes gave.1 r.holds) first))
       of_end _ _ (early (unread script file is used names)) = absurd (failed_none file names)
       of_end _ _ (early (refuses script file ws is are none)) = refl
-      of_end _ _ (reports script end report is lead is_report none) = absurd (line_not_passed graphs must script end is lead)
+      of_end _ _ (reports script end report shown is lead is_report shows none) = absurd (line_not_passed graphs must script end is lead)
 
-  pub completed : NothingRefusesLines f (f name) → (own : Status) (text : List ℕ) → ScriptEnds IsReport show (Some f) name fetches own text → IsRunStatus own
+  pub completed : NothingRefusesLines f (f name) → (own : Status) (text : List ℕ) → ScriptEnds IsReport Shows (Some f) name fetches own text → IsRunStatus own
   completed nothing = of_end
     where
       l : Leading f name
       l = leading f name nothing
 
-      of_end : (own : Status) (text : List ℕ) → ScriptEnds IsReport show (Some f) name fetches own text → IsRunStatus own
+      of_end : (own : Status) (text : List ℕ) → ScriptEnds IsReport Shows (Some f) name fetches own text → IsRunStatus own
       of_end _ _ (early (is_none _ _ _ names gave cannot_read_script)) = absurd (failed_none name names)
       of_end _ _ (early (is_none _ _ _ names gave script_file_too_long)) = absurd (within_not_long (f name) l.bytes l.holds l.within gave.1)
       of_end _ _ (early (is_none _ _ _ names gave (script_file_at_fault bytes fault first))) =
@@ -212,7 +209,7 @@ module _ (IsReport : List Statement → Report → Type 0) (show : Report → Li
       of_end _ _ (early (unread script file is used names)) = absurd (failed_none file names)
       of_end _ _ (early (refuses script file ws is are none)) =
           absurd (l.none script file ws (subst (λ b. IsScript b script) (same_content (f name) is.bytes l.bytes is.told l.holds) is.is_script) are)
-      of_end _ _ (reports script end report is lead is_report none) = run_is report.status
+      of_end _ _ (reports script end report shown is lead is_report shows none) = run_is report.status
 
 -- ---- a command by which words ask for the run of a script
 
@@ -220,35 +217,35 @@ record RunCommand (knows : Command → Bool) (words : List (List ℕ)) (schedule
   pub command : Command
   pub asks : AsksOf knows words command
   pub answers : (fetches : List Fetch) (own : Status) (text : List ℕ) → Answer command fetches own text
-      → OfStep (IsReportBy schedule) report_text name fetches own text
+      → OfStep (IsReportBy schedule) (IsShownBy schedule) name fetches own text
 
 by_schedule :
     (knows : Command → Bool) (words : List (List ℕ)) (schedule : Schedule) (name : List ℕ) → AsksToRun knows words schedule name
     → RunCommand knows words schedule name
 by_schedule knows words rounds name asks = record { command = commands.Step name; asks = asks; answers = λ fetches own text answer. answer }
-by_schedule knows words threads name asks = record { command = commands.Live name asks.0; asks = asks.1; answers = λ fetches own text answer. answer }
+by_schedule knows words (threads observers) name asks = record { command = commands.Live name asks.0 observers; asks = asks.1; answers = λ fetches own text answer. answer }
 
 module _ (knows : Command → Bool) (seen : Run) (run : Ran knows seen) where
   -- ---- what Ok, Pending and Unfinished say
 
   pub runs :
       (schedule : Schedule) (name : List ℕ) → AsksToRun knows seen.words schedule name → IsRunStatus seen.status
-      → outcomes.RanShowing schedule report_text seen.files name seen.status seen.taken seen.taken'
+      → outcomes.RanBy schedule seen.files name seen.status seen.taken seen.taken'
   runs schedule name asks is = by run.written is
     where
       to : RunCommand knows seen.words schedule name
       to = by_schedule knows seen.words schedule name asks
 
       own : Answer to.command run.fetches run.own run.text ⊎ (run.own ≡ status.NoMemory) → IsRunStatus run.own → seen.taken' ≡ with_bytes seen.taken run.text
-          → outcomes.RanShowing schedule report_text seen.files name run.own seen.taken seen.taken'
+          → outcomes.RanBy schedule seen.files name run.own seen.taken seen.taken'
       own (inl answer) is took =
-          reported (IsReportBy schedule) report_text seen.files name run.fetches seen.taken seen.taken' run.own run.text
-          (script_ends (IsReportBy schedule) report_text seen.files name run.fetches run.own run.text (to.answers run.fetches run.own run.text answer) run.told) is took
+          reported (IsReportBy schedule) (IsShownBy schedule) seen.files name run.fetches seen.taken seen.taken' run.own run.text
+          (script_ends (IsReportBy schedule) (IsShownBy schedule) seen.files name run.fetches run.own run.text (to.answers run.fetches run.own run.text answer) run.told) is took
       own (inr memory) is took = absurd (no_run status.NoMemory for_memory (subst IsRunStatus memory is))
 
-      by : Written run.own run.text seen → IsRunStatus seen.status → outcomes.RanShowing schedule report_text seen.files name seen.status seen.taken seen.taken'
+      by : Written run.own run.text seen → IsRunStatus seen.status → outcomes.RanBy schedule seen.files name seen.status seen.taken seen.taken'
       by (whole took same ends) is =
-          subst (λ s. outcomes.RanShowing schedule report_text seen.files name s seen.taken seen.taken') (sym ends)
+          subst (λ s. outcomes.RanBy schedule seen.files name s seen.taken seen.taken') (sym ends)
           (own (of_words knows seen.words to.command run.fetches run.own run.text to.asks run.answers) (subst IsRunStatus ends is) took)
       by (stopped n short took rose ends) is = absurd (no_run status.WriteFault for_sink (subst IsRunStatus ends is))
 
@@ -258,7 +255,7 @@ module _ (knows : Command → Bool) (seen : Run) (run : Ran knows seen) where
       own : Answer (commands.Big lanes) run.fetches run.own run.text ⊎ (run.own ≡ status.NoMemory) → IsRunStatus run.own → seen.taken' ≡ with_bytes seen.taken run.text
           → outcomes.SummedUp lanes run.own seen.taken seen.taken'
       own (inl answer) is took =
-          reported (IsReportBy rounds) (summary_text lanes) (Some (made_files lanes)) script_name answer.within seen.taken seen.taken' run.own run.text (big_ends lanes run.fetches run.own run.text answer) is took
+          reported (IsReportBy rounds) (IsSummary lanes) (Some (made_files lanes)) script_name answer.within seen.taken seen.taken' run.own run.text (big_ends lanes run.fetches run.own run.text answer) is took
       own (inr memory) is took = absurd (no_run status.NoMemory for_memory (subst IsRunStatus memory is))
 
       by : Written run.own run.text seen → IsRunStatus seen.status → outcomes.SummedUp lanes seen.status seen.taken seen.taken'
@@ -308,25 +305,25 @@ module _ (knows : Command → Bool) (seen : Run) (run : Ran knows seen) where
 
   of_big :
       (lanes : ℕ) (Due : Status → Type 0) → AsksOf knows seen.words (commands.Big lanes)
-      → ((within : List Fetch) → failed_names within ≡ [] → (own : Status) (text : List ℕ) → ScriptEnds (IsReportBy rounds) (summary_text lanes) (Some (made_files lanes)) script_name within own text → Due own)
+      → ((within : List Fetch) → failed_names within ≡ [] → (own : Status) (text : List ℕ) → ScriptEnds (IsReportBy rounds) (IsSummary lanes) (Some (made_files lanes)) script_name within own text → Due own)
       → Due seen.status ⊎ (seen.status ≡ status.NoMemory) ⊎ (seen.status ≡ status.WriteFault)
   of_big lanes Due asks of_end =
       finishes (commands.Big lanes) Due asks (λ answer. of_end answer.within answer.none_failed run.own run.text (big_ends lanes run.fetches run.own run.text answer))
 
   pub must_refuse_made_script : (lanes : ℕ) → AsksOf knows seen.words (commands.Big lanes) → MustRefuseScript (made_files lanes script_name) → Ends seen.status status.Script
   must_refuse_made_script lanes asks must =
-      of_big lanes (λ s. s ≡ status.Script) asks (λ within none own text. refused_script (IsReportBy rounds) (summary_text lanes) (made_files lanes) script_name within none must own text)
+      of_big lanes (λ s. s ≡ status.Script) asks (λ within none own text. refused_script (IsReportBy rounds) (IsSummary lanes) (made_files lanes) script_name within none must own text)
 
   -- From a law of the elaborator, as it stands there.
   pub must_refuse_made_line :
       GraphOrFault
       → (lanes : ℕ) → AsksOf knows seen.words (commands.Big lanes) → MustRefuseLine (made_files lanes) (made_files lanes script_name) → Ends seen.status status.Description
   must_refuse_made_line graphs lanes asks must =
-      of_big lanes (λ s. s ≡ status.Description) asks (λ within none own text. refused_line (IsReportBy rounds) (summary_text lanes) (made_files lanes) script_name within none graphs must own text)
+      of_big lanes (λ s. s ≡ status.Description) asks (λ within none own text. refused_line (IsReportBy rounds) (IsSummary lanes) (made_files lanes) script_name within none graphs must own text)
 
   pub completes_big : (lanes : ℕ) → AsksOf knows seen.words (commands.Big lanes) → NothingRefusesLines (made_files lanes) (made_files lanes script_name) → EndsAsRun seen.status
   completes_big lanes asks nothing =
-      of_big lanes IsRunStatus asks (λ within none own text. completed (IsReportBy rounds) (summary_text lanes) (made_files lanes) script_name within none nothing own text)
+      of_big lanes IsRunStatus asks (λ within none own text. completed (IsReportBy rounds) (IsSummary lanes) (made_files lanes) script_name within none nothing own text)
 
   -- ---- which status must come, where the shelf tells its files and no fetch failed
 
@@ -336,31 +333,31 @@ module _ (knows : Command → Bool) (seen : Run) (run : Ran knows seen) where
 
     of_step :
         (schedule : Schedule) (name : List ℕ) (Due : Status → Type 0) → AsksToRun knows seen.words schedule name
-        → ((own : Status) (text : List ℕ) → ScriptEnds (IsReportBy schedule) report_text (Some f) name run.fetches own text → Due own)
+        → ((own : Status) (text : List ℕ) → ScriptEnds (IsReportBy schedule) (IsShownBy schedule) (Some f) name run.fetches own text → Due own)
         → Due seen.status ⊎ (seen.status ≡ status.NoMemory) ⊎ (seen.status ≡ status.WriteFault)
     of_step schedule name Due asks of_end =
         let to = by_schedule knows seen.words schedule name asks in
         finishes to.command Due to.asks
         (λ answer. of_end run.own run.text
-        (script_ends (IsReportBy schedule) report_text (Some f) name run.fetches run.own run.text (to.answers run.fetches run.own run.text answer)
+        (script_ends (IsReportBy schedule) (IsShownBy schedule) (Some f) name run.fetches run.own run.text (to.answers run.fetches run.own run.text answer)
         (subst (λ fs. AllByRecursion (Gave fs) run.fetches) read.tells run.told)))
 
     pub must_refuse_script :
         (schedule : Schedule) (name : List ℕ) → AsksToRun knows seen.words schedule name → MustRefuseScript (f name) → Ends seen.status status.Script
     must_refuse_script schedule name asks must =
-        of_step schedule name (λ s. s ≡ status.Script) asks (refused_script (IsReportBy schedule) report_text f name run.fetches none_failed_here must)
+        of_step schedule name (λ s. s ≡ status.Script) asks (refused_script (IsReportBy schedule) (IsShownBy schedule) f name run.fetches none_failed_here must)
 
     -- From a law of the elaborator, as it stands there.
     pub must_refuse_line :
         GraphOrFault
         → (schedule : Schedule) (name : List ℕ) → AsksToRun knows seen.words schedule name → MustRefuseLine f (f name) → Ends seen.status status.Description
     must_refuse_line graphs schedule name asks must =
-        of_step schedule name (λ s. s ≡ status.Description) asks (refused_line (IsReportBy schedule) report_text f name run.fetches none_failed_here graphs must)
+        of_step schedule name (λ s. s ≡ status.Description) asks (refused_line (IsReportBy schedule) (IsShownBy schedule) f name run.fetches none_failed_here graphs must)
 
     pub completes :
         (schedule : Schedule) (name : List ℕ) → AsksToRun knows seen.words schedule name → NothingRefusesLines f (f name) → EndsAsRun seen.status
     completes schedule name asks nothing =
-        of_step schedule name IsRunStatus asks (completed (IsReportBy schedule) report_text f name run.fetches none_failed_here nothing)
+        of_step schedule name IsRunStatus asks (completed (IsReportBy schedule) (IsShownBy schedule) f name run.fetches none_failed_here nothing)
 
     -- ---- of the check of a report
 
@@ -377,7 +374,7 @@ module _ (knows : Command → Bool) (seen : Run) (run : Ran knows seen) where
     must_refuse_its_script name file asks must = of_check name file (λ s. s ≡ status.Script) asks of_end
       where
         of_end : (own : Status) (text : List ℕ) → CheckEnds (Some f) name file run.fetches own text → own ≡ status.Script
-        of_end own text (too_early e) = refused_script (IsReportBy rounds) report_text f name run.fetches none_failed_here must own text (early e)
+        of_end own text (too_early e) = refused_script (IsReportBy rounds) (IsShownBy rounds) f name run.fetches none_failed_here must own text (early e)
         of_end _ _ (by_report script end given own text is lead names gave judgement) =
             absurd (need_no_refusal (f name) is.bytes script must is.told is.within is.is_script)
 
@@ -388,13 +385,13 @@ module _ (knows : Command → Bool) (seen : Run) (run : Ran knows seen) where
     must_refuse_its_line graphs name file asks must = of_check name file (λ s. s ≡ status.Description) asks of_end
       where
         of_end : (own : Status) (text : List ℕ) → CheckEnds (Some f) name file run.fetches own text → own ≡ status.Description
-        of_end own text (too_early e) = refused_line (IsReportBy rounds) report_text f name run.fetches none_failed_here graphs must own text (early e)
-        of_end _ _ (by_report script end given own text is lead names gave judgement) = absurd (line_not_passed (IsReportBy rounds) report_text f name run.fetches none_failed_here graphs must script end is lead)
+        of_end own text (too_early e) = refused_line (IsReportBy rounds) (IsShownBy rounds) f name run.fetches none_failed_here graphs must own text (early e)
+        of_end _ _ (by_report script end given own text is lead names gave judgement) = absurd (line_not_passed (IsReportBy rounds) (IsShownBy rounds) f name run.fetches none_failed_here graphs must script end is lead)
 
     -- where nothing refuses its script, it isn't early
     no_early : (name : List ℕ) → NothingRefusesLines f (f name) → (own : Status) (text : List ℕ) → EarlyEnds (Some f) name run.fetches own text → ⊥
     no_early name nothing own text e =
-        no_run own (early_other (Some f) name run.fetches own text e) (completed (IsReportBy rounds) report_text f name run.fetches none_failed_here nothing own text (early e))
+        no_run own (early_other (Some f) name run.fetches own text e) (completed (IsReportBy rounds) (IsShownBy rounds) f name run.fetches none_failed_here nothing own text (early e))
 
     -- where nothing refuses its script, it ends by its report
     by_its_report :

@@ -14,8 +14,9 @@ use Rattle.report_texts.specs.declared.error.ReportFault.{ReportFault}
 use Rattle.report_texts.specs.declared.version.Version.{Version}
 use Rattle.change_law.specs.Consistent.{Consistent}
 use Rattle.change_law.specs.Statements.{Statement}
-use Rattle.command_answers.specs.Answers.{Answer, refusal, script, help, version, report, ran, summary, consistent, unlawful}
+use Rattle.command_answers.specs.Answers.{Answer, refusal, script, help, version, report, consistent, unlawful}
 use Rattle.command_answers.specs.RefusalLines.{report_words, script_words}
+use Rattle.command_answers.specs.Summaries.{summary_text}
 use Rattle.command_words.specs.declared.words.Command.{Command}
 use Rattle.command_words.specs.declared.words.Command.TheVariants as commands
 use Rattle.command_law.specs.declared.query.Cut.TheVariants as cuts
@@ -23,8 +24,8 @@ use Rattle.command_law.specs.declared.query.Query.{Query}
 use Rattle.command_law.specs.declared.query.Query.TheVariants as queries
 use Rattle.command_law.specs.Courses.{FetchCourse, SaysAlone, AfterFetch, After, Unrefused}
 use Rattle.command_law.specs.Fetches.{Fetch, Gave, failed_names, file_limit, report_limit}
-use Rattle.command_law.specs.Lines.{RunLine, uses, calls, draws, starts, changes, Aim, drawing, planning, replaying, running, Progress, begun, behind, FollowsLines}
-use Rattle.command_law.specs.Schedules.{rounds, threads}
+use Rattle.command_law.specs.Lines.{RunLine, uses, calls, draws, starts, changes, Aim, drawing, planning, replaying, running, Progress, begun, behind, reporting, FollowsLines}
+use Rattle.command_law.specs.Schedules.{IsReportBy, rounds, threads}
 use Rattle.command_law.specs.Scripts.{lines_of_script}
 
 abbrev pub aim_of : Query → Aim
@@ -84,20 +85,17 @@ judging file statements =
 abbrev pub judges : List ℕ → Progress → FetchCourse
 judges file p = judging file p.statements
 
--- the answer with the summary of a run in place of its report
-abbrev pub in_summary : ℕ → Answer → Answer
-in_summary lanes (ran r) = summary lanes r
-in_summary lanes answer = answer
+-- the summary of a run of so many lanes
+abbrev pub IsSummary : ℕ → Report → List ℕ → Type 0
+IsSummary lanes r bytes = bytes ≡ summary_text lanes r
 
--- The answer of `big`: that to the script which it makes, in summary, by fetches that gave what the made files hold and
--- of which none failed.
+-- The answer of `big`: that to the script which it makes, where the report is shown in summary, by fetches that gave what
+-- the made files hold and of which none failed.
 pub record OfMadeFiles (lanes : ℕ) (answer : Answer) : Type 0 where
   pub own : List Fetch
   pub told : AllByRecursion (Gave (Some (made_files lanes))) own
   pub none_failed : failed_names own ≡ []
-  pub made : Answer
-  pub course : course_of_script (behind (running rounds)) script_name own made
-  pub is : answer ≡ in_summary lanes made
+  pub course : course_of_script (reporting (IsReportBy rounds) (IsSummary lanes)) script_name own answer
 
 -- The course of `big`: it fetches no file of the shelf, and has such an answer.
 abbrev pub SumsUp : ℕ → FetchCourse
@@ -120,6 +118,6 @@ course_of (commands.Upgrade file) =
     AfterFetch file report_limit refuse
     (λ bytes. After (RefusesReport bytes) refuse (TellsReport bytes) (λ r. SaysAlone (report r)))
 course_of (commands.Step name) = course_of_script (behind (running rounds)) name
-course_of (commands.Live name workers) = course_of_script (behind (running threads)) name
+course_of (commands.Live name workers observers) = course_of_script (behind (running (threads observers))) name
 course_of (commands.Check name file) = course_of_script (judges file) name
 course_of (commands.Big lanes) = SumsUp lanes

@@ -15,12 +15,12 @@ HasNoForm knows words = (command : Command) → AsksOf knows words command → �
 
 -- the commands that run on one thread: all but `live`
 abbrev pub on_one_thread : Command → Bool
-on_one_thread (commands.Live script workers) = false
+on_one_thread (commands.Live script workers observers) = false
 on_one_thread command = true
 
 -- the command that runs on threads
 abbrev pub on_threads : Command → Bool
-on_threads (commands.Live script workers) = true
+on_threads (commands.Live script workers observers) = true
 on_threads command = false
 
 -- all commands

@@ -28,7 +28,7 @@ use Rattle.command_law.specs.Courses.{FetchCourse, SaysAlone, AfterFetch, After,
 use Rattle.command_law.specs.Descriptions.{IsChecked, IsGraphOfCall, IsTextRefusal}
 use Rattle.command_law.specs.Fetches.{file_limit}
 use Rattle.command_law.specs.Replays.{IsReplayed}
-use Rattle.command_law.specs.Schedules.{Schedule, IsReportBy}
+use Rattle.command_law.specs.Schedules.{Schedule, IsReportBy, IsShownBy}
 use Rattle.command_law.specs.declared.query.Cut.{Cut}
 use Rattle.command_law.specs.declared.query.Cut.TheVariants as cuts
 
@@ -136,9 +136,11 @@ IsChangeOf (cuts.Rolled run within) call target old new answer =
     × IsRoll (roll_statements call.top call.args old run target.top target.args within ps) given_up
     × (answer ≡ rolled old ps given_up (stage_left old ps given_up))
 
--- the answer that is the report of a run of these statements, where this must be so of them and of it
-abbrev pub IsRunAnswer : (List Statement → Report → Type 0) → List Statement → Answer → Type 0
-IsRunAnswer IsReport statements answer = (r : Report) × IsReport statements r × (answer ≡ ran r)
+-- The answer that is the report of a run of these statements. What must be so of them and of it is given, and what of
+-- the bytes that show it.
+abbrev pub IsRunAnswer : (List Statement → Report → Type 0) → (Report → List ℕ → Type 0) → List Statement → Answer → Type 0
+IsRunAnswer IsReport Shows statements answer =
+    (r : Report) × IsReport statements r × (shown : List ℕ) × Shows r shown × (answer ≡ ran r shown)
 
 -- the answer to what is wanted, from where the lines lead
 abbrev pub Concludes : Aim → Progress → Answer → Type 0
@@ -148,15 +150,16 @@ Concludes (planning cut call target) p answer =
     × IsChangeOf cut call target old new answer
 Concludes (replaying events) p answer =
     (g : Graph) × (earlier : List Graph) × (p.graphs ≡ g ∷ earlier) × IsReplayed (started g) events answer
-Concludes (running schedule) p answer = IsRunAnswer (IsReportBy schedule) p.statements answer
+Concludes (running schedule) p answer = IsRunAnswer (IsReportBy schedule) (IsShownBy schedule) p.statements answer
 
 -- what follows behind the lines: nothing of what is wanted is refused, and nothing more is fetched for it
 abbrev pub behind : Aim → Progress → FetchCourse
 behind aim p = Unrefused (Concludes aim p) SaysAlone
 
--- Of a run it is a report of what is to be done; `behind (running schedule)` is `reporting (IsReportBy schedule)`.
-abbrev pub reporting : (List Statement → Report → Type 0) → Progress → FetchCourse
-reporting IsReport p = Unrefused (IsRunAnswer IsReport p.statements) SaysAlone
+-- Of a run it is a report of what is to be done. By a schedule it is
+-- `reporting (IsReportBy schedule) (IsShownBy schedule)`.
+abbrev pub reporting : (List Statement → Report → Type 0) → (Report → List ℕ → Type 0) → Progress → FetchCourse
+reporting IsReport Shows p = Unrefused (IsRunAnswer IsReport Shows p.statements) SaysAlone
 
 -- The course of lines, and behind them of what follows from where they lead. A line that uses a file fetches it, and no
 -- other line fetches anything.

@@ -24,7 +24,7 @@ use Rattle.change_law.specs.Statements.{Statement}
 use Rattle.report_texts.specs.Stages.{IsReportFault}
 use Rattle.report_texts.specs.declared.error.ReportFault.{ReportFault}
 use Rattle.command_answers.specs.RefusalLines.{description_line, report_words, script_line, script_words}
-use Rattle.command_law.specs.Commands.{IsJudged, TellsReport}
+use Rattle.command_law.specs.Commands.{IsJudged, IsSummary, TellsReport}
 use Rattle.command_law.specs.Descriptions.{HasGraph}
 use Rattle.command_law.specs.Plans.{HasChange, IsPartsText, IsPlanText, IsRollText}
 use Rattle.command_law.specs.Replays.{HasReplay}
@@ -35,14 +35,13 @@ use Rattle.command_law.specs.Queries.{IsRefused, AnswersQuery}
 use Rattle.command_answers.specs.Answers.{Answer, run_status, status_of, text_of}
 use Rattle.command_law.specs.Failures.{Uses}
 use Rattle.command_law.specs.Lines.{begun}
-use Rattle.command_law.specs.Schedules.{Schedule, rounds, threads, IsReportBy}
+use Rattle.command_law.specs.Schedules.{Schedule, rounds, threads, IsReportBy, IsShownBy}
 use Rattle.command_law.specs.Scripts.{lines_of_script}
 use Rattle.command_law.specs.Ways.{AreRefused, Elaborates}
 use Rattle.command_law.specs.Fetches.{Fetch, Gave, failed_names, file_limit, report_limit}
 use Rattle.command_law.specs.Runs.{AnswersWords, Run}
 use Rattle.command_words.specs.BigFiles.{made_files, script_name}
 use Rattle.command_answers.specs.Statuses.{is_of_run}
-use Rattle.command_answers.specs.Summaries.{summary_text}
 
 -- the command names the file, in the words or in a `use` line of a script
 abbrev pub MentionsFile : (List ℕ → List ℕ → Type 0) → Command → List ℕ → Type 0
@@ -57,7 +56,7 @@ MentionsFile Holds (commands.Upgrade file) name = name ≡ file
 MentionsFile Holds (commands.Step script) name =
     (name ≡ script) ⊎ ((bytes : List ℕ) × (lines : Script) × Holds script bytes × IsScript bytes lines
     × Uses (lines_of_script lines.lines) name)
-MentionsFile Holds (commands.Live script workers) name =
+MentionsFile Holds (commands.Live script workers observers) name =
     (name ≡ script) ⊎ ((bytes : List ℕ) × (lines : Script) × Holds script bytes × IsScript bytes lines
     × Uses (lines_of_script lines.lines) name)
 MentionsFile Holds (commands.Check script report) name =
@@ -112,11 +111,9 @@ pub record IsScriptOf (files : Option Files) (name : List ℕ) (script : Script)
   pub within : length bytes ≤ file_limit
   pub is_script : IsScript bytes script
 
--- The script was run: its statements have the graphs to which the descriptions elaborate that the files hold, and
--- what is shown of the report of their run was written. The run ended as the report says. What must be so of statements
--- and report is given.
-pub record Reported (IsReport : List Statement → Report → Type 0) (show : Report → List ℕ) (files : Option Files) (name : List ℕ)
-    (own : Status) (taken taken' : Option (List ℕ)) : Type 0 where
+-- The script was run: its statements have the graphs to which the descriptions elaborate that the files hold, and the
+-- run ended as the report of it says. What must be so of statements and report is given.
+pub record WasRun (IsReport : List Statement → Report → Type 0) (files : Option Files) (name : List ℕ) (own : Status) : Type 0 where
   pub script : Script
   pub is_script : IsScriptOf files name script
   pub statements : List Statement
@@ -124,19 +121,34 @@ pub record Reported (IsReport : List Statement → Report → Type 0) (show : Re
   pub report : Report
   pub is_report : IsReport statements report
   pub ended : own ≡ run_status report.status
-  pub written : taken' ≡ with_bytes taken (show report)
 
--- a run by a schedule
-abbrev pub RanShowing : Schedule → (Report → List ℕ) → Option Files → List ℕ → Status → Option (List ℕ) → Option (List ℕ) → Type 0
+-- And bytes were written that show the report. What must be so of these is given too.
+pub record Reported (IsReport : List Statement → Report → Type 0) (Shows : Report → List ℕ → Type 0) (files : Option Files)
+    (name : List ℕ) (own : Status) (taken taken' : Option (List ℕ)) : Type 0 where
+  pub was_run : WasRun IsReport files name own
+  pub bytes : List ℕ
+  pub shown : Shows was_run.report bytes
+  pub written : taken' ≡ with_bytes taken bytes
+
+-- it was run by a schedule
+abbrev pub WasRunBy : Schedule → Option Files → List ℕ → Status → Type 0
+WasRunBy schedule = WasRun (IsReportBy schedule)
+
+-- and bytes that show its report so were written
+abbrev pub RanShowing : Schedule → (Report → List ℕ → Type 0) → Option Files → List ℕ → Status → Option (List ℕ) → Option (List ℕ) → Type 0
 RanShowing schedule = Reported (IsReportBy schedule)
 
--- in rounds, where all of the report is shown
+-- as reports of the schedule are shown
+abbrev pub RanBy : Schedule → Option Files → List ℕ → Status → Option (List ℕ) → Option (List ℕ) → Type 0
+RanBy schedule = RanShowing schedule (IsShownBy schedule)
+
+-- in rounds, of which the text of the report is written
 abbrev pub Ran : Option Files → List ℕ → Status → Option (List ℕ) → Option (List ℕ) → Type 0
-Ran = RanShowing rounds report_text
+Ran = RanShowing rounds (λ report bytes. bytes ≡ report_text report)
 
 -- the script of so many lanes was run, with the files that were made, and the summary of its report was written
 abbrev pub SummedUp : ℕ → Status → Option (List ℕ) → Option (List ℕ) → Type 0
-SummedUp lanes = RanShowing rounds (summary_text lanes) (Some (made_files lanes)) script_name
+SummedUp lanes = RanShowing rounds (IsSummary lanes) (Some (made_files lanes)) script_name
 
 -- The script has statements as the run of one has them, and the file holds a report. By its answer the report can be one
 -- of this machine for them, or can't, and so its line was written.
@@ -224,7 +236,7 @@ Wants knows files words file (queries.Replay events_file) =
 -- the words ask for the run of a script by a schedule
 abbrev pub AsksToRun : (Command → Bool) → List (List ℕ) → Schedule → List ℕ → Type 0
 AsksToRun knows words rounds name = AsksOf knows words (commands.Step name)
-AsksToRun knows words threads name = (workers : ℕ) × AsksOf knows words (commands.Live name workers)
+AsksToRun knows words (threads observers) name = (workers : ℕ) × AsksOf knows words (commands.Live name workers observers)
 
 -- the words ask for what may end so: the run of a script, their own or a made one; or a roll, which may be given up
 abbrev pub AsksForRun : (Command → Bool) → List (List ℕ) → Status → Type 0

@@ -31,6 +31,7 @@ ghost use Rattle.command_words.specs.declared.words.TopCall.{TopCall};
 ghost use Rattle.command_law.specs.Descriptions.{HasGraph, IsDescriptionRefusal};
 ghost use Rattle.report_types.specs.declared.report.Report.{Report};
 ghost use Rattle.report_writing.specs.Reports.{report_text};
+ghost use Rattle.watch_lines.specs.Observers.{Watched};
 ghost use Rattle.report_texts.specs.Stages.{IsReportFault};
 ghost use Rattle.report_texts.specs.declared.error.ReportFault.{ReportFault};
 ghost use Rattle.command_law.specs.Commands.{TellsReport, course_of, course_of_query, course_of_script};
@@ -41,7 +42,7 @@ ghost use Rattle.command_law.specs.Leads.{LeadBy, ScriptLeads, falls_short};
 ghost use Rattle.command_law.specs.OneFile.{DescriptionAnswers, EventsAnswers, ReportAnswers, ScriptAnswers};
 ghost use Rattle.command_law.specs.declared.fetched.Fetched.{Fetched};
 ghost use Rattle.command_law.specs.declared.fetched.Fetched.TheVariants.{Held};
-ghost use Rattle.command_law.specs.Outcomes.{AsksForRun, AsksToRun, HoldsFile, NamesFile, Ends, WroteFront, Flattened, Parted, Planned, Replayed, RefusesDescription, RefusesFile, MustRefuse, MustRefuseEvents, EndsAsRun, IsRunStatus, EndsAsJudged, IsVerdict, Judged, MustRefuseLine, MustRefuseScript, NothingRefuses, NothingRefusesLines, RanShowing, IsRollStatus, Rolled, SummedUp, EndsAsGiven, MustRefuseReport, NothingRefusesReport, ReadFrom, Upgraded, Wants};
+ghost use Rattle.command_law.specs.Outcomes.{AsksForRun, AsksToRun, HoldsFile, NamesFile, Ends, WroteFront, Flattened, Parted, Planned, Replayed, RefusesDescription, RefusesFile, MustRefuse, MustRefuseEvents, EndsAsRun, IsRunStatus, EndsAsJudged, IsVerdict, Judged, MustRefuseLine, MustRefuseScript, NothingRefuses, NothingRefusesLines, RanBy, WasRunBy, IsRollStatus, Rolled, SummedUp, EndsAsGiven, MustRefuseReport, NothingRefusesReport, ReadFrom, Upgraded, Wants};
 ghost use Rattle.command_words.specs.BigFiles.{made_files, script};
 ghost use Rattle.command_law.specs.Plans.{IsRollText, RefusesStart, Starts};
 ghost use Rattle.command_law.specs.Queries.{AnswersQuery, IsRefused};
@@ -93,32 +94,31 @@ pub fn want_of_memory_has_its_line()
 {}
 
 /// A law of runs: the run of a script ends with Ok, Pending or Unfinished, and comes with the text of its report, or
-/// with its summary where the script was made: Pending exactly where the report says that a change was given up,
-/// Unfinished exactly where it names a node that wasn't done and no such change. The two come for no other command, but
-/// that a roll may end with Pending.
+/// with its summary where the script was made. Behind the text stands what observers saw, and nothing where there are
+/// none. Pending comes exactly where the report says that a change was given up, Unfinished exactly where it names a
+/// node that wasn't done and no such change. The two come for no other command, but that a roll may end with Pending.
 pub fn runs_end_by_their_reports()
     ensures ran { (knows : Command → Bool) (r : Run) → Runs knows r
         → (schedule : Schedule) (name : List ℕ) → AsksToRun knows r.words schedule name → IsRunStatus r.status
-        → RanShowing schedule report_text r.files name r.status r.taken r.taken' }
+        → RanBy schedule r.files name r.status r.taken r.taken' }
     ensures summed { (knows : Command → Bool) (r : Run) → Runs knows r
         → (lanes : ℕ) → AsksOf knows r.words (commands.Big lanes) → IsRunStatus r.status
         → SummedUp lanes r.status r.taken r.taken' }
     ensures only { (knows : Command → Bool) (r : Run) → Runs knows r
         → (r.status ≡ Pending) ⊎ (r.status ≡ Unfinished)
         → AsksForRun knows r.words r.status }
-    ensures pending { (schedule : Schedule) (show : Report → List ℕ) (files : Option Files) (name : List ℕ)
-        (own : Status) (taken taken' : Option (List ℕ))
-        (r : RanShowing schedule show files name own taken taken')
+    ensures unwatched { (report : Report) (bytes : List ℕ) → Watched report 0 bytes ↔ (bytes ≡ report_text report) }
+    ensures pending { (schedule : Schedule) (files : Option Files) (name : List ℕ) (own : Status)
+        (r : WasRunBy schedule files name own)
         → (own ≡ Pending) ↔ (list_any is_pending r.report.history ≡ true) }
-    ensures unfinished { (schedule : Schedule) (show : Report → List ℕ) (files : Option Files) (name : List ℕ)
-        (own : Status) (taken taken' : Option (List ℕ))
-        (r : RanShowing schedule show files name own taken taken')
+    ensures unfinished { (schedule : Schedule) (files : Option Files) (name : List ℕ) (own : Status)
+        (r : WasRunBy schedule files name own)
         → (own ≡ Unfinished)
         ↔ ((list_any is_pending r.report.history ≡ false) × (is_some r.report.unfinished ≡ true)) }
 {}
 
-/// A law of runs: a roll ends with Ok or Pending, and comes with its text: Pending exactly where the rounds gave one of its
-/// parts up, which the text says.
+/// A law of runs: a roll ends with Ok or Pending, and comes with its text: Pending exactly where the rounds gave one of
+/// its parts up, which the text says.
 pub fn rolls_end_by_their_rounds()
     ensures rolled { (knows : Command → Bool) (r : Run) → Runs knows r
         → (file : List ℕ) (run within : ℕ) (call target : TopCall)

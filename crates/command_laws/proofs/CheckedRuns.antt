@@ -17,14 +17,13 @@ use Rattle.command_answers.specs.declared.status.Status.TheVariants as status
 use Rattle.report_texts.specs.Stages.{IsReportFault}
 use Rattle.report_texts.specs.declared.error.ReportFault.{ReportFault}
 use Rattle.command_law.specs.Fetches.{report_limit}
-use Rattle.command_law.specs.Outcomes.{Ends, EndsAsJudged, HoldsFile, IsVerdict, Judged, NothingRefusesReport, RanShowing}
+use Rattle.command_law.specs.Outcomes.{Ends, EndsAsJudged, HoldsFile, IsVerdict, Judged, NothingRefusesReport, WasRunBy}
 use Rattle.command_law.specs.Schedules.{Schedule}
 use Rattle.command_law.specs.Ways.{Elaborates}
 use Rattle.command_law.proofs.WayLaws.{one_elaborated}
 use Rattle.command_laws.specs.Telling.{StillHolds}
 use Rattle.command_laws.proofs.OneRun.{one_text}
 use Rattle.command_laws.proofs.ScheduledReports.{AreConsistent}
-use Rattle.report_writing.specs.Reports.{report_text}
 
 -- ---- what is said by one relation of elaboration is said by another
 
@@ -58,8 +57,8 @@ module _ (before after : Files) (still : StillHolds before after) where
   elaborates_still : (file name : List ℕ) (args : List ℤ) (g : Graph) → Elaborates (HoldsFile (Some before)) file name args g → Elaborates (HoldsFile (Some after)) file name args g
   elaborates_still file name args g e = record { text = e.text; is_text = (still file e.text e.is_text.0, e.is_text.1); has_graph = e.has_graph }
 
-  module _ (schedule : Schedule) (name file : List ℕ) (own verdict : Status) (taken t also u : Option (List ℕ))
-      (ran : RanShowing schedule report_text (Some before) name own taken t) (j : Judged (Some after) name file verdict also u) where
+  module _ (schedule : Schedule) (name file : List ℕ) (own verdict : Status) (also u : Option (List ℕ))
+      (ran : WasRunBy schedule (Some before) name own) (j : Judged (Some after) name file verdict also u) where
     -- the statements of the run are those by which the report is judged
     same_statements : ran.statements ≡ j.statements
     same_statements =

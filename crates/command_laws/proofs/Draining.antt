@@ -11,15 +11,15 @@ use Rattle.report_types.specs.declared.script.Script.{Script}
 use Rattle.change_round_laws.specs.SoundStatements.{AreSound}
 use Rattle.change_round_laws.specs.Waits.{DrainsInTime}
 use Rattle.command_answers.specs.declared.status.Status.{Status}
-use Rattle.command_law.specs.Outcomes.{HoldsFile, RanShowing}
+use Rattle.command_law.specs.Outcomes.{HoldsFile, WasRunBy}
 use Rattle.command_law.specs.Schedules.{rounds}
 use Rattle.command_law.specs.Ways.{Elaborates}
 
 pub drained :
     (sound : (files : Option Files) (bytes : List ℕ) (script : Script) (statements : List Statement) → IsScript bytes script → StatementsOf (Elaborates (HoldsFile files)) script statements → AreSound statements)
     → (each : (statements : List Statement) (report : Report) → AreSound statements → (serial : Serial statements report) → Each DrainsInTime serial.parts)
-    → (show : Report → List ℕ) (files : Option Files) (name : List ℕ) (own : Status) (taken t : Option (List ℕ)) (ran : RanShowing rounds show files name own taken t)
+    → (files : Option Files) (name : List ℕ) (own : Status) (ran : WasRunBy rounds files name own)
     → Each DrainsInTime ran.is_report.serial.parts
-drained sound each show files name own taken t ran =
+drained sound each files name own ran =
     let are_sound = sound files ran.is_script.bytes ran.script ran.statements ran.is_script.is_script ran.have_graphs in
     each ran.statements ran.report are_sound ran.is_report.serial

@@ -6,7 +6,6 @@ use Rattle.std.proofs.lemmas.List.Sums.{sum_by-cons}
 use Rattle.config_graph.specs.Graph.{Graph, requires_at, requires_of}
 use Rattle.config_graph.specs.declared.node.Node.{Node}
 use Rattle.config_graph.proofs.KindLaws.{two_requires}
-use Rattle.change_plan.specs.Selects.{Selects, ends, takes, skips}
 use Rattle.darwin_parser.specs.Tree.{Name, Tree}
 use Rattle.elaborator.specs.Elaboration.{ElaboratesTo}
 use Rattle.elaborator.proofs.FewLaws.{nodes_listed}
@@ -25,11 +24,6 @@ few_nodes tree name args g elaborates = subst (λ n. length g.nodes ≤ n) (sym 
     counted = ap (λ o. option_map_or (λ top. length (filter_map node_of (instances tree top))) o 0) elaborates.is_top
 
 -- ---- what is selected
-
-pub few_selected : {A : Type 0} (P : A → Type 0) (xs ys : List A) → Selects P xs ys → length ys ≤ length xs
-few_selected P _ _ ends = omega arith
-few_selected P _ _ (takes {x = x} {xs = xs} {ys = ys} has rest) = let fewer = few_selected P xs ys rest in omega (arith, fewer)
-few_selected P _ _ (skips {x = x} {xs = xs} {ys = ys} not_has rest) = let fewer = few_selected P xs ys rest in omega (arith, fewer)
 
 two_of : (o : Option Node) → option_map_or requires_of o 0 ≤ 2
 two_of None = omega arith

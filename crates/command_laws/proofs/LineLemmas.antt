@@ -33,10 +33,11 @@ use Rattle.command_law.specs.Ways.{AreRefused, LeadTo, UseLeads}
 use Rattle.command_law.proofs.TotalityLaws.{wanted}
 use Rattle.command_laws.specs.MadeScripts.{made_script}
 use Rattle.elaborator.proofs.ElaborationTestLaws.{cases, is_clear, none_at_all}
-use Rattle.command_laws.proofs.FewCreated.{few_nodes, few_ports, few_selected, nodes_below}
+use Rattle.command_laws.proofs.FewCreated.{few_nodes, few_ports, nodes_below}
 use Rattle.command_laws.proofs.LaneLemmas.{arguments, both_may_run, may_run, query, rank, script_is_short}
 use Rattle.command_laws.proofs.TextLemmas.{checked, sound}
 use Rattle.command_laws.specs.MadeTrees.{made_tree}
+use Rattle.change_plan.proofs.SelectsLaws.{Selects-shorter}
 
 -- the graph of so many lanes, with this argument of the first maps
 abbrev of_lanes : ℕ → ℕ → Graph → Type 0
@@ -52,7 +53,7 @@ room made nodes wanted_ports a b c d =
 
 few_created : (old new : Graph) (nodes wanted_ports : ℕ) → CreatesSoMany old new nodes wanted_ports → length new.nodes ≤ 200 → (nodes ≤ 200) × (wanted_ports ≤ 400)
 few_created old new nodes wanted_ports so_many few_new =
-    let picked = few_selected (IsGone new old) (range_with_len 0 (length new.nodes)) so_many.created so_many.gone in
+    let picked = Selects-shorter (IsGone new old) (range_with_len 0 (length new.nodes)) so_many.created so_many.gone in
     let all : length (range_with_len 0 (length new.nodes)) ≡ length new.nodes = length-range_with_len 0 (length new.nodes) in
     let at_ports = few_ports new.nodes so_many.created in
     (omega (arith, so_many.nodes_are, picked, all, few_new), omega (arith, so_many.ports_are, at_ports, picked, all, few_new))

@@ -77,8 +77,8 @@ never_refused knows seen lanes asks refuses = by refuses
     step_or_big : (name : List ℕ) → commands.Step name ≢ commands.Big lanes
     step_or_big name is = cc
 
-    live_or_big : (name : List ℕ) (workers : ℕ) → commands.Live name workers ≢ commands.Big lanes
-    live_or_big name workers is = cc
+    live_or_big : (name : List ℕ) (workers observers : ℕ) → commands.Live name workers observers ≢ commands.Big lanes
+    live_or_big name workers observers is = cc
 
     check_or_big : (name file : List ℕ) → commands.Check name file ≢ commands.Big lanes
     check_or_big name file is = cc
@@ -96,6 +96,6 @@ never_refused knows seen lanes asks refuses = by refuses
     by (inl (file, events, other, why)) = replay_or_big file events (is_big (commands.Replay file events) other)
     by (inr (inl (file, other, why))) = upgrade_or_big file (is_big (commands.Upgrade file) other)
     by (inr (inr (inl (rounds, name, other, why)))) = step_or_big name (is_big (commands.Step name) other)
-    by (inr (inr (inl (threads, name, (workers, other), why)))) = live_or_big name workers (is_big (commands.Live name workers) other)
+    by (inr (inr (inl (threads observers, name, (workers, other), why)))) = live_or_big name workers observers (is_big (commands.Live name workers observers) other)
     by (inr (inr (inr (inl (name, file, other, why))))) = check_or_big name file (is_big (commands.Check name file) other)
     by (inr (inr (inr (inr (n, other, why))))) = not_refused n (of_words seen.words n other.1) seen.taken seen.taken' why

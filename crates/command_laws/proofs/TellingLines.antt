@@ -37,12 +37,9 @@ use Rattle.change_round_laws.proofs.LineLaws.{changes_of_closes}
 use Rattle.change_law.specs.Statements.{Statement, start, change, run, finish, show}
 use Rattle.command_laws.specs.Telling.{AreStated, HasWords, IsCall, IsStated}
 use Rattle.command_laws.proofs.NumberLemmas.{HasNumbers}
+use Rattle.base.proofs.ListLaws.{AllByRecursion-append}
 
 -- ---- lists
-
-pub all_joined : {A : Type 0} (P : A → Type 0) (xs ys : List A) → AllByRecursion P xs → AllByRecursion P ys → AllByRecursion P (xs ++ ys)
-all_joined P [] ys first second = second
-all_joined P (x ∷ xs) ys first second = (first.0, all_joined P xs ys first.1 second)
 
 pub all_split : {A : Type 0} (P : A → Type 0) (xs ys : List A) → AllByRecursion P (xs ++ ys) → AllByRecursion P xs × AllByRecursion P ys
 all_split P [] ys all = (tt, all)
@@ -174,8 +171,8 @@ start_makes : (g : Graph) → HasWords g → AllByRecursion MakesWord (start_of 
 start_makes g words =
     let makes = map make_of (enumerate_from 0 g.nodes) in
     let links = filter_map (link_of g) (enumerate_from 0 (ports g.nodes)) in
-    all_joined MakesWord (makes ++ links) (map reopen_of (enumerate_from 0 (ports g.nodes)))
-    (all_joined MakesWord makes links (numbered_words 0 g.nodes words) (all_chosen MakesWord (link_of g) (enumerate_from 0 (ports g.nodes)) linked))
+    AllByRecursion-append MakesWord (makes ++ links) (map reopen_of (enumerate_from 0 (ports g.nodes)))
+    (AllByRecursion-append MakesWord makes links (numbered_words 0 g.nodes words) (all_chosen MakesWord (link_of g) (enumerate_from 0 (ports g.nodes)) linked))
     (all_mapped MakesWord reopen_of (enumerate_from 0 (ports g.nodes)) (λ p. tt))
   where
     linked : (p : ℕ × Port) → IfSome (link_of g p) MakesWord
@@ -209,10 +206,10 @@ commit_makes old new moves plan c is_plan words =
     let removes = map events.Remove w.removes in
     let makes = map work_.make_new w.makes in
     let links = new_links new plan (change_all c (unlinks ++ (removes ++ makes))) in
-    all_joined MakesWord ((unlinks ++ (removes ++ makes)) ++ map work_.link_new links) (map events.Reopen (reopened_ports old new plan c))
-    (all_joined MakesWord (unlinks ++ (removes ++ makes)) (map work_.link_new links)
-    (all_joined MakesWord unlinks (removes ++ makes) (all_mapped MakesWord events.Unlink w.unlinks (λ p. tt))
-    (all_joined MakesWord removes makes (all_mapped MakesWord events.Remove w.removes (λ n. tt)) (made_words old new plan c (length c.slots) plan.create words gone)))
+    AllByRecursion-append MakesWord ((unlinks ++ (removes ++ makes)) ++ map work_.link_new links) (map events.Reopen (reopened_ports old new plan c))
+    (AllByRecursion-append MakesWord (unlinks ++ (removes ++ makes)) (map work_.link_new links)
+    (AllByRecursion-append MakesWord unlinks (removes ++ makes) (all_mapped MakesWord events.Unlink w.unlinks (λ p. tt))
+    (AllByRecursion-append MakesWord removes makes (all_mapped MakesWord events.Remove w.removes (λ n. tt)) (made_words old new plan c (length c.slots) plan.create words gone)))
     (all_mapped MakesWord work_.link_new links (λ l. tt)))
     (all_mapped MakesWord events.Reopen (reopened_ports old new plan c) (λ p. tt))
 
@@ -226,18 +223,18 @@ committed_said :
     → IsCommitted old new plan within d rest → AllByRecursion IsSaid rest
 committed_said old new moves plan within d rest is_plan words closed x =
     subst (AllByRecursion IsSaid) (sym x.are)
-    (all_joined IsSaid (drained_lines x.looks) (commit_lines old new plan d)
+    (AllByRecursion-append IsSaid (drained_lines x.looks) (commit_lines old new plan d)
     (drained_said (seen_in_all x.looks) (seen_have IsNumber (ports_to_close old plan d) (seen_in_all x.looks) x.all_seen closed))
-    (all_joined IsSaid (lines_of_events (commit_events old new plan d)) (to.Commit ∷ []) (lines_said (commit_events old new plan d) (commit_makes old new moves plan d is_plan words)) (tt, tt)))
+    (AllByRecursion-append IsSaid (lines_of_events (commit_events old new plan d)) (to.Commit ∷ []) (lines_said (commit_events old new plan d) (commit_makes old new moves plan d is_plan words)) (tt, tt)))
 
 given_up_said : (closed : List ℕ) (within : ℕ) (rest : List HistoryLine) → IsNumber within → AllByRecursion IsNumber closed → IsGivenUp closed within rest → AllByRecursion IsSaid rest
 given_up_said closed within rest number closes x =
     let all = all_split (λ (d : Seen). IsNumber d.port) (seen_in_all x.looks) x.left (seen_have IsNumber closed (seen_in_all x.looks ++ x.left) x.all_seen closes) in
     subst (AllByRecursion IsSaid) (sym x.are)
-    (all_joined IsSaid (drained_lines x.looks) (pending_lines within x.left closed) (drained_said (seen_in_all x.looks) all.0) (
+    (AllByRecursion-append IsSaid (drained_lines x.looks) (pending_lines within x.left closed) (drained_said (seen_in_all x.looks) all.0) (
       number,
-      all_joined IsSaid (map root_line x.left ++ map to.Reopen closed) (to.Abandon ∷ [])
-          (all_joined IsSaid (map root_line x.left) (map to.Reopen closed) (all_onto IsSaid root_line x.left all.1) (all_mapped IsSaid to.Reopen closed (λ p. tt)))
+      AllByRecursion-append IsSaid (map root_line x.left ++ map to.Reopen closed) (to.Abandon ∷ [])
+          (AllByRecursion-append IsSaid (map root_line x.left) (map to.Reopen closed) (all_onto IsSaid root_line x.left all.1) (all_mapped IsSaid to.Reopen closed (λ p. tt)))
           (tt, tt),
     ))
 
@@ -252,7 +249,7 @@ module _ (before : List HistoryLine) (name : List ℕ) (args : List ℤ) (new : 
       let still : ports_to_close x.old x.plan (config_after (before ++ opening)) ≡ closes
       = ap (ports_to_close x.old x.plan) (config_more before opening ∙ ap (change_all c) (changes_of_closes closes)) ∙ still_to_close x.old x.plan c in
       subst (AllByRecursion IsSaid) (sym x.are)
-      (all_joined IsSaid opening x.rest (call, all_mapped IsSaid to.Close closes (λ p. tt))
+      (AllByRecursion-append IsSaid opening x.rest (call, all_mapped IsSaid to.Close closes (λ p. tt))
       (by x still closed x.ends))
     where
       by : (x : IsChange before name args new within moves lines)
@@ -270,7 +267,7 @@ module _ (before : List HistoryLine) (name : List ℕ) (args : List ℤ) (new : 
 right_said : (before : List HistoryLine) (s : Statement) (lines : List HistoryLine) → IsRight before s lines → IsStated s → AllByRecursion HasEventNumbers lines → AllByRecursion IsSaid lines
 right_said before (start name args g) lines right stated all =
     subst (AllByRecursion IsSaid) (sym right)
-    (stated.0, all_joined IsSaid (lines_of_events (start_of g)) (to.Commit ∷ []) (lines_said (start_of g) (start_makes g stated.1)) (tt, tt))
+    (stated.0, AllByRecursion-append IsSaid (lines_of_events (start_of g)) (to.Commit ∷ []) (lines_said (start_of g) (start_makes g stated.1)) (tt, tt))
 right_said before (change name args g within moves) lines right stated all = by (cases_Bool (list_any is_pending before))
   where
     by : (list_any is_pending before ≡ true) ⊎ (list_any is_pending before ≡ false) → AllByRecursion IsSaid lines
@@ -286,7 +283,7 @@ parts_said :
 parts_said before [] right stated all = tt
 parts_said before (p ∷ parts) right stated all =
     let here = all_split HasEventNumbers p.lines (lines_of parts) all in
-    all_joined IsSaid p.lines (lines_of parts) (right_said (lines_of before) p.statement p.lines right.0 stated.0 here.0)
+    AllByRecursion-append IsSaid p.lines (lines_of parts) (right_said (lines_of before) p.statement p.lines right.0 stated.0 here.0)
     (parts_said (before ++ p ∷ []) parts right.1 stated.1 here.1)
 
 stop_said : (before lines : List HistoryLine) → IsStop before lines → AllByRecursion HasEventNumbers lines → AllByRecursion IsSaid lines
@@ -295,7 +292,7 @@ stop_said before lines x all =
     let here = all_split HasEventNumbers (map to.Close closes) (map drained_line x.seen) (subst (AllByRecursion HasEventNumbers) x.are all).1 in
     subst (AllByRecursion IsSaid) (sym x.are) (
       tt,
-      all_joined IsSaid (map to.Close closes) (map drained_line x.seen) (all_mapped IsSaid to.Close closes (λ p. tt))
+      AllByRecursion-append IsSaid (map to.Close closes) (map drained_line x.seen) (all_mapped IsSaid to.Close closes (λ p. tt))
           (drained_said x.seen (seen_have IsNumber closes x.seen x.all_seen (all_of_map HasEventNumbers to.Close closes here.0))),
     )
 
@@ -304,6 +301,6 @@ pub history_said : (statements : List Statement) (history : List HistoryLine) �
 history_said statements history stated x all =
     let here = all_split HasEventNumbers (lines_of x.parts) x.stop (subst (AllByRecursion HasEventNumbers) (sym x.history_is) all) in
     subst (AllByRecursion IsSaid) x.history_is
-    (all_joined IsSaid (lines_of x.parts) x.stop
+    (AllByRecursion-append IsSaid (lines_of x.parts) x.stop
     (parts_said [] x.parts x.right (subst (AllByRecursion IsStated) (sym x.statements_are) stated) here.0)
     (stop_said (lines_of x.parts) x.stop x.stops here.1))

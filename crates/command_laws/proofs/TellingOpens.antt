@@ -22,7 +22,8 @@ use Rattle.change_law.specs.Follows.{Follows, IsRight, IsStop, Part, lines_of}
 use Rattle.change_law.specs.Members.{is_pending, line_of, lines_of_events}
 use Rattle.change_law.specs.Scene.{Seen, config_after, drained_line, root_line}
 use Rattle.change_law.specs.Statements.{Statement, start, change, run, finish, show}
-use Rattle.command_laws.proofs.TellingLines.{all_joined, all_mapped}
+use Rattle.command_laws.proofs.TellingLines.{all_mapped}
+use Rattle.base.proofs.ListLaws.{AllByRecursion-append}
 
 -- ---- places
 
@@ -67,8 +68,8 @@ committed_opens : (old new : Graph) (plan : Plan) (within : ℕ) (c : Configurat
 committed_opens old new plan within c lines before x =
     no_roots before lines
     (subst (AllByRecursion IsNoRoot) (sym x.are)
-    (all_joined IsNoRoot (drained_lines x.looks) (commit_lines old new plan c) (drained_no_root x.looks)
-    (all_joined IsNoRoot (lines_of_events (commit_events old new plan c)) (to.Commit ∷ []) (events_no_root (commit_events old new plan c)) (refl, tt))))
+    (AllByRecursion-append IsNoRoot (drained_lines x.looks) (commit_lines old new plan c) (drained_no_root x.looks)
+    (AllByRecursion-append IsNoRoot (lines_of_events (commit_events old new plan c)) (to.Commit ∷ []) (events_no_root (commit_events old new plan c)) (refl, tt))))
 
 given_up_opens : (closed : List ℕ) (within : ℕ) (lines before : List HistoryLine) → IsGivenUp closed within lines → EachAfter OpensBehind before lines
 given_up_opens closed within lines before x =
@@ -101,7 +102,7 @@ change_opens told name args new within moves lines before x =
 right_opens : (told : List HistoryLine) (s : Statement) (lines before : List HistoryLine) → IsRight told s lines → EachAfter OpensBehind before lines
 right_opens told (start name args g) lines before right =
     no_roots before lines
-    (subst (AllByRecursion IsNoRoot) (sym right) (refl, all_joined IsNoRoot (lines_of_events (start_of g)) (to.Commit ∷ []) (events_no_root (start_of g)) (refl, tt)))
+    (subst (AllByRecursion IsNoRoot) (sym right) (refl, AllByRecursion-append IsNoRoot (lines_of_events (start_of g)) (to.Commit ∷ []) (events_no_root (start_of g)) (refl, tt)))
 right_opens told (change name args g within moves) lines before right = by (cases_Bool (list_any is_pending told))
   where
     by : (list_any is_pending told ≡ true) ⊎ (list_any is_pending told ≡ false) → EachAfter OpensBehind before lines
@@ -122,7 +123,7 @@ stop_opens told lines before x =
     no_roots before lines
     (subst (AllByRecursion IsNoRoot) (sym x.are) (
       refl,
-      all_joined IsNoRoot (map to.Close (live_ports (config_after told))) (map drained_line x.seen) (all_mapped IsNoRoot to.Close (live_ports (config_after told)) (λ p. refl))
+      AllByRecursion-append IsNoRoot (map to.Close (live_ports (config_after told))) (map drained_line x.seen) (all_mapped IsNoRoot to.Close (live_ports (config_after told)) (λ p. refl))
           (all_mapped IsNoRoot drained_line x.seen (λ d. refl)),
     ))
 

@@ -45,6 +45,7 @@ use Rattle.command_laws.proofs.TellingLines.{HasEventNumbers, IsSaid, MakesWord,
 use Rattle.command_laws.proofs.TellingLogs.{IsNextSlot, found_has, logs_are, next_slots, numbers_of_run, slots_are_numbers, slots_made, status_small}
 use Rattle.command_laws.proofs.TellingOpens.{OpensBehind, history_opens}
 use Rattle.command_laws.proofs.TellingTexts.{HasSerial, HasTold, can_stand}
+use Rattle.base.proofs.ListLaws.{AllByRecursion-push}
 
 -- ---- the paths of the nodes of a configuration
 
@@ -56,12 +57,8 @@ all_put P [] k x all has = tt
 all_put P (y ∷ xs) zero x all has = (has, all.1)
 all_put P (y ∷ xs) (suc k) x all has = (all.0, all_put P xs k x all.1 has)
 
-all_pushed : {A : Type 0} (P : A → Type 0) (xs : List A) (x : A) → AllByRecursion P xs → P x → AllByRecursion P (xs ++ x ∷ [])
-all_pushed P [] x all has = (has, tt)
-all_pushed P (y ∷ xs) x all has = (all.0, all_pushed P xs x all.1 has)
-
 words_next : (c : Configuration) (e : Event) → MakesWord e → AllByRecursion SlotHasWord c.slots → AllByRecursion SlotHasWord (change_next c e).slots
-words_next c (events.Make n node from) word all = all_pushed SlotHasWord c.slots (record { node = node; first_port = length c.gates; from = from; live = true }) all word
+words_next c (events.Make n node from) word all = AllByRecursion-push SlotHasWord c.slots (record { node = node; first_port = length c.gates; from = from; live = true }) all word
 words_next c (events.Remove n) word all = by (slot c n) refl
   where
     by : (o : Option Slot) → slot c n ≡ o → AllByRecursion SlotHasWord (option_map_or (λ (m : Slot). set c.slots n (record m { live = false })) o c.slots)

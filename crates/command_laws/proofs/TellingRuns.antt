@@ -26,7 +26,7 @@ use Rattle.report_texts.specs.declared.version.Version.TheVariants as versions
 use Rattle.change_law.specs.Scripts.{StatementsOf}
 use Rattle.change_law.specs.Statements.{Statement}
 use Rattle.command_answers.specs.declared.status.Status.{Status}
-use Rattle.command_law.specs.Outcomes.{HoldsFile, RanShowing}
+use Rattle.command_law.specs.Outcomes.{HoldsFile, WasRunBy}
 use Rattle.command_law.specs.Schedules.{Schedule}
 use Rattle.command_law.specs.Ways.{Elaborates}
 use Rattle.command_laws.specs.Telling.{AreStated, HasWords, NumbersFit}
@@ -53,8 +53,7 @@ module _
 
   module _ (consistent : AreConsistent) where
     pub ran_tells :
-        (show : Report → List ℕ) (schedule : Schedule) (files : Option Files) (name : List ℕ) (own : Status) (taken t : Option (List ℕ))
-        (ran : RanShowing schedule show files name own taken t) → NumbersFit ran.report → IsReport versions.Second ran.report
-    ran_tells show schedule files name own taken t ran fit =
+        (schedule : Schedule) (files : Option Files) (name : List ℕ) (own : Status) (ran : WasRunBy schedule files name own) → NumbersFit ran.report → IsReport versions.Second ran.report
+    ran_tells schedule files name own ran fit =
         tells_itself ran.statements ran.report (stated files ran.is_script.bytes ran.script ran.statements ran.is_script.is_script ran.have_graphs)
         (consistent schedule ran.statements ran.report ran.is_report) fit

@@ -33,7 +33,7 @@ use Rattle.report_texts.specs.ReportTexts.{IsWord}
 use Rattle.change_law.specs.Scripts.{Above, SayAll, Says, StatementsOf, nothing_above}
 use Rattle.change_law.specs.Statements.{Statement}
 use Rattle.command_laws.specs.Telling.{AreStated, HasWords, IsCall, IsStated}
-use Rattle.command_laws.proofs.TellingLines.{all_joined}
+use Rattle.base.proofs.ListLaws.{AllByRecursion-append}
 
 -- ---- words
 
@@ -114,7 +114,7 @@ module _ (spelled : (text : List ℕ) → Means text (front_of text)) (named : (
 
     lines_stated : (ls : List Line) → AllByRecursion (λ (l : ScriptLine). BodyIsStated l.body) (said ls)
     lines_stated [] = tt
-    lines_stated (l ∷ ls) = all_joined (λ (x : ScriptLine). BodyIsStated x.body) (said_by l) (said ls) (by (meaning l.bytes) refl) (lines_stated ls)
+    lines_stated (l ∷ ls) = AllByRecursion-append (λ (x : ScriptLine). BodyIsStated x.body) (said_by l) (said ls) (by (meaning l.bytes) refl) (lines_stated ls)
       where
         by : (r : Result Body LineFault) → meaning l.bytes ≡ r → AllByRecursion (λ (x : ScriptLine). BodyIsStated x.body) (said_with l.number r)
         by (Err fault) is = tt
@@ -138,7 +138,7 @@ module _ (spelled : (text : List ℕ) → Means text (front_of text)) (named : (
       say_stated [] above ss all says = subst AreStated (sym says) tt
       say_stated (line ∷ lines) above ss all says =
           subst AreStated (sym says.are)
-          (all_joined IsStated says.own says.rest (own_stated above line.body says.own says.next all.0 says.says) (say_stated lines says.next says.rest all.1 says.below))
+          (AllByRecursion-append IsStated says.own says.rest (own_stated above line.body says.own says.next all.0 says.says) (say_stated lines says.next says.rest all.1 says.below))
 
       pub script_stated : (bytes : List ℕ) (script : Script) (ss : List Statement) → IsScript bytes script → StatementsOf elab script ss → AreStated ss
       script_stated bytes script ss is says =

@@ -10,7 +10,7 @@ ghost use Rattle.report_types.specs.declared.script.Script.{Script};
 ghost use Rattle.command_answers.specs.declared.status.Status.{Status};
 ghost use Rattle.command_law.specs.Failures.{Uses};
 ghost use Rattle.command_law.specs.Lines.{RunLine, Progress, begun};
-ghost use Rattle.command_law.specs.Outcomes.{HoldsFile, MustRefuseLine, MustRefuseScript, NothingRefusesLines, Ran, SummedUp, TellsTooLong};
+ghost use Rattle.command_law.specs.Outcomes.{HoldsFile, Judged, MustRefuseLine, MustRefuseScript, NothingRefusesLines, Ran, SummedUp, TellsTooLong};
 ghost use Rattle.command_law.specs.Runs.{Run, Runs};
 ghost use Rattle.command_law.specs.Scripts.{lines_of_script};
 ghost use Rattle.command_law.specs.RunReports.{IsReportOf};
@@ -28,7 +28,7 @@ ghost use Rattle.change_round_laws.specs.Waits.{DrainsInTime};
 use change_round_laws::{
     a_sound_script_has_a_report, changes_drain_within_what_is_left, reports_of_rounds_are_lawful,
 };
-use command_law::scripts_are_refused_for_their_first_fault;
+use command_law::{scripts_are_refused_for_their_first_fault, what_bytes_give_is_one};
 use darwin_types::a_fault_or_none;
 use elaborator::{a_graph_or_a_fault, one_graph};
 
@@ -53,22 +53,31 @@ pub fn a_script_has_a_report()
 /// are closed finds them all drained, and is committed. So one that is given up could wait for fewer.
 pub fn changes_of_a_run_drain_in_time()
     ensures fetched { (files : Option Files) (name : List ℕ) (own : Status) (taken t : Option (List ℕ))
-        → (ran : Ran files name own taken t) → Each DrainsInTime ran.is_report.serial.parts }
+        → (ran : Ran files name own taken t) → Each DrainsInTime ran.was_run.is_report.serial.parts }
     ensures made { (lanes : ℕ) (own : Status) (taken t : Option (List ℕ))
-        → (ran : SummedUp lanes own taken t) → Each DrainsInTime ran.is_report.serial.parts }
+        → (ran : SummedUp lanes own taken t) → Each DrainsInTime ran.was_run.is_report.serial.parts }
 {
     a_script_has_a_report();
     changes_drain_within_what_is_left();
 }
 
 /// A law: a run of a script is a function of the files, and that of a made script one of the number of its lanes. Two
-/// runs that end by a report write the same text, and end with the same status.
+/// runs that end by a report write the same text, and end with the same status. So do two checks, and a script has one
+/// list of statements.
 pub fn a_script_has_one_run()
     ensures fetched { (files : Files) (name : List ℕ) (own other : Status) (taken t also : Option (List ℕ))
         → Ran (Some files) name own taken t → Ran (Some files) name other taken also → (own ≡ other) × (t ≡ also) }
     ensures made { (lanes : ℕ) (own other : Status) (taken t also : Option (List ℕ))
         → SummedUp lanes own taken t → SummedUp lanes other taken also → (own ≡ other) × (t ≡ also) }
-{}
+    ensures checked { (files : Files) (name file : List ℕ) (own other : Status) (taken t also : Option (List ℕ))
+        → Judged (Some files) name file own taken t → Judged (Some files) name file other taken also
+        → (own ≡ other) × (t ≡ also) }
+    ensures statements { (files : Files) (script : Script) (first second : List Statement)
+        → StatementsOf (Elaborates (HoldsFile (Some files))) script first
+        → StatementsOf (Elaborates (HoldsFile (Some files))) script second → first ≡ second }
+{
+    what_bytes_give_is_one();
+}
 
 /// A law: the lines of a script lead to one end at most, and none of them is refused then. That they neither lead on
 /// nor stop can't be, where the shelf has each file that they use.

@@ -16,7 +16,7 @@ ghost use Rattle.command_words.specs.declared.words.Command.{Command};
 ghost use Rattle.command_words.specs.declared.words.Command.TheVariants as commands;
 ghost use Rattle.command_law.specs.Fetches.{report_limit};
 ghost use Rattle.command_law.specs.Known.{AsksOf};
-ghost use Rattle.command_law.specs.Outcomes.{Ends, HoldsFile, Judged, NothingRefusesLines, RanShowing, ReadFrom};
+ghost use Rattle.command_law.specs.Outcomes.{Ends, HoldsFile, Judged, NothingRefusesLines, ReadFrom, WasRunBy};
 ghost use Rattle.command_law.specs.Runs.{Run, Runs};
 ghost use Rattle.command_law.specs.Schedules.{Schedule};
 ghost use Rattle.command_law.specs.Ways.{Elaborates};
@@ -34,18 +34,18 @@ use report_texts::{a_written_report_is_read, one_report_or_one_fault};
 
 /// A law: a consistent report of stated statements is one that can be written and read again, so its text tells it.
 /// The statements of a script are stated, since names and paths are words of the language. So the report of a run, in
-/// rounds or on threads, is read again from what was written. That the counts of `run` lines and the numbers of last states are below
-/// 2^64 is asked for, since no law bounds them: they are numbers of that type in the program.
+/// rounds or on threads, is read again from its text. That the counts of `run` lines and the numbers of last states are
+/// below 2^64 is asked for, since no law bounds them: they are numbers of that type in the program.
 pub fn runs_tell_their_reports()
     ensures consistent { (statements : List Statement) (report : Report) → TellsItself statements report }
     ensures stated { (files : Option Files) (bytes : List ℕ) (script : Script) (statements : List Statement)
         → IsScript bytes script
         → StatementsOf (Elaborates (HoldsFile files)) script statements → AreStated statements }
     ensures ran { (schedule : Schedule) (files : Option Files) (name : List ℕ) (own : Status)
-        (taken t : Option (List ℕ)) → (ran : RanShowing schedule report_text files name own taken t)
+        → (ran : WasRunBy schedule files name own)
         → NumbersFit ran.report → IsReport versions.Second ran.report }
     ensures read { (schedule : Schedule) (files : Option Files) (name : List ℕ) (own : Status)
-        (taken t : Option (List ℕ)) → (ran : RanShowing schedule report_text files name own taken t)
+        → (ran : WasRunBy schedule files name own)
         → NumbersFit ran.report
         → reading (report_text ran.report) ≡ Ok (record { version = versions.Second; report = ran.report }) }
 {
@@ -58,18 +58,18 @@ pub fn runs_tell_their_reports()
     a_written_report_is_read();
 }
 
-/// A law of runs: a check of what `step` or `live` wrote for the same script, where each file is still as it was then, says that
-/// the report is consistent. It ends with Ok, unless memory ran out or the sink failed, where nothing refuses the script
-/// and a report may have so many bytes. The numbers that no law bounds are to fit, as in [`runs_tell_their_reports`].
+/// A law of runs: a check of the report that `step` or `live` wrote for the same script, where each file is still as it
+/// was then, says that the report is consistent. It ends with Ok, unless memory ran out or the sink failed, where nothing
+/// refuses the script and a report may have so many bytes. The numbers that no law bounds are to fit, as in
+/// [`runs_tell_their_reports`].
 pub fn a_check_of_what_was_run_is_consistent()
     ensures judged { (schedule : Schedule) (before after : Files) (name file : List ℕ) (own verdict : Status)
-        (taken t also u : Option (List ℕ)) → (ran : RanShowing schedule report_text (Some before) name own taken t)
+        (also u : Option (List ℕ)) → (ran : WasRunBy schedule (Some before) name own)
         → NumbersFit ran.report
         → StillHolds before after
         → (j : Judged (Some after) name file verdict also u) → j.bytes ≡ report_text ran.report → verdict ≡ Status.Ok }
     ensures ends { (knows : Command → Bool) (schedule : Schedule) (before after : Files) (name file : List ℕ)
-        (own : Status) (taken t : Option (List ℕ))
-        → (ran : RanShowing schedule report_text (Some before) name own taken t) → NumbersFit ran.report
+        (own : Status) → (ran : WasRunBy schedule (Some before) name own) → NumbersFit ran.report
         → StillHolds before after → after file ≡ Some (report_text ran.report)
         → length (report_text ran.report) ≤ report_limit
         → (r : Run) → Runs knows r → ReadFrom r after → AsksOf knows r.words (commands.Check name file)

@@ -7,6 +7,7 @@ use Rattle.command_words.specs.declared.words.Command.TheVariants as commands
 use Rattle.command_law.specs.Fetches.{Fetch}
 use Rattle.command_law.specs.Known.{AsksOf, HasNoForm, all_commands, on_one_thread, on_threads}
 use Rattle.command_law.specs.Runs.{AnswersWords, asked, no_form, not_read, Run, Runs}
+use Rattle.std.proofs.lemmas.Bool.{false≢true}
 
 -- the words ask for none of all, where they ask for none on one thread and for none on threads
 pub asks_for_none :
@@ -23,7 +24,7 @@ asks_for_none words one many command asks = of command asks.0 asks.1
     of (commands.Replay file events) k a = one (commands.Replay file events) (k, a)
     of (commands.Upgrade file) k a = one (commands.Upgrade file) (k, a)
     of (commands.Step script) k a = one (commands.Step script) (k, a)
-    of (commands.Live script workers) k a = many (commands.Live script workers) (k, a)
+    of (commands.Live script workers observers) k a = many (commands.Live script workers observers) (k, a)
     of (commands.Check script report) k a = one (commands.Check script report) (k, a)
     of (commands.Big lanes) k a = one (commands.Big lanes) (k, a)
 
@@ -45,9 +46,6 @@ known_to_all few seen are_all none run = record {
     of _ _ not_read = not_read
     of _ _ (asked command fetches answer asks course) = asked command fetches answer (are_all command asks.0, asks.1) course
 
-false_is_not_true : false ≡ true → ⊥
-false_is_not_true is = cc
-
 pub ones_are_all : (c : Command) → on_one_thread c ≡ true → all_commands c ≡ true
 ones_are_all commands.Help k = k
 ones_are_all commands.Version k = k
@@ -58,26 +56,26 @@ ones_are_all (commands.Roll file run rounds call target) k = k
 ones_are_all (commands.Replay file events) k = k
 ones_are_all (commands.Upgrade file) k = k
 ones_are_all (commands.Step script) k = k
-ones_are_all (commands.Live script workers) k = refl
+ones_are_all (commands.Live script workers observers) k = refl
 ones_are_all (commands.Check script report) k = k
 ones_are_all (commands.Big lanes) k = k
 
 pub threads_are_all : (c : Command) → on_threads c ≡ true → all_commands c ≡ true
-threads_are_all commands.Help k = absurd (false_is_not_true k)
-threads_are_all commands.Version k = absurd (false_is_not_true k)
-threads_are_all (commands.Flat file call) k = absurd (false_is_not_true k)
-threads_are_all (commands.Plan file call target) k = absurd (false_is_not_true k)
-threads_are_all (commands.Parts file call target) k = absurd (false_is_not_true k)
-threads_are_all (commands.Roll file run rounds call target) k = absurd (false_is_not_true k)
-threads_are_all (commands.Replay file events) k = absurd (false_is_not_true k)
-threads_are_all (commands.Upgrade file) k = absurd (false_is_not_true k)
-threads_are_all (commands.Step script) k = absurd (false_is_not_true k)
-threads_are_all (commands.Live script workers) k = refl
-threads_are_all (commands.Check script report) k = absurd (false_is_not_true k)
-threads_are_all (commands.Big lanes) k = absurd (false_is_not_true k)
+threads_are_all commands.Help k = absurd (false≢true k)
+threads_are_all commands.Version k = absurd (false≢true k)
+threads_are_all (commands.Flat file call) k = absurd (false≢true k)
+threads_are_all (commands.Plan file call target) k = absurd (false≢true k)
+threads_are_all (commands.Parts file call target) k = absurd (false≢true k)
+threads_are_all (commands.Roll file run rounds call target) k = absurd (false≢true k)
+threads_are_all (commands.Replay file events) k = absurd (false≢true k)
+threads_are_all (commands.Upgrade file) k = absurd (false≢true k)
+threads_are_all (commands.Step script) k = absurd (false≢true k)
+threads_are_all (commands.Live script workers observers) k = refl
+threads_are_all (commands.Check script report) k = absurd (false≢true k)
+threads_are_all (commands.Big lanes) k = absurd (false≢true k)
 
 -- words that ask for a run on threads have a form
 pub none_where_live :
-    (words : List (List ℕ)) (script : List ℕ) (workers : ℕ) → Asks words (commands.Live script workers)
+    (words : List (List ℕ)) (script : List ℕ) (workers observers : ℕ) → Asks words (commands.Live script workers observers)
     → HasNoForm on_threads words → HasNoForm all_commands words
-none_where_live words script workers asks none = absurd (none (commands.Live script workers) (refl, asks))
+none_where_live words script workers observers asks none = absurd (none (commands.Live script workers observers) (refl, asks))

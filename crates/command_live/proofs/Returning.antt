@@ -6,7 +6,7 @@ use Rattle.command_answers.specs.Answers.{no_memory_line, run_status}
 use Rattle.command_answers.specs.Statuses.{is_of_run}
 use Rattle.command_answers.specs.declared.status.Status.{Status}
 use Rattle.command_answers.specs.declared.status.Status.TheVariants as status
-use Rattle.command_words.specs.CommandLine.{Asks, SaysWorkers}
+use Rattle.command_words.specs.CommandLine.{Asks, SaysObservers, SaysThreads}
 use Rattle.command_words.specs.declared.words.Command.TheVariants as commands
 use Rattle.command_files.specs.Refusals.{EndsNoRun}
 use Rattle.command_files.specs.declared.answer.Answer.{Answer}
@@ -15,14 +15,12 @@ use Rattle.command_files.specs.declared.answer.Stop.TheVariants as stops
 use Rattle.command_law.specs.Outcomes.{IsRunStatus}
 use Rattle.command_program.specs.Coming.{result_status, result_text}
 use Rattle.command_law.specs.Runs.{Run, Written, whole, stopped}
-
-pub false_is_not_true : false ≡ true → ⊥
-false_is_not_true is = cc
+use Rattle.std.proofs.lemmas.Bool.{false≢true}
 
 -- no run ended where a text was written with another status
 pub ends_no_run : (own : Status) (text : List ℕ) (seen : Run) → is_of_run own ≡ false → Written own text seen → IsRunStatus seen.status → ⊥
-ends_no_run own text seen none (whole took same ends) is = false_is_not_true (sym none ∙ ap is_of_run (sym ends) ∙ is)
-ends_no_run own text seen none (stopped n short took rose ends) is = false_is_not_true (ap is_of_run (sym ends) ∙ is)
+ends_no_run own text seen none (whole took same ends) is = false≢true (sym none ∙ ap is_of_run (sym ends) ∙ is)
+ends_no_run own text seen none (stopped n short took rose ends) is = false≢true (ap is_of_run (sym ends) ∙ is)
 
 -- nor where a call stopped that no run was of
 pub stop_no_run :
@@ -35,11 +33,20 @@ pub of_back : {S : Type 0} (P : S → Type 0) (seat : S) (back : Option S) → I
 of_back P seat (Some s) is holds = subst P (sym is) (holds refl)
 of_back P seat None is holds = tt
 
--- at most eight workers are asked for
-few_said : (options : List (List ℕ)) (workers : ℕ) → SaysWorkers options workers → workers ≤ 8
-few_said [] workers said = subst (λ n. n ≤ 8) (sym said) (omega arith)
-few_said (option ∷ words) workers said = subst (λ n. n ≤ 8) (sym said.4) said.3.2
+-- at most eight workers are asked for, and four observers
+few_seen : (options : List (List ℕ)) (observers : ℕ) → SaysObservers options observers → observers ≤ 4
+few_seen [] observers said = subst (λ n. n ≤ 4) (sym said) (omega arith)
+few_seen (option ∷ words) observers said = subst (λ n. n ≤ 4) (sym said.4) said.3.2
 
-pub few_workers : (words : List (List ℕ)) (script : List ℕ) (workers : ℕ) → Asks words (commands.Live script workers) → workers ≤ 8
-few_workers [] script workers asks = absurd asks
-few_workers (word ∷ body) script workers asks = few_said asks.1.0 workers asks.1.3
+few_said : (options : List (List ℕ)) (workers observers : ℕ) → SaysThreads options workers observers → (workers ≤ 8) × (observers ≤ 4)
+few_said [] workers observers said = (subst (λ n. n ≤ 8) (sym said.0) (omega arith), subst (λ n. n ≤ 4) (sym said.1) (omega arith))
+few_said (option ∷ []) workers observers said = absurd said.1
+few_said (option ∷ count ∷ words) workers observers said = (subst (λ n. n ≤ 8) (sym said.1.1) said.1.0.2, few_seen words observers said.1.2)
+
+pub few_workers : (words : List (List ℕ)) (script : List ℕ) (workers observers : ℕ) → Asks words (commands.Live script workers observers) → workers ≤ 8
+few_workers [] script workers observers asks = absurd asks
+few_workers (word ∷ body) script workers observers asks = (few_said asks.1.0 workers observers asks.1.3).0
+
+pub few_observers : (words : List (List ℕ)) (script : List ℕ) (workers observers : ℕ) → Asks words (commands.Live script workers observers) → observers ≤ 4
+few_observers [] script workers observers asks = absurd asks
+few_observers (word ∷ body) script workers observers asks = (few_said asks.1.0 workers observers asks.1.3).1

@@ -4,7 +4,7 @@ use Rattle.std.specs.Prelude.{◌≡◌, ℕ, List}
 use Rattle.atomic_table.specs.Seated.{TableId}
 use Rattle.change_law.specs.Statements.{Statement}
 use Rattle.report_types.specs.declared.report.Report.{Report}
-use Rattle.report_writing.specs.Reports.{report_text}
+use Rattle.watch_lines.specs.Observers.{Watched}
 use Rattle.txn_gate.specs.Seats.{collected_in, record_of, table_of_change}
 use Rattle.txn_gate.specs.declared.change_seat.ChangeSeat.{ChangeSeat}
 use Rattle.live_laws.specs.Ended.{AgreesWith}
@@ -18,11 +18,12 @@ use Rattle.command_law.specs.Runs.{Run}
 abbrev pub AgreesWithSeat : ChangeSeat → List Statement → Report → Type 0
 AgreesWithSeat seat statements report = AgreesWith statements report (record_of seat) (collected_in seat)
 
--- The words ask for a run on threads, and there is one report of it: its text was written, the run ended as it says, and
--- the seat, which is of these gates, agrees with it.
+-- The words ask for a run on threads, and there is one report of it: its text was written, and behind it what observers
+-- saw; the run ended as it says; and the seat, which is of these gates, agrees with it.
 pub record ComesBack (gates : TableId) (r : Run) (seat : ChangeSeat) : Type 0 where
   pub name : List ℕ
   pub workers : ℕ
-  pub asks : Asks r.words (commands.Live name workers)
+  pub observers : ℕ
+  pub asks : Asks r.words (commands.Live name workers observers)
   pub here : table_of_change seat ≡ gates
-  pub reported : Reported (AgreesWithSeat seat) report_text r.files name r.status r.taken r.taken'
+  pub reported : Reported (AgreesWithSeat seat) (λ report bytes. Watched report observers bytes) r.files name r.status r.taken r.taken'

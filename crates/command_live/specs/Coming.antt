@@ -6,16 +6,16 @@ use Rattle.command_files.specs.declared.answer.Answer.{Answer}
 use Rattle.command_files.specs.declared.answer.Stop.{Stop}
 use Rattle.command_law.specs.Commands.{course_of_script}
 use Rattle.command_law.specs.Lines.{behind, reporting, running}
-use Rattle.command_law.specs.Schedules.{threads}
+use Rattle.command_law.specs.Schedules.{IsShownBy, threads}
 use Rattle.command_program.specs.Coming.{ComesBy}
 use Rattle.command_live.specs.Agreeing.{AgreesWithSeat}
 
--- the answer is the report of the script of a name, and the seat that comes with it agrees with it
-abbrev pub ComesWithSeat : Option Files → List ℕ → List (List ℕ) → List (List ℕ) → Answer → ChangeSeat → Type 0
-ComesWithSeat files name failures failures' answer seat =
-    ComesBy files (course_of_script (reporting (AgreesWithSeat seat)) name) failures failures' (Ok answer)
+-- the answer is the report of the script of a name, beside so many observers, and the seat that comes with it agrees with it
+abbrev pub ComesWithSeat : Option Files → List ℕ → ℕ → List (List ℕ) → List (List ℕ) → Answer → ChangeSeat → Type 0
+ComesWithSeat files name observers failures failures' answer seat =
+    ComesBy files (course_of_script (reporting (AgreesWithSeat seat) (IsShownBy (threads observers))) name) failures failures' (Ok answer)
 
 -- there is no report
-abbrev pub ComesWithout : Option Files → List ℕ → List (List ℕ) → List (List ℕ) → Stop → Type 0
-ComesWithout files name failures failures' stop =
-    ComesBy files (course_of_script (behind (running threads)) name) failures failures' (Err stop)
+abbrev pub ComesWithout : Option Files → List ℕ → ℕ → List (List ℕ) → List (List ℕ) → Stop → Type 0
+ComesWithout files name observers failures failures' stop =
+    ComesBy files (course_of_script (behind (running (threads observers))) name) failures failures' (Err stop)

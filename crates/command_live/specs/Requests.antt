@@ -4,12 +4,13 @@ use Rattle.command_words.specs.CommandLine.{Asks}
 use Rattle.command_words.specs.declared.words.Command.{Command}
 use Rattle.command_words.specs.declared.words.Command.TheVariants as commands
 use Rattle.command_law.specs.Known.{on_threads}
+use Rattle.command_live.specs.declared.request.Request.{Request}
 
--- the words ask for a run on threads, of some script, with so many workers
-abbrev pub AskForThreads : List (List ℕ) → ℕ → Type 0
-AskForThreads words workers = (script : List ℕ) × Asks words (commands.Live script workers)
+-- the words ask for this, of some script
+abbrev pub AskForThreads : List (List ℕ) → Request → Type 0
+AskForThreads words request = (script : List ℕ) × Asks words (commands.Live script request.workers request.observers)
 
--- so many workers are those of the command, or it is no run on threads
-abbrev pub AreWorkersOf : Option ℕ → Command → Type 0
-AreWorkersOf (Some workers) command = (script : List ℕ) × (command ≡ commands.Live script workers)
-AreWorkersOf None command = on_threads command ≡ false
+-- the command asks for this, or it is no run on threads
+abbrev pub IsRequestOf : Option Request → Command → Type 0
+IsRequestOf (Some request) command = (script : List ℕ) × (command ≡ commands.Live script request.workers request.observers)
+IsRequestOf None command = on_threads command ≡ false

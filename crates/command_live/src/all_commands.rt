@@ -16,6 +16,7 @@ ghost use Rattle.command_words.specs.declared.words.TopCall.{TopCall};
 ghost use Rattle.report_writing.specs.Reports.{report_text};
 ghost use Rattle.txn_gate.specs.Seats.{IsChangeSeatOf, change_in, collected_in};
 ghost use Rattle.txn_law.specs.Views.{nothing_done};
+ghost use Rattle.watch_lines.specs.Observers.{Watched};
 
 use crate::on_threads::run_request;
 use crate::request::read_request;
@@ -30,8 +31,8 @@ use std::sync::Wait;
 use std::thread::Threads;
 use txn_gate::{ChangeSeat, Gates};
 
-/// Does what the words ask for, with files from the shelf, and writes to the sink: a script is run on threads by `live`,
-/// on these gates, and all else is done by `still`. What each status says are the laws of command_law, of each run; here
+/// Does what the words ask for, with files from the shelf, and writes to the sink. A script is run on threads by `live`,
+/// on these gates, and all else is done by `still`. What each status says are laws of command_law, of each run; here
 /// stand those that say what is written.
 pub fn top<H: Shelf, K: Sink, R, T>(
     rt: R,
@@ -55,15 +56,21 @@ where
     ensures kept { H.files shelf.new ≡ H.files shelf.old }
     // The seat comes back exactly where a script was run on threads, and agrees with the report that was written.
     ensures back { IsTrue (is_some result.1)
-        ↔ ((name : List ℕ) × (workers : ℕ) × Asks (map string_bytes words.now) (commands.Live name workers)
-        × IsRunStatus result.0) }
+        ↔ ((name : List ℕ) × (workers observers : ℕ)
+        × Asks (map string_bytes words.now) (commands.Live name workers observers) × IsRunStatus result.0) }
     ensures agrees { IfSome result.1 (ComesBack gates.now.words.shared.table_id
         (run_of H.Shelf K.Sink (map string_bytes words.now) shelf.old shelf.new out.old out.new result.0)) }
     // Of `live` the text of a report that is lawful on threads, for the statements of the script over the graphs of its
     // descriptions, and the status that the report tells.
     ensures ran_on_threads { (name : List ℕ) (workers : ℕ)
-        → Asks (map string_bytes words.now) (commands.Live name workers) → IsRunStatus result.0
-        → RanShowing threads report_text (H.files shelf.old) name result.0 (K.taken out.old) (K.taken out.new) }
+        → Asks (map string_bytes words.now) (commands.Live name workers 0) → IsRunStatus result.0
+        → RanShowing (threads 0) (λ report bytes. bytes ≡ report_text report) (H.files shelf.old) name result.0
+        (K.taken out.old) (K.taken out.new) }
+    // With `--watch` what observers saw stands behind it.
+    ensures watched { (name : List ℕ) (workers observers : ℕ)
+        → Asks (map string_bytes words.now) (commands.Live name workers observers) → IsRunStatus result.0
+        → RanShowing (threads observers) (λ report bytes. Watched report observers bytes) (H.files shelf.old) name
+        result.0 (K.taken out.old) (K.taken out.new) }
     // The rest is as `still` says it.
     ensures flattened { (file : List ℕ) (call : TopCall) → Asks (map string_bytes words.now) (commands.Flat file call)
         → result.0 ≡ Status.Ok → Flattened (H.files shelf.old) file call (K.taken out.old) (K.taken out.new) }
@@ -103,8 +110,8 @@ where
         → H.files shelf.old ≡ Some files → H.failed shelf.new ≡ H.failed shelf.old
         → NothingRefusesLines files (files name)
         → EndsAsRun result.0 }
-    ensures complete_on_threads { (name : List ℕ) (workers : ℕ) (files : Files)
-        → Asks (map string_bytes words.now) (commands.Live name workers)
+    ensures complete_on_threads { (name : List ℕ) (workers observers : ℕ) (files : Files)
+        → Asks (map string_bytes words.now) (commands.Live name workers observers)
         → H.files shelf.old ≡ Some files → H.failed shelf.new ≡ H.failed shelf.old
         → NothingRefusesLines files (files name)
         → EndsAsRun result.0 }
@@ -142,15 +149,15 @@ where
         shelf.old shelf.new out.old out.new result.0) }
     ensures kept { H.files shelf.new ≡ H.files shelf.old }
     ensures back { IsTrue (is_some result.1)
-        ↔ ((name : List ℕ) × (workers : ℕ) × Asks (map string_bytes words.now) (commands.Live name workers)
-        × IsRunStatus result.0) }
+        ↔ ((name : List ℕ) × (workers observers : ℕ)
+        × Asks (map string_bytes words.now) (commands.Live name workers observers) × IsRunStatus result.0) }
     ensures agrees { IfSome result.1 (ComesBack gates.now.words.shared.table_id
         (run_of H.Shelf K.Sink (map string_bytes words.now) shelf.old shelf.new out.old out.new result.0)) }
     ensures untouched { AskForNoFile all_commands (map string_bytes words.now) → shelf.new ≡ shelf.old }
 {
     match read_request(alloc, words) {
-        Ok(Some(workers)) => {
-            run_request(rt, alloc, words, workers, shelf, out, stile, gates, seat)
+        Ok(Some(request)) => {
+            run_request(rt, alloc, words, request, shelf, out, stile, gates, seat)
         }
         Ok(None) => (still(alloc, words, shelf, out), None),
         Err(_) => (write_no_memory(out), None),

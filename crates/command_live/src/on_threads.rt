@@ -11,7 +11,7 @@ ghost use Rattle.command_program.specs.Naming.{AskForNoFile};
 ghost use Rattle.txn_gate.specs.Seats.{IsChangeSeatOf, change_in, collected_in};
 ghost use Rattle.txn_law.specs.Views.{nothing_done};
 
-use crate::request::{read_request, script_named};
+use crate::request::{Request, read_request, script_named};
 use crate::running::answer_script;
 use cfg_io::{Shelf, Sink};
 use command_answers::Status;
@@ -23,9 +23,10 @@ use std::thread::Threads;
 use txn_gate::{ChangeSeat, Gates};
 
 /// Runs the script that the words name on these gates, on which nothing was made: so many workers give the nodes their
-/// turns, before each of which the turnstile is called, while this thread changes the system. Writes the report, or one
-/// line that refuses. The seat comes back exactly where a report was written, and agrees with it. It may wait, and where
-/// some node is never done it may never return. What each status says are the laws of command_law, of each run.
+/// turns, before each of which the turnstile is called, while this thread changes the system, and observers read the
+/// committed graph. Writes the report and what the observers saw, or one line that refuses. The seat comes back exactly
+/// where a report was written, and agrees with it. It may wait, and where some node is never done it may never return.
+/// What each status says are the laws of command_law, of each run.
 pub fn live<H: Shelf, K: Sink, R, T>(
     rt: R,
     alloc: Global,
@@ -48,27 +49,28 @@ where
     ensures kept { H.files shelf.new ≡ H.files shelf.old }
     // The seat comes back exactly where the run ended as its report says.
     ensures back { IsTrue (is_some result.1) ↔ IsRunStatus result.0 }
-    // One report was written, is lawful on threads, is borne by the record of that seat, and has the logs that it took in.
+    // One report was written, and behind it what observers saw. It is lawful on threads, is borne by the record of that
+    // seat, and has the logs that this took in.
     ensures agrees { IfSome result.1 (ComesBack gates.now.words.shared.table_id
         (run_of H.Shelf K.Sink (map string_bytes words.now) shelf.old shelf.new out.old out.new result.0)) }
     // Words of no form fetch nothing.
     ensures untouched { AskForNoFile on_threads (map string_bytes words.now) → shelf.new ≡ shelf.old }
 {
     match read_request(alloc, words) {
-        Ok(Some(workers)) => {
-            run_request(rt, alloc, words, workers, shelf, out, stile, gates, seat)
+        Ok(Some(request)) => {
+            run_request(rt, alloc, words, request, shelf, out, stile, gates, seat)
         }
         Ok(None) => (write_usage(out), None),
         Err(_) => (write_no_memory(out), None),
     }
 }
 
-/// The same for words that ask for a run on threads, with so many workers.
+/// The same for words that ask for a run on threads, with so many of them.
 pub fn run_request<H: Shelf, K: Sink, R, T>(
     rt: R,
     alloc: Global,
     words: &[String],
-    workers: u32,
+    request: Request,
     shelf: &mut H,
     out: &mut K,
     stile: &T,
@@ -78,7 +80,7 @@ pub fn run_request<H: Shelf, K: Sink, R, T>(
 where
     R: Threads + Wait + Copy + Send + Sync,
     T: Turnstile + Sync,
-    requires asked { AskForThreads (map string_bytes words.now) workers }
+    requires asked { AskForThreads (map string_bytes words.now) request }
     requires here { IsChangeSeatOf seat gates.now }
     requires fresh { (change_in seat ≡ nothing_done) × (collected_in seat ≡ []) × (seat.spare ≡ 0) }
     ensures runs { Runs on_threads (run_of H.Shelf K.Sink (map string_bytes words.now)
@@ -89,7 +91,7 @@ where
         (run_of H.Shelf K.Sink (map string_bytes words.now) shelf.old shelf.new out.old out.new result.0)) }
 {
     let name = script_named(words);
-    match answer_script(rt, alloc, shelf, name, stile, workers, gates, seat) {
+    match answer_script(rt, alloc, shelf, name, stile, request, gates, seat) {
         Ok((answer, seat)) => {
             let status = write_text(out, answer.status, answer.text.as_slice());
             (status, seat_back(status, seat))

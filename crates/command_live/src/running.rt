@@ -1,35 +1,42 @@
 //! The run of a script on threads, and its answer.
 
-ghost use Rattle.std.specs.Prelude.{◌≡◌, ◌+◌, ◌<◌, ◌^◌, [], IfErr, IfOk, MatchResult};
-ghost use Rattle.command_answers.specs.Answers.{ShowsAnswer};
+ghost use Rattle.std.specs.Prelude.{◌≡◌, ◌+◌, ◌<◌, ◌≤◌, ◌^◌, ◌++◌, [], IfErr, IfOk, MatchResult};
+ghost use Rattle.command_answers.specs.Answers.{ShowsAnswer, run_status};
 ghost use Rattle.command_files.specs.Preparing.{CanRun, statements_in};
 ghost use Rattle.command_files.specs.Refusals.{EndsNoRun};
 ghost use Rattle.command_law.specs.Lines.{IsRunAnswer};
 ghost use Rattle.command_law.specs.Outcomes.{IsRunStatus};
+ghost use Rattle.command_law.specs.Schedules.{IsShownBy, threads};
 ghost use Rattle.command_live.specs.Agreeing.{AgreesWithSeat};
 ghost use Rattle.command_live.specs.Coming.{ComesWithSeat, ComesWithout};
+ghost use Rattle.report_writing.specs.Reports.{LogsAreMade, report_text};
 ghost use Rattle.txn_gate.specs.Seats.{IsChangeSeatOf, change_in, collected_in};
 ghost use Rattle.txn_law.specs.Views.{nothing_done};
+ghost use Rattle.watch_lines.specs.WatchText.{watch_text};
 
+use crate::request::Request;
 use cfg_io::Shelf;
 use command_files::{Answer, Prepared, Stop, answer_run, prepare};
-use config_graph::NoMemory;
+use config_graph::{List, NoMemory};
 use live_board::Turnstile;
 use live_run::run_on_threads;
+use report_types::Report;
 use std::alloc::Global;
 use std::sync::Wait;
 use std::thread::Threads;
 use txn_gate::{ChangeSeat, Gates};
+use watch_lines::{Sighting, push_watch_text};
+use watch_threads::Observers;
 
-/// Fetches a script and what it uses, runs it on these gates, and answers the report. With it comes the seat, which agrees
-/// with it.
+/// Fetches a script and what it uses, runs it on these gates, and answers the report, and behind it what observers saw.
+/// With it comes the seat, which agrees with it.
 pub fn answer_script<H, R, T>(
     rt: R,
     alloc: Global,
     shelf: &mut H,
     name: &str,
     stile: &T,
-    workers: u32,
+    request: Request,
     gates: &Gates,
     seat: ChangeSeat,
 ) -> Result<(Answer, ChangeSeat), Stop>
@@ -37,27 +44,29 @@ where
     H: Shelf,
     R: Threads + Wait + Copy + Send + Sync,
     T: Turnstile + Sync,
-    requires workers { workers + 1 < 2 ^ 32 }
+    requires workers { request.workers + 1 < 2 ^ 32 }
+    requires observers { request.observers ≤ 4 }
     requires here { IsChangeSeatOf seat gates.now }
     requires fresh { (change_in seat ≡ nothing_done) × (collected_in seat ≡ []) × (seat.spare ≡ 0) }
     ensures answers { MatchResult result
-        (λ x. ComesWithSeat (H.files shelf.old) name.now (H.failed shelf.old) (H.failed shelf.new) x.0 x.1)
-        (ComesWithout (H.files shelf.old) name.now (H.failed shelf.old) (H.failed shelf.new)) }
+        (λ x. ComesWithSeat (H.files shelf.old) name.now request.observers (H.failed shelf.old) (H.failed shelf.new)
+        x.0 x.1)
+        (ComesWithout (H.files shelf.old) name.now request.observers (H.failed shelf.old) (H.failed shelf.new)) }
     ensures here { IfOk result (λ x. IsChangeSeatOf x.1 gates.now) }
     ensures run { IfOk result (λ x. IsRunStatus x.0.status) }
     ensures no_run { IfErr result EndsNoRun }
     ensures kept { H.files shelf.new ≡ H.files shelf.old }
 {
     let asked = prepare(alloc, shelf, name)?;
-    Ok(run_script(rt, alloc, stile, workers, gates, seat, asked)?)
+    Ok(run_script(rt, alloc, stile, request, gates, seat, asked)?)
 }
 
-/// Runs what a script asks for, and answers the report.
+/// Runs what a script asks for, and answers the report, and behind it what observers saw.
 fn run_script<R, T>(
     rt: R,
     alloc: Global,
     stile: &T,
-    workers: u32,
+    request: Request,
     gates: &Gates,
     seat: ChangeSeat,
     asked: Prepared,
@@ -65,17 +74,46 @@ fn run_script<R, T>(
 where
     R: Threads + Wait + Copy + Send + Sync,
     T: Turnstile + Sync,
-    requires workers { workers + 1 < 2 ^ 32 }
+    requires workers { request.workers + 1 < 2 ^ 32 }
+    requires observers { request.observers ≤ 4 }
     requires here { IsChangeSeatOf seat gates.now }
     requires fresh { (change_in seat ≡ nothing_done) × (collected_in seat ≡ []) × (seat.spare ≡ 0) }
     requires asked { CanRun asked }
     ensures answer { IfOk result
-        (λ x. ShowsAnswer (IsRunAnswer (AgreesWithSeat x.1) (statements_in asked)) x.0.status x.0.text.items) }
+        (λ x. ShowsAnswer (IsRunAnswer (AgreesWithSeat x.1) (IsShownBy (threads request.observers))
+        (statements_in asked)) x.0.status x.0.text.items) }
     ensures here { IfOk result (λ x. IsChangeSeatOf x.1 gates.now) }
     ensures run { IfOk result (λ x. IsRunStatus x.0.status) }
 {
     let Prepared { start, steps } = asked;
-    let (report, seat) = run_on_threads(rt, alloc, gates, seat, stile, workers, start, steps)?;
-    let answer = answer_run(alloc, &report)?;
+    let observers = Observers::new(request.observers);
+    let (report, seen, seat) = run_on_threads(
+        rt,
+        alloc,
+        gates,
+        seat,
+        stile,
+        request.workers,
+        &observers,
+        start,
+        steps,
+    )?;
+    let answer = answer_watched(alloc, &report, seen.as_slice())?;
     Ok((answer, seat))
+}
+
+/// The text of a report that was made now, and behind it the lines of observers; and how the run ends by the report.
+fn answer_watched(
+    alloc: Global,
+    report: &Report,
+    seen: &[List<Sighting>],
+) -> Result<Answer, NoMemory>
+    requires { LogsAreMade report.now }
+    ensures status { IfOk result (λ answer. answer.status ≡ run_status report.now.status) }
+    ensures text { IfOk result (λ answer. answer.text.items ≡ report_text report.now ++ watch_text seen.now) }
+    ensures run { IfOk result (λ answer. IsRunStatus answer.status) }
+{
+    let mut answer = answer_run(alloc, report)?;
+    push_watch_text(&mut answer.text, seen)?;
+    Ok(answer)
 }

@@ -26,6 +26,7 @@ use Rattle.command_files.specs.declared.answer.Answer.{Answer}
 use Rattle.command_files.specs.declared.answer.Stop.{Stop}
 use Rattle.command_files.specs.declared.answer.Stop.TheVariants as stops
 use Rattle.command_program.specs.Coming.{result_status, result_text, EndsBy, ComesBy}
+use Rattle.std.proofs.lemmas.Bool.{false≢true}
 
 -- a run by no fetch
 pub runs_alone :
@@ -45,10 +46,7 @@ runs_alone knows seen answer none is written = record {
 pub not_known :
     (knows : Command → Bool) (words : List (List ℕ)) (command : Command) → knows command ≡ false → Asks words command → HasNoForm knows words
 not_known knows words command unknown asks other known =
-    clash (sym unknown ∙ subst (λ c. knows c ≡ true) (one_command words other command known.1 asks) known.0)
-  where
-    clash : false ≡ true → ⊥
-    clash is = cc
+    false≢true (sym unknown ∙ subst (λ c. knows c ≡ true) (one_command words other command known.1 asks) known.0)
 
 -- one fetch is all that was noted
 one_noted : (names failures failures' : List (List ℕ)) → failures' ≡ failures ++ names → failures' ≡ failures ++ (names ++ [])

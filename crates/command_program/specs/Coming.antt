@@ -3,15 +3,15 @@ use Rattle.std.specs.Prelude.{◌≡◌, ℕ, List, ◌++◌, Option, Result, Ok
 use Rattle.std.specs.List.{AllByRecursion}
 use Rattle.cfg_io.specs.Shelf.{Files}
 use Rattle.change_law.specs.Statements.{Statement}
-use Rattle.report_types.specs.declared.report.Report.{Report}
 use Rattle.command_answers.specs.Answers as values
-use Rattle.command_answers.specs.Answers.{ShowsAnswer, no_memory, no_memory_line, refusal, summary}
+use Rattle.command_answers.specs.Answers.{ShowsAnswer, no_memory, no_memory_line, refusal}
 use Rattle.command_answers.specs.declared.status.Status.{Status}
 use Rattle.command_answers.specs.declared.status.Status.TheVariants as status
+use Rattle.command_law.specs.Commands.{IsSummary}
 use Rattle.command_law.specs.Courses.{FetchCourse}
 use Rattle.command_law.specs.Fetches.{Fetch, failed_names, Gave}
 use Rattle.command_law.specs.Lines.{IsRunAnswer}
-use Rattle.command_law.specs.RunReports.{IsReportOf}
+use Rattle.command_law.specs.Schedules.{IsReportBy, IsShownBy, rounds}
 use Rattle.command_files.specs.declared.answer.Answer.{Answer}
 use Rattle.command_files.specs.declared.answer.Stop.{Stop}
 use Rattle.command_files.specs.declared.answer.Stop.TheVariants as stops
@@ -49,8 +49,8 @@ pub record ComesBy (files : Option Files) (course : FetchCourse) (failures failu
 
 -- the answer by which a run of these statements ends
 abbrev pub EndsInReport : List Statement → values.Answer → Type 0
-EndsInReport statements answer = IsRunAnswer IsReportOf statements answer
+EndsInReport statements answer = IsRunAnswer (IsReportBy rounds) (IsShownBy rounds) statements answer
 
--- and that of a run of so many lanes
+-- and that of a run of so many lanes, by the summary of its report
 abbrev pub EndsInSummary : ℕ → List Statement → values.Answer → Type 0
-EndsInSummary lanes statements answer = (r : Report) × IsReportOf statements r × (answer ≡ summary lanes r)
+EndsInSummary lanes statements answer = IsRunAnswer (IsReportBy rounds) (IsSummary lanes) statements answer

@@ -16,7 +16,7 @@ NamesNoFile (commands.Roll file run rounds call target) = ⊥
 NamesNoFile (commands.Replay file events) = ⊥
 NamesNoFile (commands.Upgrade file) = ⊥
 NamesNoFile (commands.Step script) = ⊥
-NamesNoFile (commands.Live script workers) = ⊥
+NamesNoFile (commands.Live script workers observers) = ⊥
 NamesNoFile (commands.Check script report) = ⊥
 NamesNoFile (commands.Big lanes) = ⊤
 

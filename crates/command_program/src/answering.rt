@@ -9,6 +9,7 @@ ghost use Rattle.command_words.specs.declared.words.Command.TheVariants as comma
 ghost use Rattle.command_law.specs.Commands.{SumsUp, course_of, course_of_query, judging};
 ghost use Rattle.command_law.specs.RunReports.{IsReportOf};
 ghost use Rattle.command_law.specs.Runs.{Runs, run_of};
+ghost use Rattle.command_law.specs.declared.query.Query.TheVariants as queries;
 ghost use Rattle.command_files.specs.Preparing.{CanRun, statements_in};
 ghost use Rattle.command_program.specs.Coming.{ComesBy, EndsBy, EndsInReport, EndsInSummary};
 ghost use Rattle.command_program.specs.Naming.{AskForNoFile, NamesNoFile};
@@ -23,7 +24,7 @@ use command_files::{
     fetch_file, judge, prepare, read_events, upgrade,
 };
 use command_law::{Cut, Query};
-use command_words::{Command, MadeFiles, SCRIPT_NAME, read_words};
+use command_words::{Command, MadeFiles, SCRIPT_NAME, TopCall, read_words};
 use config_graph::NoMemory;
 use node_table::NodeTable;
 use report_types::Report;
@@ -72,44 +73,25 @@ fn run_command<H: Shelf, K: Sink>(
         ),
         Command::Plan { file, call, target } => write_answer(
             out,
-            answer_description(
-                alloc,
-                shelf,
-                file.as_str(),
-                &Query::Change(Cut::Whole, call, target),
-            ),
+            answer_change(alloc, shelf, file.as_str(), Cut::Whole, call, target),
         ),
         Command::Parts { file, call, target } => write_answer(
             out,
-            answer_description(
-                alloc,
-                shelf,
-                file.as_str(),
-                &Query::Change(Cut::InParts, call, target),
-            ),
+            answer_change(alloc, shelf, file.as_str(), Cut::InParts, call, target),
         ),
         Command::Roll {
             file,
             run,
-            rounds,
+            within,
             call,
             target,
-        } => write_answer(
-            out,
-            answer_description(
-                alloc,
-                shelf,
-                file.as_str(),
-                &Query::Change(
-                    Cut::Rolled {
-                        run,
-                        within: rounds,
-                    },
-                    call,
-                    target,
-                ),
-            ),
-        ),
+        } => {
+            let cut = Cut::Rolled { run, within };
+            write_answer(
+                out,
+                answer_change(alloc, shelf, file.as_str(), cut, call, target),
+            )
+        }
         Command::Replay { file, events } => write_answer(
             out,
             answer_replay(alloc, shelf, file.as_str(), events.as_str()),
@@ -138,6 +120,22 @@ fn answer_description<H: Shelf>(
 {
     let fetched = fetch_file(shelf, file, FILE_LIMIT)?;
     Ok(describe(alloc, file, query, fetched)?)
+}
+
+/// Fetches a description, and answers the change from one component to another, made so.
+fn answer_change<H: Shelf>(
+    alloc: Global,
+    shelf: &mut H,
+    file: &str,
+    cut: Cut,
+    call: TopCall<'_>,
+    target: TopCall<'_>,
+) -> Result<Answer, Stop>
+    ensures answers { ComesBy (H.files shelf.old) (course_of_query file.now (queries.Change cut call.entry target.entry))
+        (H.failed shelf.old) (H.failed shelf.new) result }
+    ensures kept { H.files shelf.new ≡ H.files shelf.old }
+{
+    answer_description(alloc, shelf, file, &Query::Change(cut, call, target))
 }
 
 /// Fetches a file of events and then a description, and answers what the events come to.

@@ -6,7 +6,7 @@ use Rattle.std.specs.Option.{SomeIff}
 use Rattle.std.specs.Str.Parse.{digits_value}
 use Rattle.command_words.specs.declared.words.Command.{Command}
 use Rattle.command_words.specs.declared.words.TopCall.{TopCall}
-use Rattle.command_words.specs.CommandLine.{IsBody, IsCall, IsChange, IsNumber, IsWorkerCount, SaysWorkers, Asks}
+use Rattle.command_words.specs.CommandLine.{IsBody, IsCall, IsChange, IsNumber, IsObserverCount, SaysObservers, Asks}
 use Rattle.command_words.proofs.Asking.{head_is, tail_is, call_has_parts, one_parting, no_parting, IsPart, Parted}
 use Rattle.command_words.proofs.WordsLaws.{Form, flat, plan, parts, roll, form, form_of, form_is, flat_word, plan_word, parts_word, roll_word, Carried, command, of_form}
 
@@ -81,14 +81,14 @@ module _ (words call target : List (List ℕ)) (parts : Parted words call target
   pub no_target : ((asked : TopCall) → IsCall target asked → ⊥) → (first second : TopCall) → IsChange words first second → ⊥
   no_target none first second is = none second (subst (λ ws. IsCall ws second) (same_parts first second is).1 is.4)
 
--- two words that say a number of workers
-pub says_workers :
+-- two words that say a number of observers
+pub says_observers :
     {A : Type 0} (f : A → List ℕ) (words : List A) (option count default other : A) → 2 ≤ length words → length words < 3
-    → option ≡ get_or words 0 default → count ≡ get_or words 1 other → f option ≡ codes "--workers" → (said : Option ℕ)
-    → SomeIff said (IsWorkerCount (f count)) (digits_value 10 (f count)) → IfSome said (SaysWorkers (map f words))
-says_workers f [] option count default other low high first second names said by = absurd (omega (arith, low))
-says_workers f (x ∷ []) option count default other low high first second names said by = absurd (omega (arith, low))
-says_workers f (x ∷ y ∷ z ∷ words) option count default other low high first second names said by = absurd (omega (arith, high))
-says_workers f (x ∷ y ∷ []) option count default other low high first second names None by = tt
-says_workers f (x ∷ y ∷ []) option count default other low high first second names (Some workers) by =
-    (ap f (sym first) ∙ names, f y, refl, subst (λ c. IsWorkerCount (f c)) second by.0, by.1 ∙ ap (λ c. digits_value 10 (f c)) second)
+    → option ≡ get_or words 0 default → count ≡ get_or words 1 other → f option ≡ codes "--watch" → (said : Option ℕ)
+    → SomeIff said (IsObserverCount (f count)) (digits_value 10 (f count)) → IfSome said (SaysObservers (map f words))
+says_observers f [] option count default other low high first second names said by = absurd (omega (arith, low))
+says_observers f (x ∷ []) option count default other low high first second names said by = absurd (omega (arith, low))
+says_observers f (x ∷ y ∷ z ∷ words) option count default other low high first second names said by = absurd (omega (arith, high))
+says_observers f (x ∷ y ∷ []) option count default other low high first second names None by = tt
+says_observers f (x ∷ y ∷ []) option count default other low high first second names (Some observers) by =
+    (ap f (sym first) ∙ names, f y, refl, subst (λ c. IsObserverCount (f c)) second by.0, by.1 ∙ ap (λ c. digits_value 10 (f c)) second)

@@ -6,7 +6,7 @@ use Rattle.std.specs.Str.Parse.{digits_value}
 use Rattle.command_words.specs.declared.words.Command.{Command}
 use Rattle.command_words.specs.declared.words.Command.TheVariants as commands
 use Rattle.command_words.specs.declared.words.TopCall.{TopCall}
-use Rattle.command_words.specs.CommandLine.{keyword, IsBody, IsChange, SaysWorkers, Asks}
+use Rattle.command_words.specs.CommandLine.{keyword, IsBody, IsChange, SaysCounts, SaysObservers, SaysThreads, Asks}
 use Rattle.command_words.proofs.Asking.{head_is, tail_is, one_call, call_has_parts, one_parting}
 
 pub data Form : Type 0 where
@@ -33,7 +33,7 @@ form (commands.Roll file run rounds call target) = roll
 form (commands.Replay file events) = replay
 form (commands.Upgrade file) = upgrade
 form (commands.Step script) = step
-form (commands.Live script workers) = live
+form (commands.Live script workers observers) = live
 form (commands.Check script report) = check
 form (commands.Big lanes) = big
 
@@ -47,7 +47,7 @@ Carried roll = List ℕ × ℕ × ℕ × TopCall × TopCall
 Carried replay = List ℕ × List ℕ
 Carried upgrade = List ℕ
 Carried step = List ℕ
-Carried live = List ℕ × ℕ
+Carried live = List ℕ × ℕ × ℕ
 Carried check = List ℕ × List ℕ
 Carried big = ℕ
 
@@ -61,7 +61,7 @@ command roll p = commands.Roll p.0 p.1 p.2 p.3 p.4
 command replay p = commands.Replay p.0 p.1
 command upgrade p = commands.Upgrade p
 command step p = commands.Step p
-command live p = commands.Live p.0 p.1
+command live p = commands.Live p.0 p.1 p.2
 command check p = commands.Check p.0 p.1
 command big p = commands.Big p
 
@@ -75,7 +75,7 @@ carried (commands.Roll file run rounds call target) = (file, run, rounds, call, 
 carried (commands.Replay file events) = (file, events)
 carried (commands.Upgrade file) = file
 carried (commands.Step script) = script
-carried (commands.Live script workers) = (script, workers)
+carried (commands.Live script workers observers) = (script, workers, observers)
 carried (commands.Check script report) = (script, report)
 carried (commands.Big lanes) = lanes
 
@@ -89,7 +89,7 @@ is_command (commands.Roll file run rounds call target) = refl
 is_command (commands.Replay file events) = refl
 is_command (commands.Upgrade file) = refl
 is_command (commands.Step script) = refl
-is_command (commands.Live script workers) = refl
+is_command (commands.Live script workers observers) = refl
 is_command (commands.Check script report) = refl
 is_command (commands.Big lanes) = refl
 
@@ -120,7 +120,7 @@ form_is (commands.Roll file run rounds call target) = refl
 form_is (commands.Replay file events) = refl
 form_is (commands.Upgrade file) = refl
 form_is (commands.Step script) = refl
-form_is (commands.Live script workers) = refl
+form_is (commands.Live script workers observers) = refl
 form_is (commands.Check script report) = refl
 form_is (commands.Big lanes) = refl
 
@@ -154,14 +154,28 @@ one_change xs ys t v u w x y same =
     let split = one_parting x.0 y.0 x.1 y.1 (call_has_parts x.0 t x.3) (call_has_parts y.0 u y.3) (sym x.2 ∙ same ∙ y.2) in
     (one_call x.0 y.0 t u x.3 y.3 split.0, one_call x.1 y.1 v w x.4 y.4 split.1)
 
--- the options of a run tell its workers
-one_workers : (xs ys : List (List ℕ)) (w v : ℕ) → SaysWorkers xs w → SaysWorkers ys v → xs ≡ ys → w ≡ v
-one_workers [] [] w v x y same = x ∙ sym y
-one_workers [] (b ∷ ys) w v x y same = cc
-one_workers (a ∷ xs) [] w v x y same = cc
-one_workers (a ∷ xs) (b ∷ ys) w v x y same =
+-- the options of a run tell its workers and observers
+one_observers : (xs ys : List (List ℕ)) (n m : ℕ) → SaysObservers xs n → SaysObservers ys m → xs ≡ ys → n ≡ m
+one_observers [] [] n m x y same = x ∙ sym y
+one_observers [] (b ∷ ys) n m x y same = cc
+one_observers (a ∷ xs) [] n m x y same = cc
+one_observers (a ∷ xs) (b ∷ ys) n m x y same =
     let counts = head_is x.1 y.1 [] [] (sym x.2 ∙ tail_is a b xs ys same ∙ y.2) in
     x.4 ∙ ap (digits_value 10) counts ∙ sym y.4
+
+one_counts :
+    (xs ys : List (List ℕ)) (w n v m : ℕ) → SaysCounts xs w n → SaysCounts ys v m → xs ≡ ys → (w ≡ v) × (n ≡ m)
+one_counts [] ys w n v m x y same = absurd x
+one_counts (a ∷ xs) [] w n v m x y same = absurd y
+one_counts (a ∷ xs) (b ∷ ys) w n v m x y same =
+    (x.1 ∙ ap (digits_value 10) (head_is a b xs ys same) ∙ sym y.1, one_observers xs ys n m x.2 y.2 (tail_is a b xs ys same))
+
+one_threads :
+    (xs ys : List (List ℕ)) (w n v m : ℕ) → SaysThreads xs w n → SaysThreads ys v m → xs ≡ ys → (w ≡ v) × (n ≡ m)
+one_threads [] [] w n v m x y same = (x.0 ∙ sym y.0, x.1 ∙ sym y.1)
+one_threads [] (b ∷ ys) w n v m x y same = cc
+one_threads (a ∷ xs) [] w n v m x y same = cc
+one_threads (a ∷ xs) (b ∷ ys) w n v m x y same = one_counts xs ys w n v m x.1 y.1 (tail_is a b xs ys same)
 
 -- the words behind the first tell it
 one_body : (f : Form) (p q : Carried f) (body : List (List ℕ)) → IsBody (command f p) body → IsBody (command f q) body → command f p ≡ command f q
@@ -212,12 +226,13 @@ one_body step f g body x y = same (head_is f g [] [] (sym x.0 ∙ y.0))
   where
     same : f ≡ g → commands.Step f ≡ commands.Step g
     same script = rw script refl
-one_body live (f, w) (g, v) body x y =
+one_body live (f, w, n) (g, v, m) body x y =
     let is = sym x.1 ∙ y.1 in
-    same (head_is f g x.0 y.0 is) (one_workers x.0 y.0 w v x.3 y.3 (tail_is f g x.0 y.0 is))
+    let counts = one_threads x.0 y.0 w n v m x.3 y.3 (tail_is f g x.0 y.0 is) in
+    same (head_is f g x.0 y.0 is) counts.0 counts.1
   where
-    same : f ≡ g → w ≡ v → commands.Live f w ≡ commands.Live g v
-    same script workers = rw (script, workers) refl
+    same : f ≡ g → w ≡ v → n ≡ m → commands.Live f w n ≡ commands.Live g v m
+    same script workers observers = rw (script, workers, observers) refl
 one_body check (f, e) (g, h) body x y =
     let is = sym x.0 ∙ y.0 in
     same (head_is f g (e ∷ []) (h ∷ []) is) (head_is e h [] [] (tail_is f g (e ∷ []) (h ∷ []) is))

@@ -31,12 +31,27 @@ IsNumber word = IsNumeral 10 word × (digits_value 10 word < 2 ^ 32)
 abbrev pub IsWorkerCount : List ℕ → Type 0
 IsWorkerCount word = IsNumeral 10 word × (1 ≤ digits_value 10 word) × (digits_value 10 word ≤ 8)
 
--- the options of a run on threads: four workers where they say nothing
-abbrev pub SaysWorkers : List (List ℕ) → ℕ → Type 0
-SaysWorkers [] workers = workers ≡ 4
-SaysWorkers (option ∷ words) workers =
-    (option ≡ codes "--workers")
-    × (count : List ℕ) × (words ≡ count ∷ []) × IsWorkerCount count × (workers ≡ digits_value 10 count)
+-- one digit or more, and nothing else, with a value from 1 to 4
+abbrev pub IsObserverCount : List ℕ → Type 0
+IsObserverCount word = IsNumeral 10 word × (1 ≤ digits_value 10 word) × (digits_value 10 word ≤ 4)
+
+-- the option of observers: none where the words say nothing
+abbrev pub SaysObservers : List (List ℕ) → ℕ → Type 0
+SaysObservers [] observers = observers ≡ 0
+SaysObservers (option ∷ words) observers =
+    (option ≡ codes "--watch")
+    × (count : List ℕ) × (words ≡ count ∷ []) × IsObserverCount count × (observers ≡ digits_value 10 count)
+
+-- a number of workers, and what is said of observers
+abbrev pub SaysCounts : List (List ℕ) → ℕ → ℕ → Type 0
+SaysCounts [] workers observers = ⊥
+SaysCounts (count ∷ words) workers observers =
+    IsWorkerCount count × (workers ≡ digits_value 10 count) × SaysObservers words observers
+
+-- the options of a run on threads: four workers and no observers where they say nothing
+abbrev pub SaysThreads : List (List ℕ) → ℕ → ℕ → Type 0
+SaysThreads [] workers observers = (workers ≡ 4) × (observers ≡ 0)
+SaysThreads (option ∷ words) workers observers = (option ≡ codes "--workers") × SaysCounts words workers observers
 
 -- the words of a component and its arguments
 abbrev pub IsCall : List (List ℕ) → TopCall → Type 0
@@ -60,7 +75,7 @@ keyword (commands.Roll file run rounds call target) = codes "roll"
 keyword (commands.Replay file events) = codes "replay"
 keyword (commands.Upgrade file) = codes "upgrade"
 keyword (commands.Step script) = codes "step"
-keyword (commands.Live script workers) = codes "live"
+keyword (commands.Live script workers observers) = codes "live"
 keyword (commands.Check script report) = codes "check"
 keyword (commands.Big lanes) = codes "big"
 
@@ -81,8 +96,8 @@ IsBody (commands.Roll file run rounds call target) body =
 IsBody (commands.Replay file events) body = (body ≡ file ∷ events ∷ []) × (file ≢ []) × (events ≢ [])
 IsBody (commands.Upgrade file) body = (body ≡ file ∷ []) × (file ≢ [])
 IsBody (commands.Step script) body = (body ≡ script ∷ []) × (script ≢ [])
-IsBody (commands.Live script workers) body =
-    (options : List (List ℕ)) × (body ≡ script ∷ options) × (script ≢ []) × SaysWorkers options workers
+IsBody (commands.Live script workers observers) body =
+    (options : List (List ℕ)) × (body ≡ script ∷ options) × (script ≢ []) × SaysThreads options workers observers
 IsBody (commands.Check script report) body = (body ≡ script ∷ report ∷ []) × (script ≢ []) × (report ≢ [])
 IsBody (commands.Big lanes) body = (count : List ℕ) × (body ≡ count ∷ []) × IsLaneCount count × (lanes ≡ digits_value 10 count)
 

@@ -11,4 +11,4 @@ pub use big_laws::limit_of_lanes;
 pub use big_shelf::MadeFiles;
 pub use big_texts::{MAX_LANES, SCRIPT_NAME};
 pub use laws::words_ask_for_one_command;
-pub use words::{Command, MAX_WORKERS, TopCall, USUAL_WORKERS, Word, read_words};
+pub use words::{Command, MAX_OBSERVERS, MAX_WORKERS, TopCall, USUAL_WORKERS, Word, read_words};

@@ -4,7 +4,7 @@ ghost use Rattle.std.specs.Prelude.{◌≡◌, ◌≢◌, ◌∷◌, [], ◌<◌
 ghost use Rattle.std.specs.List.{AllByRecursion, prefix_len};
 ghost use Rattle.std.specs.Option.{SomeIff};
 ghost use Rattle.std.specs.Str.Parse.{digits_value};
-ghost use Rattle.command_words.specs.CommandLine.{IsInteger, IsLaneCount, IsNumber, IsWorkerCount, SaysWorkers, integer_of, IsCall, IsChange, Asks, HasNoForm, is_part};
+ghost use Rattle.command_words.specs.CommandLine.{IsInteger, IsLaneCount, IsNumber, IsObserverCount, IsWorkerCount, SaysCounts, SaysObservers, SaysThreads, integer_of, IsCall, IsChange, Asks, HasNoForm, is_part};
 ghost use Rattle.command_words.specs.declared.words.TopCall.{TopCall};
 
 use crate::MAX_LANES;
@@ -18,6 +18,9 @@ pub const MAX_WORKERS: u32 = 8;
 
 /// The worker threads of a run whose words say nothing of them.
 pub const USUAL_WORKERS: u32 = 4;
+
+/// The most observers that words may ask for.
+pub const MAX_OBSERVERS: u32 = 4;
 
 /// A word of the command line, which contracts see as its bytes.
 #[derive(Debug, Drop)]
@@ -61,6 +64,13 @@ struct Change<'a> {
     target: TopCall<'a>,
 }
 
+/// How many threads of each sort a run has.
+#[derive(Clone, Copy, Debug, PartialEq, Eq)]
+struct ThreadCounts {
+    workers: u32,
+    observers: u32,
+}
+
 /// What words may ask for.
 #[derive(Debug, Drop)]
 pub enum Command<'a> {
@@ -88,8 +98,8 @@ pub enum Command<'a> {
         file: Word<'a>,
         /// The transactions that are run before the first part.
         run: u32,
-        /// The rounds that each part has to come to rest.
-        rounds: u32,
+        /// For how many rounds each part may wait to come to rest.
+        within: u32,
         call: TopCall<'a>,
         target: TopCall<'a>,
     },
@@ -106,10 +116,11 @@ pub enum Command<'a> {
     Step {
         script: Word<'a>,
     },
-    /// The same on worker threads, from 1 to [`MAX_WORKERS`] of them.
+    /// The same on worker threads, from 1 to [`MAX_WORKERS`], beside observers, up to [`MAX_OBSERVERS`].
     Live {
         script: Word<'a>,
         workers: u32,
+        observers: u32,
     },
     /// Whether a report can be one of this machine for the script of a file.
     Check {
@@ -297,14 +308,14 @@ fn read_rolled<'a>(
     let Some(run) = number(run) else {
         return Ok(None);
     };
-    let Some(rounds) = number(rounds) else {
+    let Some(within) = number(rounds) else {
         return Ok(None);
     };
     match read_change(alloc, words)? {
         Some(change) => Ok(Some(Command::Roll {
             file: Word::of(file),
             run,
-            rounds,
+            within,
             call: change.call,
             target: change.target,
         })),
@@ -394,23 +405,77 @@ fn read_live<'a>(script: &'a str, words: &[String]) -> Option<Command<'a>>
     ensures found { IfSome result (λ command. Asks (codes "live" ∷ script.now ∷ map string_bytes words.now) command) }
     ensures none { IfNone result (HasNoForm (codes "live" ∷ script.now ∷ map string_bytes words.now)) }
 {
-    match said_workers(words) {
-        Some(workers) => Some(Command::Live {
+    match said_threads(words) {
+        Some(said) => Some(Command::Live {
             script: Word::of(script),
-            workers,
+            workers: said.workers,
+            observers: said.observers,
         }),
         None => None,
     }
 }
 
-/// How many workers these words say, which say nothing or are an option and its number.
-fn said_workers(words: &[String]) -> Option<u32>
-    ensures found { IfSome result (SaysWorkers (map string_bytes words.now)) }
-    ensures none { IfNone result ((workers : ℕ) → SaysWorkers (map string_bytes words.now) workers → ⊥) }
+/// How many threads these words say, which say nothing or begin with the option of workers.
+fn said_threads(words: &[String]) -> Option<ThreadCounts>
+    ensures found { IfSome result (λ said. SaysThreads (map string_bytes words.now) said.workers said.observers) }
+    ensures none { IfNone result ((workers observers : ℕ) → SaysThreads (map string_bytes words.now) workers observers
+        → ⊥) }
 {
     match words {
-        [] => Some(USUAL_WORKERS),
-        [option, count] if option.as_str() == "--workers" => worker_count(count.as_str()),
+        [] => Some(ThreadCounts {
+            workers: USUAL_WORKERS,
+            observers: 0,
+        }),
+        [option, ..] => read_workers(option.as_str(), &words[1..]),
+    }
+}
+
+/// How many threads an option and these words behind it say.
+fn read_workers(option: &str, words: &[String]) -> Option<ThreadCounts>
+    ensures found { IfSome result (λ said. SaysThreads (option.now ∷ map string_bytes words.now)
+        said.workers said.observers) }
+    ensures none { IfNone result ((workers observers : ℕ)
+        → SaysThreads (option.now ∷ map string_bytes words.now) workers observers → ⊥) }
+{
+    if option == "--workers" {
+        said_counts(words)
+    } else {
+        None
+    }
+}
+
+/// How many threads these words say, the first of which is the number of workers.
+fn said_counts(words: &[String]) -> Option<ThreadCounts>
+    ensures found { IfSome result (λ said. SaysCounts (map string_bytes words.now) said.workers said.observers) }
+    ensures none { IfNone result ((workers observers : ℕ) → SaysCounts (map string_bytes words.now) workers observers
+        → ⊥) }
+{
+    match words {
+        [] => None,
+        [count, ..] => counted_threads(count.as_str(), &words[1..]),
+    }
+}
+
+/// How many threads a number of workers and these words behind it say.
+fn counted_threads(count: &str, words: &[String]) -> Option<ThreadCounts>
+    ensures found { IfSome result (λ said. SaysCounts (count.now ∷ map string_bytes words.now)
+        said.workers said.observers) }
+    ensures none { IfNone result ((workers observers : ℕ)
+        → SaysCounts (count.now ∷ map string_bytes words.now) workers observers → ⊥) }
+{
+    let workers = worker_count(count)?;
+    let observers = said_observers(words)?;
+    Some(ThreadCounts { workers, observers })
+}
+
+/// How many observers these words say, which say nothing or are an option and its number.
+fn said_observers(words: &[String]) -> Option<u32>
+    ensures found { IfSome result (SaysObservers (map string_bytes words.now)) }
+    ensures none { IfNone result ((observers : ℕ) → SaysObservers (map string_bytes words.now) observers → ⊥) }
+{
+    match words {
+        [] => Some(0),
+        [option, count] if option.as_str() == "--watch" => observer_count(count.as_str()),
         _ => None,
     }
 }
@@ -421,6 +486,16 @@ fn worker_count(word: &str) -> Option<u32>
 {
     match number(word) {
         Some(workers) if 1 <= workers && workers <= MAX_WORKERS => Some(workers),
+        _ => None,
+    }
+}
+
+/// The value of a word that is digits, where it is from 1 to [`MAX_OBSERVERS`].
+fn observer_count(word: &str) -> Option<u32>
+    ensures { SomeIff result (IsObserverCount word.now) (digits_value 10 word.now) }
+{
+    match number(word) {
+        Some(observers) if 1 <= observers && observers <= MAX_OBSERVERS => Some(observers),
         _ => None,
     }
 }

@@ -8,7 +8,7 @@ ghost use Rattle.report_types.specs.declared.report.NodeLog.{NodeLog};
 ghost use Rattle.report_types.specs.declared.report.Report.{Report};
 ghost use Rattle.change_law.specs.Members.{Member, by_node};
 ghost use Rattle.command_answers.specs.declared.status.Status.{Status};
-ghost use Rattle.command_law.specs.Outcomes.{RanShowing};
+ghost use Rattle.command_law.specs.Outcomes.{WasRunBy};
 ghost use Rattle.command_law.specs.Schedules.{Schedule};
 ghost use Rattle.result_row_laws.specs.Items.{HasItems, IsLogOfLive};
 ghost use Rattle.result_row_laws.specs.Keeping.{AreRows};
@@ -25,19 +25,19 @@ use result_row_laws::{rows_have_their_items, sources_are_never_answered_0};
 /// the row that stood when its transaction began, and no transaction of a source was answered 0. The report has logs of
 /// a live source and of a live sink.
 pub fn runs_of_rows_have_their_items()
-    ensures items { (schedule : Schedule) (show : Report → List ℕ) (files : Option Files) (name : List ℕ) (own : Status)
-        (taken t : Option (List ℕ)) → (ran : RanShowing schedule show files name own taken t)
+    ensures items { (schedule : Schedule) (files : Option Files) (name : List ℕ) (own : Status)
+        → (ran : WasRunBy schedule files name own)
         → AreRows ran.statements → (source sink : NodeLog)
         → IsLogOfLive (members_by schedule ran.statements ran.report ran.is_report) ran.report Source source
         → IsLogOfLive (members_by schedule ran.statements ran.report ran.is_report) ran.report Sink sink
         → HasItems (members_by schedule ran.statements ran.report ran.is_report) source sink }
-    ensures ends { (schedule : Schedule) (show : Report → List ℕ) (files : Option Files) (name : List ℕ) (own : Status)
-        (taken t : Option (List ℕ)) → (ran : RanShowing schedule show files name own taken t)
+    ensures ends { (schedule : Schedule) (files : Option Files) (name : List ℕ) (own : Status)
+        → (ran : WasRunBy schedule files name own)
         → AreRows ran.statements → (source : NodeLog) × (sink : NodeLog)
         × IsLogOfLive (members_by schedule ran.statements ran.report ran.is_report) ran.report Source source
         × IsLogOfLive (members_by schedule ran.statements ran.report ran.is_report) ran.report Sink sink }
-    ensures never_0 { (schedule : Schedule) (show : Report → List ℕ) (files : Option Files) (name : List ℕ) (own : Status)
-        (taken t : Option (List ℕ)) → (ran : RanShowing schedule show files name own taken t)
+    ensures never_0 { (schedule : Schedule) (files : Option Files) (name : List ℕ) (own : Status)
+        → (ran : WasRunBy schedule files name own)
         → AreRows ran.statements → (before between after : List Member) (port serial value answer : ℕ)
         → members_by schedule ran.statements ran.report ran.is_report
         ≡ before ++ by_node (Begin port serial value) ∷ (between ++ by_node (End port serial answer) ∷ after)
@@ -51,8 +51,8 @@ pub fn runs_of_rows_have_their_items()
 /// Where the descriptions of a script that was run are banks, what the accounts were opened with is, in the report of that
 /// run, what the live ones have at the end, and what those had that were removed and not moved.
 pub fn runs_of_banks_keep_their_sums()
-    ensures sum { (schedule : Schedule) (show : Report → List ℕ) (files : Option Files) (name : List ℕ) (own : Status)
-        (taken t : Option (List ℕ)) → (ran : RanShowing schedule show files name own taken t)
+    ensures sum { (schedule : Schedule) (files : Option Files) (name : List ℕ) (own : Status)
+        → (ran : WasRunBy schedule files name own)
         → AreBanks ran.statements
         → live_sum ran.report + removed_sum ran.report ≡ opened_sum ran.report }
 {

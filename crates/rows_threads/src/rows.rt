@@ -3,7 +3,7 @@
 use crate::counting::{Counting, ITEMS};
 use crate::held::Held;
 use crate::meeting::Meeting;
-use crate::running::{Row, judge_report, run_row};
+use crate::running::{Row, judge_report, run_row, run_words};
 use command_program::Status;
 use live_board::Free;
 use std::process::Abort;
@@ -94,7 +94,7 @@ fn live_dine(rt: HostRuntime) -> Result<(), Fail> {
         file: "table.dar",
         description: TABLE,
         script: "use table.dar\nstart Table(5,3,9)\nrun 10\nchange to Table(6,3,9) within 1000000\nshow\nfinish within 1000000\nend\n",
-        workers: "4",
+        options: &["--workers", "4"],
     };
     let (gates, seat) = Gates::new(rt.alloc())?;
     let (status, sink) = run_row(rt, rt.alloc(), &row, &Free, &gates, seat)?;
@@ -121,7 +121,7 @@ fn two_workers(rt: HostRuntime) -> Result<(), Fail> {
         file: "line.dar",
         description: LINES,
         script: "use line.dar\nstart Line(3,10)\nfinish within 1000000\nend\n",
-        workers: "2",
+        options: &["--workers", "2"],
     };
     let (gates, seat) = Gates::new(rt.alloc())?;
     let meeting = Meeting::new();
@@ -137,7 +137,7 @@ fn outside_goes_on(rt: HostRuntime) -> Result<(), Fail> {
         file: "line.dar",
         description: LINES,
         script: "use line.dar\nstart Lines(1)\nrun 1\nchange to Lines(2) within 3\nfinish within 1000000\nend\n",
-        workers: "3",
+        options: &["--workers", "3"],
     };
     let (gates, seat) = Gates::new(rt.alloc())?;
     let held = Held::new(&gates);
@@ -159,7 +159,7 @@ fn each_turn_is_announced(rt: HostRuntime) -> Result<(), Fail> {
         file: "line.dar",
         description: LINES,
         script: "use line.dar\nstart Sources(3)\nfinish within 1000000\nend\n",
-        workers: "1",
+        options: &["--workers", "1"],
     };
     let (gates, seat) = Gates::new(rt.alloc())?;
     let counting = Counting::new(&gates);
@@ -176,5 +176,70 @@ fn each_turn_is_announced(rt: HostRuntime) -> Result<(), Fail> {
         return Err(Fail::new("calls before turns"));
     };
     assert!(rt; turns >= events);
+    Ok(())
+}
+
+/// A line that is changed once.
+fn changed_line<'a>(options: &'a [&'a str]) -> Row<'a> {
+    Row {
+        file: "line.dar",
+        description: LINES,
+        script: "use line.dar\nstart Line(3,10)\nchange to Line(3,20) within 1000000\nfinish within 1000000\nend\n",
+        options,
+    }
+}
+
+#[test]
+fn watch_line(rt: HostRuntime) -> Result<(), Fail> {
+    let row = changed_line(&["--workers", "2", "--watch", "1"]);
+    let (gates, seat) = Gates::new(rt.alloc())?;
+    let (status, sink) = run_row(rt, rt.alloc(), &row, &Free, &gates, seat)?;
+    assert_eq!(rt; status, Status::Ok);
+    let Ok(text) = from_utf8(sink.bytes()) else {
+        return Err(Fail::new("a text"));
+    };
+    assert!(rt; text.contains("\nstatus 0\nseen 0 "));
+    assert!(rt; text.ends_with("\nseen 0 2 3 2\n"));
+    Ok(())
+}
+
+#[test]
+fn four_observers(rt: HostRuntime) -> Result<(), Fail> {
+    let row = changed_line(&["--workers", "1", "--watch", "04"]);
+    let (gates, seat) = Gates::new(rt.alloc())?;
+    let (status, sink) = run_row(rt, rt.alloc(), &row, &Free, &gates, seat)?;
+    assert_eq!(rt; status, Status::Ok);
+    let Ok(text) = from_utf8(sink.bytes()) else {
+        return Err(Fail::new("a text"));
+    };
+    for observer in ["seen 0", "seen 1", "seen 2", "seen 3"] {
+        let last = format!(in rt.alloc(); "\n{observer} 2 3 2\n")?;
+        assert!(rt; text.contains(last.as_str()));
+    }
+    Ok(())
+}
+
+/// Words behind the script that are no options of a run.
+static NO_OPTIONS: [&[&str]; 8] = [
+    &["--workers", "2", "--watch", "0"],
+    &["--workers", "2", "--watch", "5"],
+    &["--workers", "2", "--watch", "-1"],
+    &["--workers", "2", "--watch"],
+    &["--watch", "1", "--workers", "2"],
+    &["--watch", "1"],
+    &["--workers", "2", "--watch", "1", "--watch", "1"],
+    &["--workers", "2", "--watch", "1", "1"],
+];
+
+#[test]
+fn no_options(rt: HostRuntime) -> Result<(), Fail> {
+    for options in &NO_OPTIONS {
+        let row = changed_line(options);
+        let (gates, seat) = Gates::new(rt.alloc())?;
+        let (status, is_back, sink) = run_words(rt, rt.alloc(), &row, &Free, &gates, seat)?;
+        assert_eq!(rt; status, Status::Usage);
+        assert!(rt; !is_back);
+        assert_eq!(rt; sink.bytes(), "usage\n".as_bytes());
+    }
     Ok(())
 }

@@ -15,13 +15,13 @@ use std::test::Fail;
 use std::thread::Threads;
 use txn_gate::{ChangeSeat, Gates};
 
-/// A script, the file that it uses, and how many workers run it.
+/// A script, the file that it uses, and the words behind its name.
 #[derive(Drop)]
 pub struct Row<'a> {
     pub file: &'a str,
     pub description: &'a str,
     pub script: &'a str,
-    pub workers: &'a str,
+    pub options: &'a [&'a str],
 }
 
 /// A shelf with a row's files.
@@ -56,9 +56,32 @@ where
     requires here { IsChangeSeatOf seat gates.now }
     requires fresh { (change_in seat ≡ nothing_done) × (collected_in seat ≡ []) × (seat.spare ≡ 0) }
 {
+    let (status, is_back, sink) = run_words(rt, alloc, row, stile, gates, seat)?;
+    assert!(rt; is_back);
+    Ok((status, sink))
+}
+
+/// Runs a row on these gates, and gives the status, whether a seat came back, and what was written.
+pub fn run_words<R, T>(
+    rt: R,
+    alloc: Global,
+    row: &Row<'_>,
+    stile: &T,
+    gates: &Gates,
+    seat: ChangeSeat,
+) -> Result<(Status, bool, MemSink), Fail>
+where
+    R: Threads + Wait + Abort + Copy + Send + Sync,
+    T: Turnstile + Sync,
+    requires here { IsChangeSeatOf seat gates.now }
+    requires fresh { (change_in seat ≡ nothing_done) × (collected_in seat ≡ []) × (seat.spare ≡ 0) }
+{
     let mut shelf = shelf_of(alloc, row)?;
     let mut sink = MemSink::new(alloc, 65_536)?;
-    let words = words_of(alloc, &["live", "s.cfg", "--workers", row.workers])?;
+    let mut words = words_of(alloc, &["live", "s.cfg"])?;
+    for option in row.options {
+        words.push(String::from_str(alloc, option)?)?;
+    }
     let (status, back) = live(
         rt,
         alloc,
@@ -69,8 +92,7 @@ where
         gates,
         seat,
     );
-    assert!(rt; back.is_some());
-    Ok((status, sink))
+    Ok((status, back.is_some(), sink))
 }
 
 /// Stops the test where a report can't be one of the row's script.

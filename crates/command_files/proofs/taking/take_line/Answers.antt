@@ -2,8 +2,9 @@
 use Rattle.std.proofs.Common.{refl}
 use Rattle.report_types.specs.declared.script.Body.TheVariants as bodies
 use Rattle.command_files.proofs.Courses.{none_took, unfetched}
-use Rattle.command_files.proofs.Lines.{is_none_of, stop_marks}
+use Rattle.command_files.proofs.Lines.{stop_marks}
 use Rattle.command_files.proofs.taking.take_line.Goals as goal
+use Rattle.base.proofs.OptionLaws.{None-from_is_some}
 
 pub returns-in-File-clause-took : goal.returns-in-File-clause-took
 returns-in-File-clause-took g c = λ p at. rw c.in-File.is (c.use_file.ensures.took p at)
@@ -12,7 +13,7 @@ pub returns-in-File-clause-marks : goal.returns-in-File-clause-marks
 returns-in-File-clause-marks g c = rw c.in-File.is c.use_file.ensures.marks
 
 pub start-requires : goal.start-requires
-start-requires g c = let fits = rw c.in-Start.is at c.requires in record { used = fits.0; unbegun = is_none_of _ fits.1 }
+start-requires g c = let fits = rw c.in-Start.is at c.requires in record { used = fits.0; unbegun = None-from_is_some _ fits.1 }
 
 pub returns-in-Start-clause-took : goal.returns-in-Start-clause-took
 returns-in-Start-clause-took g c = λ p at. rw c.in-Start.is (unfetched _ p _ _ _ c.start.result (c.start.ensures.lead p at))

@@ -1,6 +1,7 @@
 use Rattle.command_law.proofs.Inverting.{ran}
 use Rattle.command_law.proofs.RunLaws as laws
 use Rattle.command_law.proofs.Stepping as stepping
+use Rattle.command_law.proofs.Watching.{unwatched}
 use Rattle.command_law.proofs.laws.runs_end_by_their_reports.Goals as goal
 
 pub returns : goal.returns
@@ -8,6 +9,7 @@ returns c = record {
   ran = laws.runs;
   summed = laws.sums_up;
   only = λ knows seen run. stepping.asked_to_run knows seen (ran knows seen run);
-  pending = λ schedule show files name own taken taken' r. (stepping.ends_by_report schedule show files name own taken taken' r).0;
-  unfinished = λ schedule show files name own taken taken' r. (stepping.ends_by_report schedule show files name own taken taken' r).1;
+  pending = λ schedule files name own r. (stepping.ends_by_report schedule files name own r).0;
+  unwatched = unwatched;
+  unfinished = λ schedule files name own r. (stepping.ends_by_report schedule files name own r).1;
 }

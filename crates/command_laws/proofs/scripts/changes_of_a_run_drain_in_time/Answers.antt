@@ -1,11 +1,12 @@
 use Rattle.std.proofs.Common.{Some}
 use Rattle.command_words.specs.BigFiles.{made_files, script_name}
-use Rattle.report_writing.specs.Reports.{report_text}
-use Rattle.command_answers.specs.Summaries.{summary_text}
 use Rattle.command_laws.proofs.Draining.{drained}
 use Rattle.command_laws.proofs.scripts.changes_of_a_run_drain_in_time.Goals as goal
 
 pub returns : goal.returns
 returns c =
     let drains = drained c.a_script_has_a_report.ensures.sound c.changes_drain_within_what_is_left.ensures.each in
-    record { fetched = drains report_text; made = λ lanes. drains (summary_text lanes) (Some (made_files lanes)) script_name }
+    record {
+      fetched = λ files name own taken t ran. drains files name own ran.was_run;
+      made = λ lanes own taken t ran. drains (Some (made_files lanes)) script_name own ran.was_run;
+    }

@@ -1,6 +1,5 @@
 use Rattle.std.proofs.Common.{List, ℕ}
 use Rattle.report_types.specs.declared.script.Body.{Body}
-use Rattle.report_writing.specs.Reports.{report_text}
 use Rattle.command_laws.proofs.ScheduledReports.{consistent_by}
 use Rattle.command_laws.proofs.TellingReports.{tells_itself}
 use Rattle.command_laws.proofs.TellingRuns.{ran_tells, stated}
@@ -14,10 +13,10 @@ returns c =
     let words = c.paths_are_words.ensures.words in
     let paths = c.paths_of_nodes_are_paths.ensures in
     let tells = ran_tells spelled named meant words paths
-    (consistent_by c.lawful_reports_are_consistent.ensures.in_rounds c.lawful_reports_are_consistent.ensures.on_threads) report_text in
+    (consistent_by c.lawful_reports_are_consistent.ensures.in_rounds c.lawful_reports_are_consistent.ensures.on_threads) in
     record {
       consistent = tells_itself;
       stated = stated spelled named meant words paths;
       ran = tells;
-      read = λ schedule files name own taken t ran fit. c.a_written_report_is_read.ensures.read ran.report (tells schedule files name own taken t ran fit);
+      read = λ schedule files name own ran fit. c.a_written_report_is_read.ensures.read ran.report (tells schedule files name own ran fit);
     }

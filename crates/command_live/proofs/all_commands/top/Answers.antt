@@ -13,7 +13,8 @@ returns g c =
       kept = c.run_words.ensures.kept;
       back = c.run_words.ensures.back;
       agrees = c.run_words.ensures.agrees;
-      ran_on_threads = λ name workers asks. laws.runs all_commands _ run threads name (workers, (refl, asks));
+      ran_on_threads = λ name workers asks is. laws.in_full (laws.runs all_commands _ run (threads 0) name (workers, (refl, asks)) is);
+      watched = λ name workers observers asks. laws.runs all_commands _ run (threads observers) name (workers, (refl, asks));
       flattened = λ file call asks. laws.flattens all_commands _ run file call (refl, asks);
       planned = λ file call target asks. laws.plans all_commands _ run file call target (refl, asks);
       parted = λ file call target asks. laws.cuts_up all_commands _ run file call target (refl, asks);
@@ -27,7 +28,7 @@ returns g c =
       complete = λ file query files wants tells steady. laws.completes all_commands _ run files (record { tells = tells; steady = steady }) file query wants;
       complete_report = λ file files asks tells steady. laws.completes_report all_commands _ run files (record { tells = tells; steady = steady }) file (refl, asks);
       complete_script = λ name files asks tells steady. laws.completes_script all_commands _ run files (record { tells = tells; steady = steady }) rounds name (refl, asks);
-      complete_on_threads = λ name workers files asks tells steady. laws.completes_script all_commands _ run files (record { tells = tells; steady = steady }) threads name (workers, (refl, asks));
+      complete_on_threads = λ name workers observers files asks tells steady. laws.completes_script all_commands _ run files (record { tells = tells; steady = steady }) (threads observers) name (workers, (refl, asks));
       complete_check = λ name file files asks tells steady. laws.completes_check all_commands _ run files (record { tells = tells; steady = steady }) name file (refl, asks);
       complete_big = λ lanes asks. c.made_runs_are_not_refused.ensures all_commands _ run lanes (refl, asks);
       untouched = c.run_words.ensures.untouched;

@@ -5,8 +5,9 @@ use Rattle.command_answers.specs.declared.status.Status.TheVariants as status
 use Rattle.command_law.specs.Known.{on_threads}
 use Rattle.command_law.specs.Runs.{no_form, not_read, run_of}
 use Rattle.command_program.proofs.RunningLaws.{runs_alone}
-use Rattle.command_live.proofs.Returning.{ends_no_run, false_is_not_true}
+use Rattle.command_live.proofs.Returning.{ends_no_run}
 use Rattle.command_live.proofs.on_threads.live.Goals as goal
+use Rattle.std.proofs.lemmas.Bool.{false≢true}
 
 pub returns-in-Ok-None-clause-runs : goal.returns-in-Ok-None-clause-runs
 returns-in-Ok-None-clause-runs g c =
@@ -16,7 +17,7 @@ returns-in-Ok-None-clause-runs g c =
 pub returns-in-Ok-None-clause-back : goal.returns-in-Ok-None-clause-back
 returns-in-Ok-None-clause-back g c =
     let seen = run_of g.H.Shelf g.K.Sink (map string_bytes c.args.words.now) c.args.shelf.now c.args.shelf.now c.args.out.now c.write_usage.new.out c.write_usage.result in
-    (λ some. absurd (false_is_not_true some), λ is. absurd (ends_no_run status.Usage _ seen refl (c.write_usage.ensures seen) is))
+    (λ some. absurd (false≢true some), λ is. absurd (ends_no_run status.Usage _ seen refl (c.write_usage.ensures seen) is))
 
 pub returns-in-Err-clause-runs : goal.returns-in-Err-clause-runs
 returns-in-Err-clause-runs g c =
@@ -26,4 +27,4 @@ returns-in-Err-clause-runs g c =
 pub returns-in-Err-clause-back : goal.returns-in-Err-clause-back
 returns-in-Err-clause-back g c =
     let seen = run_of g.H.Shelf g.K.Sink (map string_bytes c.args.words.now) c.args.shelf.now c.args.shelf.now c.args.out.now c.write_no_memory.new.out c.write_no_memory.result in
-    (λ some. absurd (false_is_not_true some), λ is. absurd (ends_no_run status.NoMemory _ seen refl (c.write_no_memory.ensures seen) is))
+    (λ some. absurd (false≢true some), λ is. absurd (ends_no_run status.NoMemory _ seen refl (c.write_no_memory.ensures seen) is))

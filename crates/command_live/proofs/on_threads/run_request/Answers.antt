@@ -2,24 +2,26 @@
 use Rattle.std.proofs.Common.{Ok, Err, map, refl, string_bytes, subst}
 use Rattle.command_law.specs.Known.{on_threads}
 use Rattle.command_law.specs.Runs.{run_of}
-use Rattle.command_law.specs.Schedules.{IsReportBy, threads}
+use Rattle.command_law.specs.Schedules.{IsReportBy, IsShownBy, threads}
 use Rattle.command_words.specs.CommandLine.{Asks}
 use Rattle.command_words.specs.declared.words.Command.TheVariants as commands
 use Rattle.command_live.specs.Agreeing.{AgreesWithSeat, ComesBack}
 use Rattle.command_program.proofs.ReportingLaws.{comes_wider, reports_so}
 use Rattle.command_program.proofs.RunningLaws.{runs_by}
-use Rattle.command_live.proofs.Returning.{false_is_not_true, of_back, stop_no_run}
+use Rattle.command_live.proofs.Returning.{of_back, stop_no_run}
 use Rattle.command_live.proofs.on_threads.run_request.Goals as goal
+use Rattle.std.proofs.lemmas.Bool.{false≢true}
 
 pub returns-in-Ok-clause-runs : goal.returns-in-Ok-clause-runs
 returns-in-Ok-clause-runs g c =
     let words = map string_bytes c.args.words.now in
     let name = c.script_named-name.result.now in
     let asked = c.requires.asked in
-    let asks = subst (λ s. Asks words (commands.Live s c.args.workers)) (c.script_named-name.ensures asked.0 c.args.workers asked.1) asked.1 in
+    let own = c.args.request in
+    let asks = subst (λ s. Asks words (commands.Live s own.workers own.observers)) (c.script_named-name.ensures asked.0 own.workers own.observers asked.1) asked.1 in
     let seen = run_of g.H.Shelf g.K.Sink words c.args.shelf.now c.answer_script.new.shelf c.args.out.now c.write_text-status.new.out c.write_text-status.result in
-    runs_by on_threads seen (commands.Live name c.args.workers) (Ok c.in-Ok.answer) (refl, asks)
-    (comes_wider (AgreesWithSeat c.in-Ok.seat) _ name _ _ (IsReportBy threads) (λ statements r agrees. agrees.lawful) (Ok c.in-Ok.answer) c.in-Ok.ensures.answers)
+    runs_by on_threads seen (commands.Live name own.workers own.observers) (Ok c.in-Ok.answer) (refl, asks)
+    (comes_wider (AgreesWithSeat c.in-Ok.seat) (IsShownBy (threads own.observers)) _ name _ _ (IsReportBy (threads own.observers)) (λ statements r agrees. agrees.lawful) (Ok c.in-Ok.answer) c.in-Ok.ensures.answers)
     (rw c.as_slice.ensures.value at c.write_text-status.ensures seen)
 
 pub returns-in-Ok-clause-agrees : goal.returns-in-Ok-clause-agrees
@@ -27,15 +29,17 @@ returns-in-Ok-clause-agrees g c =
     let words = map string_bytes c.args.words.now in
     let name = c.script_named-name.result.now in
     let asked = c.requires.asked in
-    let asks = subst (λ s. Asks words (commands.Live s c.args.workers)) (c.script_named-name.ensures asked.0 c.args.workers asked.1) asked.1 in
+    let own = c.args.request in
+    let asks = subst (λ s. Asks words (commands.Live s own.workers own.observers)) (c.script_named-name.ensures asked.0 own.workers own.observers asked.1) asked.1 in
     let seen = run_of g.H.Shelf g.K.Sink words c.args.shelf.now c.answer_script.new.shelf c.args.out.now c.write_text-status.new.out c.write_text-status.result in
     of_back (ComesBack c.args.gates.now.words.shared.table_id seen) c.in-Ok.seat c.seat_back.result c.seat_back.ensures.seat
     (λ some. record {
       name = name;
-      workers = c.args.workers;
+      workers = own.workers;
+      observers = own.observers;
       asks = asks;
       here = c.in-Ok.ensures.here;
-      reported = reports_so (AgreesWithSeat c.in-Ok.seat) seen name (Ok c.in-Ok.answer) c.in-Ok.ensures.answers (rw c.as_slice.ensures.value at c.write_text-status.ensures seen) (c.seat_back.ensures.back.0 some);
+      reported = reports_so (AgreesWithSeat c.in-Ok.seat) (IsShownBy (threads own.observers)) seen name (Ok c.in-Ok.answer) c.in-Ok.ensures.answers (rw c.as_slice.ensures.value at c.write_text-status.ensures seen) (c.seat_back.ensures.back.0 some);
     })
 
 pub returns-in-Err-clause-runs : goal.returns-in-Err-clause-runs
@@ -43,12 +47,13 @@ returns-in-Err-clause-runs g c =
     let words = map string_bytes c.args.words.now in
     let name = c.script_named-name.result.now in
     let asked = c.requires.asked in
-    let asks = subst (λ s. Asks words (commands.Live s c.args.workers)) (c.script_named-name.ensures asked.0 c.args.workers asked.1) asked.1 in
+    let own = c.args.request in
+    let asks = subst (λ s. Asks words (commands.Live s own.workers own.observers)) (c.script_named-name.ensures asked.0 own.workers own.observers asked.1) asked.1 in
     let seen = run_of g.H.Shelf g.K.Sink words c.args.shelf.now c.answer_script.new.shelf c.args.out.now c.write_answer.new.out c.write_answer.result in
-    runs_by on_threads seen (commands.Live name c.args.workers) (Err c.in-Err.stop) (refl, asks) c.in-Err.ensures.answers (c.write_answer.ensures seen)
+    runs_by on_threads seen (commands.Live name own.workers own.observers) (Err c.in-Err.stop) (refl, asks) c.in-Err.ensures.answers (c.write_answer.ensures seen)
 
 pub returns-in-Err-clause-back : goal.returns-in-Err-clause-back
 returns-in-Err-clause-back g c =
     let words = map string_bytes c.args.words.now in
     let seen = run_of g.H.Shelf g.K.Sink words c.args.shelf.now c.answer_script.new.shelf c.args.out.now c.write_answer.new.out c.write_answer.result in
-    (λ some. absurd (false_is_not_true some), λ is. absurd (stop_no_run c.in-Err.stop seen c.in-Err.ensures.no_run (c.write_answer.ensures seen) is))
+    (λ some. absurd (false≢true some), λ is. absurd (stop_no_run c.in-Err.stop seen c.in-Err.ensures.no_run (c.write_answer.ensures seen) is))

@@ -27,22 +27,22 @@ returns-in-Flat-clause-runs g c words asks =
 
 pub returns-in-Plan-clause-runs : goal.returns-in-Plan-clause-runs
 returns-in-Plan-clause-runs g c words asks =
-    let seen = run_of g.H.Shelf g.K.Sink words c.args.shelf.now c.answer_description-in-Plan.new.shelf c.args.out.now c.write_answer-in-Plan.new.out c.write_answer-in-Plan.result in
-    runs_by on_one_thread seen (commands.Plan c.in-Plan.file c.in-Plan.call c.in-Plan.target) c.answer_description-in-Plan.result (refl, rw c.in-Plan.is at asks)
-    (rw c.as_str-in-Plan.ensures at c.answer_description-in-Plan.ensures.answers) (c.write_answer-in-Plan.ensures seen)
+    let seen = run_of g.H.Shelf g.K.Sink words c.args.shelf.now c.answer_change.new.shelf c.args.out.now c.write_answer-in-Plan.new.out c.write_answer-in-Plan.result in
+    runs_by on_one_thread seen (commands.Plan c.in-Plan.file c.in-Plan.call c.in-Plan.target) c.answer_change.result (refl, rw c.in-Plan.is at asks)
+    (rw c.as_str-in-Plan.ensures at c.answer_change.ensures.answers) (c.write_answer-in-Plan.ensures seen)
 
 pub returns-in-Parts-clause-runs : goal.returns-in-Parts-clause-runs
 returns-in-Parts-clause-runs g c words asks =
-    let seen = run_of g.H.Shelf g.K.Sink words c.args.shelf.now c.answer_description-in-Parts.new.shelf c.args.out.now c.write_answer-in-Parts.new.out c.write_answer-in-Parts.result in
-    runs_by on_one_thread seen (commands.Parts c.in-Parts.file c.in-Parts.call c.in-Parts.target) c.answer_description-in-Parts.result (refl, rw c.in-Parts.is at asks)
-    (rw c.as_str-in-Parts.ensures at c.answer_description-in-Parts.ensures.answers) (c.write_answer-in-Parts.ensures seen)
+    let seen = run_of g.H.Shelf g.K.Sink words c.args.shelf.now c.answer_change-in-Parts.new.shelf c.args.out.now c.write_answer-in-Parts.new.out c.write_answer-in-Parts.result in
+    runs_by on_one_thread seen (commands.Parts c.in-Parts.file c.in-Parts.call c.in-Parts.target) c.answer_change-in-Parts.result (refl, rw c.in-Parts.is at asks)
+    (rw c.as_str-in-Parts.ensures at c.answer_change-in-Parts.ensures.answers) (c.write_answer-in-Parts.ensures seen)
 
 pub returns-in-Roll-clause-runs : goal.returns-in-Roll-clause-runs
 returns-in-Roll-clause-runs g c words asks =
-    let seen = run_of g.H.Shelf g.K.Sink words c.args.shelf.now c.answer_description-in-Roll.new.shelf c.args.out.now c.write_answer-in-Roll.new.out c.write_answer-in-Roll.result in
-    runs_by on_one_thread seen (commands.Roll c.in-Roll.file c.in-Roll.run' c.in-Roll.rounds c.in-Roll.call c.in-Roll.target) c.answer_description-in-Roll.result
+    let seen = run_of g.H.Shelf g.K.Sink words c.args.shelf.now c.answer_change-in-Roll.new.shelf c.args.out.now c.write_answer-in-Roll.new.out c.write_answer-in-Roll.result in
+    runs_by on_one_thread seen (commands.Roll c.in-Roll.file c.in-Roll.run' c.in-Roll.within c.in-Roll.call c.in-Roll.target) c.answer_change-in-Roll.result
     (refl, rw c.in-Roll.is at asks)
-    (rw c.as_str-in-Roll.ensures at c.answer_description-in-Roll.ensures.answers) (c.write_answer-in-Roll.ensures seen)
+    (rw c.as_str-in-Roll.ensures at c.answer_change-in-Roll.ensures.answers) (c.write_answer-in-Roll.ensures seen)
 
 pub returns-in-Replay-clause-runs : goal.returns-in-Replay-clause-runs
 returns-in-Replay-clause-runs g c words asks =

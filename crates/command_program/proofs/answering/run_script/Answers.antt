@@ -1,10 +1,10 @@
 -- The report of the run is answered.
-use Rattle.command_law.specs.RunReports.{IsReportOf}
+use Rattle.command_law.specs.Schedules.{IsReportBy, IsShownBy, rounds}
 use Rattle.command_files.specs.Preparing.{statements_in}
 use Rattle.command_program.proofs.ReportingLaws.{shown}
 use Rattle.command_program.proofs.answering.run_script.Goals as goal
 
 pub returns : goal.returns
 returns c =
-    shown IsReportOf (statements_in c.args.asked) c.in_ok-report.report c.answer_run.result c.in_ok-report.ensures.report c.answer_run.ensures.status
+    shown (IsReportBy rounds) (IsShownBy rounds) (statements_in c.args.asked) c.in_ok-report.report c.answer_run.result c.in_ok-report.ensures.report c.answer_run.ensures.status
     c.answer_run.ensures.text
