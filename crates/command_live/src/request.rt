@@ -38,7 +38,9 @@ fn request_of(command: &Command<'_>) -> Option<Request>
 {
     match command {
         Command::Live {
-            workers, observers, ..
+            workers,
+            observers,
+            ..
         } => Some(Request {
             workers: *workers,
             observers: *observers,
