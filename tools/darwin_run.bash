@@ -15,6 +15,8 @@ _darwin_run() {
     3:roll | 4:roll) COMPREPLY=() ;;
     3:live) COMPREPLY=($(compgen -W --workers -- "$word")) ;;
     4:live) COMPREPLY=($(compgen -W $'1\n2\n4\n8' -- "$word")) ;;
+    5:live) COMPREPLY=($(compgen -W --watch -- "$word")) ;;
+    6:live) COMPREPLY=($(compgen -W $'1\n2\n3\n4' -- "$word")) ;;
     *:plan | *:parts | *:roll) COMPREPLY=($(compgen -W "$(_darwin_run_components "$file")"$'\n--' -- "$word")) ;;
     *) COMPREPLY=($(compgen -f -- "$word")) ;;
   esac

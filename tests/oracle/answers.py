@@ -15,11 +15,13 @@ import runs
 import scattered
 import scripts
 import threads
+import watched
 from language import GREATEST, LEAST, Description
 
 LIMIT = 1 << 20
 CONSISTENT, UNLAWFUL = (0, b"consistent\n"), (10, b"unlawful\n")
 MOST_WORKERS = 8
+MOST_OBSERVERS = 4
 # how many cuts a search for the list of a report of threads may come to
 MOST_CUTS = 20000
 LATER = {"OutOfRange", "ZeroDivisor", "BadIndex", "TwoInstances", "BoundTwice", "BadBinding", "Annotation", "TooDeep", "TooMany"}
@@ -211,28 +213,40 @@ def step(words, files):
     return runs.report(script_of(words[1], files))
 
 
+def counted(words, option, most):
+    """The number behind an option, from 1 to the most."""
+    usage(words[0] == option and scripts.is_number(words[1]) and 1 <= scripts.integer(words[1]) <= most)
+    return scripts.integer(words[1])
+
+
 def live_of(words, files):
-    """The statements of `live SCRIPT`, with so many workers or without a word of them."""
-    usage(len(words) in (2, 4) and words[1])
-    usage(len(words) == 2 or words[2] == b"--workers" and scripts.is_number(words[3]) and 1 <= scripts.integer(words[3]) <= MOST_WORKERS)
-    return script_of(words[1], files)
+    """The statements of `live SCRIPT`, with so many workers or without a word of them, and how many observers there are."""
+    usage(len(words) in (2, 4, 6) and words[1])
+    if len(words) > 2:
+        counted(words[2:4], b"--workers", MOST_WORKERS)
+    observers = counted(words[4:], b"--watch", MOST_OBSERVERS) if len(words) > 4 else 0
+    return script_of(words[1], files), observers
 
 
 def live(words, files):
-    """`live SCRIPT [--workers W]`, by turns in any order: one of the reports that may come"""
-    return scattered.report(live_of(words, files), random.Random())
+    """`live SCRIPT [--workers W [--watch N]]`, by turns in any order: one of the reports that may come"""
+    statements, observers = live_of(words, files)
+    status, text = scattered.report(statements, random.Random())
+    return status, text + watched.text(reports.parse(text)[0][1], observers, random)
 
 
-def unlike_threads(statements, came, longest=None):
-    """Why a run on threads can't end so with these statements, or None; and whether that was decided. Of a report of more bytes than `longest`
-    the form alone is asked."""
+def unlike_threads(statements, came, longest=None, observers=0):
+    """Why a run on threads can't end so with these statements and so many observers, or None; and whether that was decided. Of a report of
+    more bytes than `longest` the form alone is asked, and what stands behind it."""
     if came.fault():
         return came.fault(), True
-    report, fault = reports.parse(came.text) if came.status in (0, 7, 8) else (None, "no status of a report")
+    text, lines = watched.parted(came.text) if observers else (came.text, [])
+    report, fault = reports.parse(text) if came.status in (0, 7, 8) else (None, "no status of a report")
     if fault or report[3][-1] != b"status %d" % came.status:
         return "a report of threads was wanted, %s; came status %s, %r" % (fault or "which has its own status", came.status, came.text[:80]), True
-    if longest is not None and len(came.text) > longest:
-        return None, False
+    why = watched.why_not(report[1], lines, observers)
+    if why or longest is not None and len(text) > longest:
+        return why, bool(why)
     try:
         return threads.why_not(statements, report, MOST_CUTS), True
     except consistent.Undecided:
@@ -327,7 +341,8 @@ def judged(words, files, came):
         return came.unlike((0, came.text)), True
     if words[:1] == [b"live"] and all(map(is_text, words)):
         try:
-            return unlike_threads(live_of(words, files), came)
+            statements, observers = live_of(words, files)
+            return unlike_threads(statements, came, None, observers)
         except Refusal as refusal:
             wanted, is_open = refusal.answers, refusal.is_open
     else:

@@ -161,7 +161,7 @@ def judge(words, files, status, written):
     file = words[1] if len(words) > 1 else b""
     if command == "step" and len(words) == 2:
         want(status in (0, 2, 3, 4, 7, 8), "a status that shouldn't come here")
-    elif command == "live" and len(words) in (2, 4):
+    elif command == "live" and len(words) in (2, 4, 6):
         want(status in (0, 1, 2, 3, 4, 7, 8), "a status that shouldn't come here")
     elif command == "check" and len(words) == 3:
         want(status in (0, 1, 2, 3, 4, 10), "a status that shouldn't come here")
