@@ -1,13 +1,11 @@
-//! Worked rows of observers beside a writer and beside a run. They end by themselves, and come out alike in every order of
-//! the threads' steps.
+//! Worked rows of observers beside a writer. They end by themselves, and come out alike in every order of the threads'
+//! steps.
 #![tactic(auto)]
 
 #[cfg(test)]
 mod graphs;
 #[cfg(test)]
 mod line_rows;
-#[cfg(test)]
-mod run_rows;
 #[cfg(test)]
 mod view_rows;
 #[cfg(test)]
