@@ -1,9 +1,11 @@
 -- The report of the run is answered, and agrees with the seat; behind it stands what its observers saw.
-use Rattle.std.proofs.Common.{Ok}
+use Rattle.std.proofs.Common.{◌++◌, ◌∙◌, Ok, ap}
 use Rattle.command_law.specs.Schedules.{IsShownBy, threads}
 use Rattle.command_files.specs.Preparing.{statements_in}
 use Rattle.command_live.specs.Agreeing.{AgreesWithSeat}
 use Rattle.command_program.proofs.ReportingLaws.{shown}
+use Rattle.report_writing.specs.Reports.{report_text}
+use Rattle.watch_lines.specs.WatchText.{watch_text}
 use Rattle.command_live.proofs.running.run_script.Goals as goal
 
 pub returns-clause-answer : goal.returns-clause-answer
@@ -11,4 +13,4 @@ returns-clause-answer g c =
     let seen = c.in_ok-report.seen in
     shown (AgreesWithSeat c.in_ok-report.seat) (IsShownBy (threads c.args.request.observers)) {E = ⊥} (statements_in c.args.asked) c.in_ok-report.report (Ok c.in_ok-answer.answer)
     c.in_ok-report.ensures.agrees c.in_ok-answer.ensures.status
-    (record { seen = seen.items; one_each = c.in_ok-report.ensures.observers; told = c.in_ok-report.ensures.seen; text = c.in_ok-answer.ensures.text })
+    (record { seen = seen.items; one_each = c.in_ok-report.ensures.observers ∙ c.new-observers.ensures; told = c.in_ok-report.ensures.seen; text = c.in_ok-answer.ensures.text ∙ ap (λ s. report_text c.in_ok-report.report ++ watch_text s) c.as_slice.ensures.value })
