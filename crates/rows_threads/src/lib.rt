@@ -9,6 +9,8 @@ mod held;
 #[cfg(test)]
 mod looking;
 #[cfg(test)]
+mod looking_on;
+#[cfg(test)]
 mod meeting;
 #[cfg(test)]
 mod rows;

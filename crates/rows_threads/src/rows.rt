@@ -2,14 +2,16 @@
 
 use crate::counting::{Counting, ITEMS};
 use crate::held::Held;
+use crate::looking_on::LookingOn;
 use crate::meeting::Meeting;
-use crate::running::{Row, judge_report, run_row, run_words};
+use crate::running::{Row, judge_report, run_beside, run_row, run_words};
 use command_program::Status;
 use live_board::Free;
 use std::process::Abort;
 use std::str::from_utf8;
 use std::test::Fail;
 use txn_gate::Gates;
+use watch_threads::{Observers, Sighting};
 
 const TABLE: &str = "component philosopher(int meals) { require dine; }
 component place(int first) { provide dine; require left, right; }
@@ -241,5 +243,35 @@ fn no_options(rt: HostRuntime) -> Result<(), Fail> {
         assert!(rt; !is_back);
         assert_eq!(rt; sink.bytes(), "usage\n".as_bytes());
     }
+    Ok(())
+}
+
+/// What an observer notes of a line behind so many commits.
+fn line_at(commits: u32) -> Sighting {
+    Sighting {
+        commits,
+        nodes: 3,
+        links: 2,
+    }
+}
+
+#[test]
+fn an_observer_reads(rt: HostRuntime) -> Result<(), Fail> {
+    // nothing is changed before a transaction ended, and none begins before the observer noted the start
+    let row = Row {
+        file: "line.dar",
+        description: LINES,
+        script: "use line.dar\nstart Line(3,10)\nrun 1\nchange to Line(3,20) within 1000000\nfinish within 1000000\nend\n",
+        options: &[],
+    };
+    let observers = Observers::new(1);
+    let looking_on = LookingOn::new(&observers);
+    let (status, seen) = run_beside(rt, rt.alloc(), &row, &looking_on, &observers)?;
+    assert_eq!(rt; status, 0);
+    assert!(rt; looking_on.is_held());
+    let Some(lines) = seen.first() else {
+        return Err(Fail::new("lines"));
+    };
+    assert!(rt; lines.items().ends_with(&[line_at(1), line_at(2)]));
     Ok(())
 }

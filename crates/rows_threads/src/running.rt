@@ -1,19 +1,23 @@
 //! How a script is run on threads, and its report judged.
 
-ghost use Rattle.std.specs.Prelude.{◌≡◌, []};
+ghost use Rattle.std.specs.Prelude.{◌≡◌, ◌≤◌, []};
 ghost use Rattle.txn_gate.specs.Seats.{IsChangeSeatOf, change_in, collected_in};
 ghost use Rattle.txn_law.specs.Views.{nothing_done};
 
 use cfg_io::{MemShelf, MemSink};
+use command_files::prepare;
 use command_live::live;
 use command_program::{Status, still};
+use config_graph::List;
 use live_board::Turnstile;
+use live_run::run_on_threads;
 use std::alloc::Global;
 use std::process::Abort;
 use std::sync::Wait;
 use std::test::Fail;
 use std::thread::Threads;
 use txn_gate::{ChangeSeat, Gates};
+use watch_threads::{Observers, Sighting};
 
 /// A script, the file that it uses, and the words behind its name.
 #[derive(Drop)]
@@ -110,4 +114,36 @@ pub fn judge_report(
     assert_eq!(rt; sink.bytes(), "consistent\n".as_bytes());
     assert_eq!(rt; status, Status::Ok);
     Ok(())
+}
+
+/// Runs a row's script with two workers beside observers, and gives the report's status and the lines of each observer.
+pub fn run_beside<R, T>(
+    rt: R,
+    alloc: Global,
+    row: &Row<'_>,
+    stile: &T,
+    observers: &Observers,
+) -> Result<(u8, Vec<List<Sighting>>), Fail>
+where
+    R: Threads + Wait + Copy + Send + Sync,
+    T: Turnstile + Sync,
+    requires { observers.now.count ≤ 4 }
+{
+    let mut shelf = shelf_of(alloc, row)?;
+    let Ok(asked) = prepare(alloc, &mut shelf, "s.cfg") else {
+        return Err(Fail::new("a script"));
+    };
+    let (gates, seat) = Gates::new(alloc)?;
+    let (report, lines, _seat) = run_on_threads(
+        rt,
+        alloc,
+        &gates,
+        seat,
+        stile,
+        2,
+        observers,
+        asked.start,
+        asked.steps,
+    )?;
+    Ok((report.status, lines))
 }
