@@ -1,15 +1,7 @@
-//! Worked rows of inboxes and the hall, with threads. They end by themselves, and come out alike in every order of the
-//! threads' steps.
+//! Worked rows of the board over the gates, in one thread.
 #![tactic(auto)]
 
 #[cfg(test)]
 mod board_rows;
 #[cfg(test)]
-mod door_rows;
-mod guests;
-#[cfg(test)]
-mod hand_rows;
-#[cfg(test)]
 mod scan_rows;
-
-pub use guests::sink;

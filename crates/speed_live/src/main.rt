@@ -11,7 +11,7 @@ use crossbeam_queue::{Pass, RuledArrayQueue};
 use live_hall::{Door, Guest, Hall, Named};
 use live_hands::{Hand, Inboxes};
 use port_queue::{Hints, MAX_HINTS};
-use rows_live::sink;
+use rows_hall::sink;
 use std::alloc::{AllocError, Global};
 use std::marker::Brand;
 use std::rt::Clock;

@@ -5,7 +5,7 @@ use Rattle.txn_records.specs.Entries.{config_of}
 use Rattle.txn_law.specs.Views.{change_of}
 use Rattle.txn_gate.specs.Calls.{made_node}
 use Rattle.txn_gate.specs.Seats.{record_of}
-use Rattle.rows_live.proofs.guests.sink.Goals as goal
+use Rattle.rows_hall.proofs.guests.sink.Goals as goal
 
 pub first-requires-clause-seat : goal.first-requires-clause-seat
 first-requires-clause-seat c =
