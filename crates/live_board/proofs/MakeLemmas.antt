@@ -11,7 +11,6 @@ use Rattle.component_trait.specs.States.{NodeState, Service}
 use Rattle.config_graph.specs.Kinds.{row}
 use Rattle.config_graph.specs.declared.TheConstants.{MAX_NODES, MAX_PORTS}
 use Rattle.config_graph.specs.declared.kind.Kind.{Kind}
-use Rattle.config_graph.specs.declared.kind.Kind.TheVariants as kind
 use Rattle.config_graph.specs.declared.node.Node.{Node}
 use Rattle.live_hall.specs.Sighting.{IsMadeIn, sight_of}
 use Rattle.live_board.specs.Behind.{HasBehind, IsShallow}

@@ -1,4 +1,4 @@
--- What a board keeps: removed nodes, by slot, and empty lists for the pasts of nodes to be made.
+-- What a board keeps: removed nodes, by slot, and memory for nodes to be made and their pasts.
 use Rattle.std.specs.Prelude.{◌≡◌, ℕ, ◌≤◌, Bool, false, List, map, length, slice_get, slice_index_or, slice_set, Option, Some, None, is_some}
 use Rattle.atomic_table.specs.Seated.{TableId}
 use Rattle.live_board.specs.declared.blank.Blank.{Blank}
@@ -21,7 +21,7 @@ abbrev pub without : List Bool → Option ℕ → List Bool
 without places None = places
 without places (Some n) = slice_set places n false
 
--- there are enough lists, each with room for so many nodes
+-- there is memory for so many nodes, for each with so many earlier ones of its line
 pub record HaveRoom (blanks : List Blank) (nodes lines : ℕ) : Type 0 where
   pub enough : nodes ≤ length blanks
   pub roomy : (k : ℕ) (b : Blank) → slice_get blanks k ≡ Some b → lines ≤ b.room

@@ -31,7 +31,7 @@ use crate::stile::Turnstile;
 use change_board::{Board, Collected, Scan};
 use component_trait::Component;
 use config_graph::{NoMemory, Node};
-use live_hall::{Door, Guest, Named};
+use live_hall::{BoxedGuest, Door, Named};
 use live_hands::Hand;
 use state_handover::AnyNode;
 use std::alloc::{AllocError, Global};
@@ -54,10 +54,10 @@ pub struct LiveBoard<'g, J: Named, R: Wait + Copy, T: Turnstile> {
     /// Whether a worker found no memory.
     short: &'g AtomicBool,
     /// Removed nodes, by slot.
-    kept: Vec<Option<Guest>>,
+    kept: Vec<Option<BoxedGuest>>,
     /// Which node took over the state of each, by slot.
     heirs: Vec<Option<u32>>,
-    /// For the pasts of nodes to be made.
+    /// For nodes to be made, and their pasts.
     blanks: Vec<Blank>,
     /// A node in a slot below this may be taken over from.
     sources: u32,

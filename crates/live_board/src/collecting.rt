@@ -17,7 +17,7 @@ use crate::ends::{Ends, take_ends};
 use change_board::Collected;
 use component_trait::Component;
 use config_graph::{List, NoMemory};
-use live_hall::{Door, Guest, Named};
+use live_hall::{BoxedGuest, Door, Guest, Named};
 use live_laws::{lines_have_folds, seats_tell_of_their_line};
 use node_host::Past;
 use quiesce_core::Event;
@@ -82,7 +82,7 @@ fn take_past_in(
 }
 
 /// Takes the seats of a node and its line in.
-fn take_line_in(gates: &Gates, seat: &mut ChangeSeat, guest: Guest, logs: &mut Vec<NodeLog>)
+fn take_line_in(gates: &Gates, seat: &mut ChangeSeat, guest: BoxedGuest, logs: &mut Vec<NodeLog>)
     requires here { IsChangeSeatOf seat.old gates.now }
     requires at { IsAt gates.now.words.shared.table_id guest }
     requires drained { AreAllNoted (record_of seat.old) }
@@ -92,7 +92,7 @@ fn take_line_in(gates: &Gates, seat: &mut ChangeSeat, guest: Guest, logs: &mut V
     ensures grew { Grew (config_of (record_of seat.old)) (collected_in seat.old) (collected_in seat.new) logs.old.items
         logs.new.items (views_of guest) }
 {
-    let Guest { node } = guest;
+    let Guest { node } = guest.into_guest();
     let (_, theirs, log, past) = node.into_parts();
     take_past_in(gates, seat, past, logs);
     take_node_in(gates, seat, theirs, log, logs);
@@ -102,7 +102,7 @@ fn take_line_in(gates: &Gates, seat: &mut ChangeSeat, guest: Guest, logs: &mut V
 fn take_lines_in<J: Named>(
     gates: &Gates,
     seat: &mut ChangeSeat,
-    guests: Vec<Guest>,
+    guests: Vec<BoxedGuest>,
     logs: &mut Vec<NodeLog>,
 )
     requires here { IsChangeSeatOf seat.old gates.now }
@@ -138,7 +138,7 @@ fn first_undone(seat: &ChangeSeat, dones: &Vec<bool>) -> Option<u32>
 fn gather<J: Named>(
     gates: &Gates,
     seat: &mut ChangeSeat,
-    guests: Vec<Guest>,
+    guests: Vec<BoxedGuest>,
     ends: Ends,
     heirs: &Vec<Option<u32>>,
 ) -> Collected
@@ -169,7 +169,7 @@ fn gather<J: Named>(
 }
 
 /// Puts these nodes back into the hall.
-fn put_back<J: Named, R: Wait>(door: &mut Door<J, R>, guests: Vec<Guest>)
+fn put_back<J: Named, R: Wait>(door: &mut Door<J, R>, guests: Vec<BoxedGuest>)
     requires { AllByRecursion (LiesAt J.gates) guests.items }
 {
     for guest in guests {
@@ -185,7 +185,7 @@ pub fn collect<J: Named, R: Wait>(
     gates: &Gates,
     seat: &mut ChangeSeat,
     door: &mut Door<J, R>,
-    kept: &mut Vec<Option<Guest>>,
+    kept: &mut Vec<Option<BoxedGuest>>,
     heirs: &Vec<Option<u32>>,
 ) -> Result<Collected, NoMemory>
     requires here { IsChangeSeatOf seat.old gates.now }

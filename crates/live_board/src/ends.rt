@@ -14,7 +14,7 @@ use crate::heirs::heir_at;
 use crate::keeping::take_back;
 use component_trait::Component;
 use config_graph::{List, NoMemory};
-use live_hall::{Door, Guest, Named};
+use live_hall::{BoxedGuest, Door, Named};
 use report_types::{Last, NodeLog};
 use state_handover::AnyNode;
 use std::alloc::Global;
@@ -47,11 +47,12 @@ fn numbers_of<C: Component>(alloc: Global, node: &C) -> Result<Vec<u64>, NoMemor
 }
 
 /// The end of the log of a node whose state no other took over.
-fn end_of(alloc: Global, guest: &Guest) -> Result<End, NoMemory>
+fn end_of(alloc: Global, guest: &BoxedGuest) -> Result<End, NoMemory>
     ensures last { IfOk result
         (λ e. e.last ≡ State (moves.numbers (⟦<AnyNode as Component>⟧.state guest.now.node.inner))) }
     ensures done { IfOk result (λ e. e.done ≡ moves.is_done (⟦<AnyNode as Component>⟧.state guest.now.node.inner)) }
 {
+    let guest = guest.guest();
     let numbers = numbers_of(alloc, guest.node.inner())?;
     let done = guest.node.done();
     Ok(End {
@@ -66,10 +67,10 @@ fn take_end<J: Named, R: Wait>(
     rt: &R,
     alloc: Global,
     door: &mut Door<J, R>,
-    kept: &mut Vec<Option<Guest>>,
+    kept: &mut Vec<Option<BoxedGuest>>,
     heir: Option<u32>,
     slot: u32,
-    guests: &mut Vec<Guest>,
+    guests: &mut Vec<BoxedGuest>,
 ) -> Result<End, NoMemory>
     requires slot { slot < MAX_NODES }
     requires kept { AreKept J.gates kept.old.items }
@@ -100,10 +101,10 @@ pub fn take_ends<J: Named, R: Wait>(
     rt: &R,
     alloc: Global,
     door: &mut Door<J, R>,
-    kept: &mut Vec<Option<Guest>>,
+    kept: &mut Vec<Option<BoxedGuest>>,
     heirs: &Vec<Option<u32>>,
     slots: u32,
-    guests: &mut Vec<Guest>,
+    guests: &mut Vec<BoxedGuest>,
 ) -> Result<Ends, NoMemory>
     requires few { slots ≤ MAX_NODES }
     requires kept { AreKept J.gates kept.old.items }

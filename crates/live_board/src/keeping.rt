@@ -1,4 +1,4 @@
-//! What a board keeps: removed nodes, by slot, and empty lists for the pasts of nodes to be made.
+//! What a board keeps: removed nodes, by slot, and memory for nodes to be made and their pasts.
 
 ghost use Rattle.std.specs.Prelude.{◌≡◌, ℕ, ◌+◌, ◌<◌, ◌≤◌, Some, true, IfOk, IfSome, OnOk, length, slice_set};
 ghost use Rattle.config_graph.specs.declared.TheConstants.{MAX_NODES};
@@ -7,13 +7,13 @@ ghost use Rattle.live_hall.specs.Houses.{FitsCell};
 
 use crate::blank::Blank;
 use config_graph::NoMemory;
-use live_hall::{Door, Guest, Named};
+use live_hall::{BoxedGuest, Door, Named};
 use std::alloc::Global;
 use std::sync::Wait;
 use std::thread;
 
 /// The node of a slot, once it lies in the hall.
-pub fn await_guest<J: Named, R: Wait>(rt: &R, door: &mut Door<J, R>, slot: u32) -> Guest
+pub fn await_guest<J: Named, R: Wait>(rt: &R, door: &mut Door<J, R>, slot: u32) -> BoxedGuest
     requires { slot < MAX_NODES }
     ensures { FitsCell J.gates slot result }
 {
@@ -27,7 +27,7 @@ pub fn await_guest<J: Named, R: Wait>(rt: &R, door: &mut Door<J, R>, slot: u32) 
 }
 
 /// Makes a place for the removed node of each slot below this.
-pub fn make_places<J: Named>(kept: &mut Vec<Option<Guest>>, slots: u32) -> Result<(), NoMemory>
+pub fn make_places<J: Named>(kept: &mut Vec<Option<BoxedGuest>>, slots: u32) -> Result<(), NoMemory>
     requires { AreKept J.gates kept.old.items }
     ensures kept { AreKept J.gates kept.new.items }
     ensures stored { (n : ℕ) → is_stored (stored kept.new.items) n ≡ is_stored (stored kept.old.items) n }
@@ -41,10 +41,10 @@ pub fn make_places<J: Named>(kept: &mut Vec<Option<Guest>>, slots: u32) -> Resul
 
 /// Puts a removed node away: into its place, or into the hall where it has none.
 pub fn put_away<J: Named, R: Wait>(
-    kept: &mut Vec<Option<Guest>>,
+    kept: &mut Vec<Option<BoxedGuest>>,
     door: &mut Door<J, R>,
     slot: u32,
-    guest: Guest,
+    guest: BoxedGuest,
 )
     requires slot { slot < MAX_NODES }
     requires fits { FitsCell J.gates slot guest }
@@ -62,7 +62,7 @@ pub fn put_away<J: Named, R: Wait>(
 }
 
 /// What lies in a place, if there is one.
-fn taken_out<J: Named>(kept: &mut Vec<Option<Guest>>, slot: u32) -> Option<Guest>
+fn taken_out<J: Named>(kept: &mut Vec<Option<BoxedGuest>>, slot: u32) -> Option<BoxedGuest>
     requires { AreKept J.gates kept.old.items }
     ensures fits { IfSome result (FitsCell J.gates slot) }
     ensures kept { AreKept J.gates kept.new.items }
@@ -79,10 +79,10 @@ fn taken_out<J: Named>(kept: &mut Vec<Option<Guest>>, slot: u32) -> Option<Guest
 /// The removed node of a slot: from its place, or else from the hall.
 pub fn take_back<J: Named, R: Wait>(
     rt: &R,
-    kept: &mut Vec<Option<Guest>>,
+    kept: &mut Vec<Option<BoxedGuest>>,
     door: &mut Door<J, R>,
     slot: u32,
-) -> Guest
+) -> BoxedGuest
     requires slot { slot < MAX_NODES }
     requires kept { AreKept J.gates kept.old.items }
     ensures fits { FitsCell J.gates slot result }
@@ -95,7 +95,7 @@ pub fn take_back<J: Named, R: Wait>(
     }
 }
 
-/// So many empty lists, each with room for so many earlier nodes.
+/// Memory for so many nodes, each with so many earlier nodes of its line.
 pub fn blanks(alloc: Global, nodes: u32, lines: u32) -> Result<Vec<Blank>, NoMemory>
     ensures { IfOk result (λ v. HaveRoom v.items nodes lines) }
 {
@@ -107,7 +107,7 @@ pub fn blanks(alloc: Global, nodes: u32, lines: u32) -> Result<Vec<Blank>, NoMem
     Ok(all)
 }
 
-/// One of these lists.
+/// Memory for one of these nodes.
 pub fn take_blank(blanks: &mut Vec<Blank>) -> Blank
     requires { 0 < length blanks.old.items }
     ensures { (nodes lines : ℕ) → HaveRoom blanks.old.items (nodes + 1) lines

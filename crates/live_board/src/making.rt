@@ -12,14 +12,20 @@ ghost use Rattle.txn_records.specs.Entries.{config_of};
 use crate::blank::Blank;
 use crate::keeping::{take_back, take_blank};
 use config_graph::Node;
-use live_hall::{Door, Guest, Named};
+use live_hall::{Berth, BoxedGuest, Door, Guest, Named};
 use live_laws::seats_tell_of_their_line;
 use std::alloc::Global;
 use std::sync::Wait;
 use txn_gate::{ChangeSeat, Gates};
 
 /// Makes the first node of a line.
-fn make_first(alloc: Global, gates: &Gates, seat: &mut ChangeSeat, node: &Node) -> Guest
+fn make_first(
+    alloc: Global,
+    gates: &Gates,
+    seat: &mut ChangeSeat,
+    node: &Node,
+    berth: Berth,
+) -> BoxedGuest
     requires here { IsChangeSeatOf seat.old gates.now }
     requires spare { 0 < seat.old.spare }
     requires may { CanMake (config_of (record_of seat.old)) (length (config_of (record_of seat.old)).slots) node.now None }
@@ -27,7 +33,8 @@ fn make_first(alloc: Global, gates: &Gates, seat: &mut ChangeSeat, node: &Node) 
 {
     let made = seat.made();
     let theirs = gates.make_node(seat, node, None);
-    Guest::first(alloc, made.nodes, made.ports, node.kind, node.arg, theirs)
+    let guest = Guest::first(alloc, made.nodes, made.ports, node.kind, node.arg, theirs);
+    berth.take_in(guest)
 }
 
 /// Makes a node that takes over the state and the line of another, which is sighted.
@@ -37,9 +44,9 @@ fn make_next(
     seat: &mut ChangeSeat,
     node: &Node,
     from: u32,
-    old: Guest,
+    old: BoxedGuest,
     blank: Blank,
-) -> Guest
+) -> BoxedGuest
     requires here { IsChangeSeatOf seat.old gates.now }
     requires spare { 0 < seat.old.spare }
     requires may { CanMake (config_of (record_of seat.old)) (length (config_of (record_of seat.old)).slots) node.now (Some from) }
@@ -50,12 +57,13 @@ fn make_next(
 {
     let made = seat.made();
     let theirs = gates.make_node(seat, node, Some(from));
+    let Blank { berth, list, .. } = blank;
     let mut old = old;
     seats_tell_of_their_line();
     old.sight(gates, seat);
-    Guest::handed(
-        alloc, old, blank.list, made.nodes, made.ports, node.arg, theirs,
-    )
+    let old = old.into_guest();
+    let guest = Guest::handed(alloc, old, list, made.nodes, made.ports, node.arg, theirs);
+    berth.take_in(guest)
 }
 
 /// Makes a node in the next slot, which takes over the state and the line of the one in slot `from` where there is one.
@@ -65,11 +73,11 @@ pub fn make_guest<J: Named, R: Wait>(
     gates: &Gates,
     seat: &mut ChangeSeat,
     door: &mut Door<J, R>,
-    kept: &mut Vec<Option<Guest>>,
+    kept: &mut Vec<Option<BoxedGuest>>,
     blanks: &mut Vec<Blank>,
     node: &Node,
     from: Option<u32>,
-) -> Guest
+) -> BoxedGuest
     requires here { IsChangeSeatOf seat.old gates.now }
     requires named { J.gates ≡ gates.now.words.shared.table_id }
     requires spare { 0 < seat.old.spare }
@@ -84,11 +92,11 @@ pub fn make_guest<J: Named, R: Wait>(
         → HaveRoom blanks.new.items seat.new.spare lines }
     ensures made { Made gates.now seat.old seat.new node.now from result }
 {
+    let blank = take_blank(blanks);
     match from {
-        None => make_first(alloc, gates, seat, node),
+        None => make_first(alloc, gates, seat, node, blank.berth),
         Some(slot) => {
             let old = take_back(rt, kept, door, slot);
-            let blank = take_blank(blanks);
             make_next(alloc, gates, seat, node, slot, old, blank)
         }
     }

@@ -9,14 +9,14 @@ use crate::blank::Blank;
 use crate::heirs::make_heir_places;
 use crate::keeping::{blanks, make_places};
 use config_graph::NoMemory;
-use live_hall::{Guest, Named};
+use live_hall::{BoxedGuest, Named};
 use std::alloc::Global;
 
 /// A place to keep each node in, once it is removed, and one to note its heir; and so many lists for the pasts of nodes
 /// to be made, each with room for so many earlier nodes.
 pub fn make_room<J: Named>(
     alloc: Global,
-    kept: &mut Vec<Option<Guest>>,
+    kept: &mut Vec<Option<BoxedGuest>>,
     heirs: &mut Vec<Option<u32>>,
     made: u32,
     nodes: u32,

@@ -13,7 +13,7 @@ ghost use Rattle.txn_records.specs.Entries.{config_of};
 ghost use Rattle.txn_records.specs.Records.{IsRecord};
 
 use component_trait::Component;
-use live_hall::{Door, Guest, Named};
+use live_hall::{BoxedGuest, Door, Guest, Named};
 use live_laws::{done_nodes_are_seen_as_done, lines_share_no_node, seats_tell_of_their_line};
 use node_host::Past;
 use state_handover::AnyNode;
@@ -57,7 +57,7 @@ fn see_guest(
     gates: &Gates,
     seat: &mut ChangeSeat,
     lengths: &mut Vec<Option<usize>>,
-    guest: &mut Guest,
+    guest: &mut BoxedGuest,
 ) -> bool
     requires here { IsChangeSeatOf seat.old gates.now }
     requires at { IsAt gates.now.words.shared.table_id guest.old }
@@ -73,11 +73,12 @@ fn see_guest(
         lengths.new.items guest.old.node.slot result }
     ensures done { result ≡ moves.is_done (⟦<AnyNode as Component>⟧.state guest.old.node.inner) }
 {
-    let done = guest.node.done();
+    let shown = guest.guest();
+    let done = shown.node.done();
     if done {
         seats_tell_of_their_line();
         done_nodes_are_seen_as_done();
-        note_line(lengths, guest);
+        note_line(lengths, shown);
         guest.sight(gates, seat);
     }
     done

@@ -1,10 +1,10 @@
 -- Each step keeps the rule of a cell.
-use Rattle.std.proofs.Common.{◌≡◌, ◌≢◌, ◌⊎◌, ℕ, zero, suc, true, false, true≢false, List, [], ◌∷◌, ◌++◌, length, set, sym, refl, ap, ◌∙◌, subst, ⊎_elim, inl, inr}
+use Rattle.std.proofs.Common.{◌≡◌, ◌≢◌, ℕ, zero, suc, true≢false, List, [], ◌∷◌, ◌++◌, set, sym, refl, ap, ◌∙◌, subst, ⊎_elim, inl, inr}
 use mathlib.Core.Option.{some, some-ne-none, some-injective}
 use lib.ListN.{get_elem?}
 use Rattle.atomic_table.specs.Seated.{TableId}
 use Rattle.crossbeam_queue.specs.Fifo.{Forks, Learns, Pops, Pushes}
-use Rattle.crossbeam_queue.proofs.Lists.{at_set, at_snoc, set_again}
+use Rattle.crossbeam_queue.proofs.Lists.{at_snoc, set_again}
 use Rattle.live_hall.specs.declared.guest.Guest.{Guest}
 use Rattle.live_hall.specs.declared.place.Place.{Place}
 use Rattle.live_hall.specs.Houses.{EachFits, FitsCell, HousedFor, Houses, IsAt, place, unnamed}

@@ -1,5 +1,5 @@
 -- What a line's seats say stays so in a turn.
-use Rattle.std.proofs.Common.{◌≡◌, ◌∙◌, ℕ, List, [], ◌∷◌, ◌++◌, map, Some, None, sym, ap, refl}
+use Rattle.std.proofs.Common.{◌≡◌, ◌∙◌, ℕ, List, [], ◌∷◌, ◌++◌, map, None, sym, ap}
 use Rattle.std.specs.Prelude.{Option, option_to_list}
 use Rattle.node_host.specs.Moved.{Moved}
 use Rattle.quiesce_core.specs.State.{State}

@@ -1,3 +1,4 @@
+pub mod Boxed
 pub mod Lines
 pub mod Houses
 pub mod Doors

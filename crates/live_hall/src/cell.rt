@@ -5,7 +5,7 @@ ghost use Rattle.crossbeam_queue.specs.Fifo.{Held};
 ghost use Rattle.crossbeam_queue.specs.Passes.{IsPassOf, IsSamePass, ruled_capacity, view};
 ghost use Rattle.live_hall.specs.Houses.{FitsCell, HousedFor, IsAt, place};
 
-use crate::guest::Guest;
+use crate::boxed::BoxedGuest;
 use crate::place::Place;
 use config_graph::NoMemory;
 use crossbeam_queue::protocol::{Lesson, Outcome, Protocol, Split};
@@ -43,7 +43,7 @@ pub struct Housed<J> {
     of: PhantomData<J>,
 }
 
-impl<J: Named> Protocol<Guest, Place> for Housed<J> {
+impl<J: Named> Protocol<BoxedGuest, Place> for Housed<J> {
     ghost use Rattle.live_hall.specs.Houses.{Houses, unnamed};
 
     ghost holds = { Houses J.gates };
@@ -78,11 +78,11 @@ pub struct Puts<J> {
     of: PhantomData<J>,
 }
 
-impl<J: Named> Outcome<Guest, Place> for Puts<J> {
+impl<J: Named> Outcome<BoxedGuest, Place> for Puts<J> {
     ghost then = { λ v x w. w ≡ v };
 }
 
-impl<J: Named> Lesson<Guest, Place> for Puts<J> {
+impl<J: Named> Lesson<BoxedGuest, Place> for Puts<J> {
     ghost use Rattle.live_hall.specs.Houses.{HousedFor};
 
     ghost fact = { HousedFor J.gates };
@@ -93,22 +93,22 @@ pub struct Takes<J> {
     of: PhantomData<J>,
 }
 
-impl<J: Named> Outcome<Guest, Place> for Takes<J> {
+impl<J: Named> Outcome<BoxedGuest, Place> for Takes<J> {
     ghost use Rattle.live_hall.specs.Houses.{FitsCell};
 
     ghost then = { λ v x w. (w ≡ v) × FitsCell J.gates v.slot x };
 }
 
-impl<J: Named> Lesson<Guest, Place> for Takes<J> {
+impl<J: Named> Lesson<BoxedGuest, Place> for Takes<J> {
     ghost use Rattle.live_hall.specs.Houses.{HousedFor};
 
     ghost fact = { HousedFor J.gates };
 }
 
-pub type Cell<J> = RuledArrayQueue<Guest, Place, Housed<J>>;
+pub type Cell<J> = RuledArrayQueue<BoxedGuest, Place, Housed<J>>;
 
 /// A way in to a cell. It has no bytes.
-pub type Key = Pass<Guest, Place>;
+pub type Key = Pass<BoxedGuest, Place>;
 
 /// The empty cell of the slot that `S` names.
 fn picked<J: Named, S: Numbered>(alloc: Global, slot: u32) -> Result<(Cell<J>, Key), NoMemory>
@@ -142,8 +142,8 @@ pub fn put<J: Named, R: Wait>(
     rt: &R,
     cell: &Cell<J>,
     key: &mut Key,
-    node: Guest,
-) -> Result<(), Guest>
+    node: BoxedGuest,
+) -> Result<(), BoxedGuest>
     requires here { IsPassOf cell.now key.old }
     requires fits { (view key.old ≡ place node.node.slot) × IsAt J.gates node }
     ensures here { IsSamePass key.old key.new × (view key.new ≡ view key.old) }
@@ -153,7 +153,7 @@ pub fn put<J: Named, R: Wait>(
 }
 
 /// Takes the node. There is none only where the place was empty.
-pub fn take<J: Named, R: Wait>(rt: &R, cell: &Cell<J>, key: &mut Key) -> Option<Guest>
+pub fn take<J: Named, R: Wait>(rt: &R, cell: &Cell<J>, key: &mut Key) -> Option<BoxedGuest>
     requires here { IsPassOf cell.now key.old }
     requires named { (slot : ℕ) × (view key.old ≡ place slot) }
     ensures here { IsSamePass key.old key.new × (view key.new ≡ view key.old) }

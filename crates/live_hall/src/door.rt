@@ -9,9 +9,9 @@ ghost use Rattle.live_hall.specs.Doors.{Opens};
 ghost use Rattle.live_hall.specs.Houses.{FitsCell, HousedFor, IsAt, place};
 ghost use Rattle.base_pair_laws.specs.Paired.{Paired};
 
+use crate::boxed::BoxedGuest;
 use crate::cell;
 use crate::cell::{Cell, Named};
-use crate::guest::Guest;
 use crate::lock::Lock;
 use std::marker::Model;
 use std::sync::{Arc, Wait};
@@ -37,18 +37,18 @@ impl<J: Named, R: Wait> Model for Door<J, R> {
 impl<J: Named, R: Wait> Door<J, R> {
     /// Puts the node into its cell, and tries again while the place is taken. So it may wait, for as long as others
     /// take no node from there.
-    pub fn put(&mut self, node: Guest)
+    pub fn put(&mut self, node: BoxedGuest)
         requires slot { node.node.slot < MAX_NODES }
         requires gates { IsAt J.gates node }
         ensures { self.new ≡ self.old }
     {
-        let at = node.node.slot as usize;
+        let at = node.guest().node.slot as usize;
         let cells: &Vec<Cell<J>> = &self.cells;
         put_until(&self.rt, &cells[at], &mut self.locks[at], node);
     }
 
     /// Takes the node of a slot. There is none only where the cell was empty at that step.
-    pub fn take(&mut self, slot: u32) -> Option<Guest>
+    pub fn take(&mut self, slot: u32) -> Option<BoxedGuest>
         requires { slot < MAX_NODES }
         ensures taken { MatchOption result
             ((n : ℕ) × Rose (slice_index_or self.old slot 0) n × (self.new ≡ slice_set self.old slot n))
@@ -63,7 +63,7 @@ impl<J: Named, R: Wait> Door<J, R> {
 }
 
 /// Puts the node in once there is room.
-fn put_until<J: Named, R: Wait>(rt: &R, cell: &Cell<J>, lock: &mut Lock, node: Guest)
+fn put_until<J: Named, R: Wait>(rt: &R, cell: &Cell<J>, lock: &mut Lock, node: BoxedGuest)
     requires opens { Opens node.node.slot cell.now lock.old }
     requires gates { IsAt J.gates node }
     ensures opens { Opens node.node.slot cell.now lock.new }
@@ -81,7 +81,12 @@ fn put_until<J: Named, R: Wait>(rt: &R, cell: &Cell<J>, lock: &mut Lock, node: G
     }
 }
 
-fn take_here<J: Named, R: Wait>(rt: &R, cell: &Cell<J>, lock: &mut Lock, slot: u32) -> Option<Guest>
+fn take_here<J: Named, R: Wait>(
+    rt: &R,
+    cell: &Cell<J>,
+    lock: &mut Lock,
+    slot: u32,
+) -> Option<BoxedGuest>
     requires opens { Opens slot cell.now lock.old }
     ensures opens { Opens slot cell.now lock.new }
     ensures taken { MatchOption result (Rose lock.old.missed lock.new.missed)

@@ -18,7 +18,7 @@ use txn_turns::turn_at_gates;
 
 impl Guest {
     /// A turn of the node at the gates, by `turn_at_gates`. Its line is as it was.
-    pub fn turn<H: Hints>(
+    pub(crate) fn turn<H: Hints>(
         &mut self,
         gates: &Gates,
         hints: &mut H,
@@ -33,7 +33,7 @@ impl Guest {
     }
 
     /// A sight of each node of the line, the earliest first. The line, its seats and its logs are as they were.
-    pub fn sight(&mut self, gates: &Gates, seat: &mut ChangeSeat)
+    pub(crate) fn sight(&mut self, gates: &Gates, seat: &mut ChangeSeat)
         requires here { IsChangeSeatOf seat.old gates.now }
         requires at { IsAt gates.now.words.shared.table_id self.old }
         ensures here { table_of_change seat.new ≡ table_of_change seat.old }

@@ -1,6 +1,7 @@
 //! The hall: where nodes lie between their turns, a cell for each slot, which threads share by doors.
 #![tactic(auto)]
 
+mod boxed;
 mod cell;
 mod door;
 mod guest;
@@ -10,6 +11,7 @@ mod lock;
 mod making;
 mod place;
 
+pub use boxed::{Berth, BoxedGuest};
 pub use cell::Named;
 pub use door::Door;
 pub use guest::Guest;

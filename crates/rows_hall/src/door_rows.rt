@@ -6,7 +6,7 @@ ghost use Rattle.live_hall.specs.Houses.{IsAt};
 
 use crate::guests::sink;
 use config_graph::NoMemory;
-use live_hall::{Door, Guest, Hall, Named};
+use live_hall::{BoxedGuest, Door, Hall, Named};
 use live_hands::Inboxes;
 use node_host::Turn;
 use std::alloc::Global;
@@ -21,7 +21,7 @@ fn put_and_taken<J: Named, R: Wait + Copy + Abort>(
     rt: R,
     alloc: Global,
     gates: &Gates,
-    guest: Guest,
+    guest: BoxedGuest,
 ) -> Result<(), NoMemory>
     requires named { J.gates ≡ gates.now.words.shared.table_id }
     requires slot { guest.node.slot ≡ 0 }
@@ -35,7 +35,7 @@ fn put_and_taken<J: Named, R: Wait + Copy + Abort>(
     door.put(guest);
     assert!(rt; door.take(1).is_none());
     let taken = door.take(0).expect(&rt, "the node that was put");
-    assert_eq!(rt; taken.node.slot, 0);
+    assert_eq!(rt; taken.guest().node.slot, 0);
     assert!(rt; door.take(0).is_none());
     Ok(())
 }
@@ -54,7 +54,7 @@ fn turned_at_another<J: Named, R: Wait + Copy + Abort>(
     rt: R,
     alloc: Global,
     gates: &Gates,
-    guest: Guest,
+    guest: BoxedGuest,
 ) -> Result<(), NoMemory>
     requires named { J.gates ≡ gates.now.words.shared.table_id }
     requires slot { guest.node.slot ≡ 0 }
@@ -72,7 +72,7 @@ fn turned_at_another<J: Named, R: Wait + Copy + Abort>(
     assert_eq!(rt; turn, Turn::Still);
     other.put(taken);
     let back = one.take(0).expect(&rt, "the node behind its turn");
-    assert_eq!(rt; back.node.slot, 0);
+    assert_eq!(rt; back.guest().node.slot, 0);
     assert!(rt; other.take(0).is_none());
     Ok(())
 }

@@ -16,7 +16,7 @@ use change_law::Start;
 use command_files::prepare;
 use config_graph::NoMemory;
 use live_board::{LiveBoard, Turnstile};
-use live_hall::{Door, Guest, Hall, Named};
+use live_hall::{BoxedGuest, Door, Hall, Named};
 use live_hands::{Hand, Inboxes};
 use node_host::Turn;
 use std::alloc::Global;
@@ -64,7 +64,11 @@ impl Turnstile for Counting {
 }
 
 /// A turn beside the board. Tells whether it moved.
-fn moves<R: Wait>(gates: &Gates, hand: &mut Hand<R>, guest: &mut Guest) -> Result<bool, NoMemory>
+fn moves<R: Wait>(
+    gates: &Gates,
+    hand: &mut Hand<R>,
+    guest: &mut BoxedGuest,
+) -> Result<bool, NoMemory>
     requires { IsAt gates.now.words.shared.table_id guest.old }
     ensures tables { tables_of guest.new ≡ tables_of guest.old }
     ensures slot { guest.new.node.slot ≡ guest.old.node.slot }
@@ -78,8 +82,8 @@ fn moves<R: Wait>(gates: &Gates, hand: &mut Hand<R>, guest: &mut Guest) -> Resul
 fn fills<R: Wait>(
     gates: &Gates,
     hand: &mut Hand<R>,
-    source: &mut Guest,
-    buffer: &mut Guest,
+    source: &mut BoxedGuest,
+    buffer: &mut BoxedGuest,
 ) -> Result<bool, NoMemory>
     requires source { IsAt gates.now.words.shared.table_id source.old }
     requires buffer { IsAt gates.now.words.shared.table_id buffer.old }
@@ -129,7 +133,7 @@ fn seen_apart<J: Named, R: Wait + Copy + Abort, B: Board + Drop>(
     assert_eq!(rt; finish(engine, 1)?, 1);
     let mut buffer = door.take(BUFFER).expect(&rt, "the buffer");
     assert!(rt; fills(gates, hand, &mut source, &mut buffer)?);
-    assert!(rt; source.node.done() && !buffer.node.done());
+    assert!(rt; source.guest().node.done() && !buffer.guest().node.done());
     door.put(source);
     assert_eq!(rt; finish(engine, 1)?, 1);
     door.put(buffer);

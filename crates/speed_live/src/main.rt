@@ -8,7 +8,7 @@ ghost use Rattle.live_hall.specs.Houses.{IsAt};
 
 use crossbeam_queue::protocol::Free;
 use crossbeam_queue::{Pass, RuledArrayQueue};
-use live_hall::{Door, Guest, Hall, Named};
+use live_hall::{BoxedGuest, Door, Hall, Named};
 use live_hands::{Hand, Inboxes};
 use port_queue::{Hints, MAX_HINTS};
 use rows_hall::sink;
@@ -73,7 +73,7 @@ fn post_and_take<R: Wait>(hand: &mut Hand<R>) -> bool {
 }
 
 /// Whether the node is taken each time that it is put in.
-fn put_and_take<J: Named, R: Wait>(door: &mut Door<J, R>, guest: Guest) -> bool
+fn put_and_take<J: Named, R: Wait>(door: &mut Door<J, R>, guest: BoxedGuest) -> bool
     requires slot { guest.node.slot ≡ 0 }
     requires gates { IsAt J.gates guest }
 {
@@ -105,9 +105,9 @@ fn push_and_pop<R: Wait>(rt: &R, queue: &Queue<u32>, pass: &mut Pass<u32, ()>) -
 /// Whether the node is popped each time that it is pushed.
 fn push_and_pop_node<R: Wait>(
     rt: &R,
-    queue: &Queue<Guest>,
-    pass: &mut Pass<Guest, ()>,
-    guest: Guest,
+    queue: &Queue<BoxedGuest>,
+    pass: &mut Pass<BoxedGuest, ()>,
+    guest: BoxedGuest,
 ) -> bool
     requires { IsPassOf queue.now pass.old }
 {
@@ -145,7 +145,7 @@ fn nodes<J: Named, R: Wait + Copy + Clock>(
     rt: R,
     alloc: Global,
     gates: &Gates,
-    guest: Guest,
+    guest: BoxedGuest,
 ) -> Result<u64, Unmeasured>
     requires named { J.gates ≡ gates.now.words.shared.table_id }
     requires slot { guest.node.slot ≡ 0 }
@@ -161,8 +161,12 @@ fn nodes<J: Named, R: Wait + Copy + Clock>(
     tenths(&rt, start, came)
 }
 
-fn bare_nodes<R: Wait + Clock>(rt: &R, alloc: Global, guest: Guest) -> Result<u64, Unmeasured> {
-    let (queue, mut pass) = Queue::<Guest>::ruled(alloc, 1)?;
+fn bare_nodes<R: Wait + Clock>(
+    rt: &R,
+    alloc: Global,
+    guest: BoxedGuest,
+) -> Result<u64, Unmeasured> {
+    let (queue, mut pass) = Queue::<BoxedGuest>::ruled(alloc, 1)?;
     let start = Instant::now(rt)?;
     let came = push_and_pop_node(rt, &queue, &mut pass, guest);
     tenths(rt, start, came)

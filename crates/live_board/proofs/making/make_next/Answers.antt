@@ -3,7 +3,7 @@ use Rattle.std.specs.List.{AllByRecursion}
 use Rattle.std.proofs.lemmas.List.{length-map}
 use Rattle.atomic_table.specs.Seated.{TableId}
 use Rattle.live_board.specs.Behind.{HasBehind}
-use Rattle.live_board.specs.Making.{SightsLine}
+use Rattle.live_board.specs.Making.{Made, SightsLine}
 use Rattle.live_hall.specs.Sighting.{PastSeen, sight_of, views_of}
 use Rattle.quiesce_core.specs.declared.event.Event.TheVariants.{Make}
 use Rattle.quiesce_core.specs.declared.known.Known.{Known}
@@ -19,34 +19,37 @@ use Rattle.live_board.proofs.MakeLemmas.{config_sighted, make_fits, make_limits,
 use Rattle.live_board.proofs.SightingLaws.{looked}
 use Rattle.live_board.proofs.making.make_next.Goals as goal
 
-pub handed-requires-clause-rests : goal.handed-requires-clause-rests
-handed-requires-clause-rests c =
+pub handed-guest-requires-clause-rests : goal.handed-guest-requires-clause-rests
+handed-guest-requires-clause-rests c =
+    rw c.into_guest-old.ensures (
     let x = c.args.old.node in
     let f =
     source_guest (record_of c.args.seat.now) (record_of c.make_node-theirs.new.seat) c.args.node.now c.args.from (node_in x.seat) _ (ghosts.state x.inner) x.slot x.first_port c.requires.may
     (ap (λ (k : ChangeView). k.entries) c.make_node-theirs.ensures.change) c.args.old.at c.requires.fits.0 c.sight.ensures.made in
     ap (λ q. (ghosts.state q).service) c.sight.ensures.own.1
-    ∙ rests_told x.slot x.first_port (ghosts.state x.inner) x.log.items _ x.known x.waiting _ x.hosted (ap (λ (w : Known). w.service) (sym x.seat.known_is) ∙ f.1)
+    ∙ rests_told x.slot x.first_port (ghosts.state x.inner) x.log.items _ x.known x.waiting _ x.hosted (ap (λ (w : Known). w.service) (sym x.seat.known_is) ∙ f.1))
 
-pub handed-requires-clause-fits : goal.handed-requires-clause-fits
-handed-requires-clause-fits c =
+pub handed-guest-requires-clause-fits : goal.handed-guest-requires-clause-fits
+handed-guest-requires-clause-fits c =
+    rw c.into_guest-old.ensures (
     let x = c.args.old.node in
     let f =
     source_guest (record_of c.args.seat.now) (record_of c.make_node-theirs.new.seat) c.args.node.now c.args.from (node_in x.seat) _ (ghosts.state x.inner) x.slot x.first_port c.requires.may
     (ap (λ (k : ChangeView). k.entries) c.make_node-theirs.ensures.change) c.args.old.at c.requires.fits.0 c.sight.ensures.made in
-    make_fits (config_of (record_of c.args.seat.now)) c.args.node.now (Some c.args.from) c.requires.may _ (sym (ap (λ q. (ghosts.state q).kind) c.sight.ensures.own.1 ∙ f.0))
+    make_fits (config_of (record_of c.args.seat.now)) c.args.node.now (Some c.args.from) c.requires.may _ (sym (ap (λ q. (ghosts.state q).kind) c.sight.ensures.own.1 ∙ f.0)))
 
-pub handed-requires-clause-limits : goal.handed-requires-clause-limits
-handed-requires-clause-limits c =
+pub handed-guest-requires-clause-limits : goal.handed-guest-requires-clause-limits
+handed-guest-requires-clause-limits c =
+    rw c.into_guest-old.ensures (
     let x = c.args.old.node in
     let f =
     source_guest (record_of c.args.seat.now) (record_of c.make_node-theirs.new.seat) c.args.node.now c.args.from (node_in x.seat) _ (ghosts.state x.inner) x.slot x.first_port c.requires.may
     (ap (λ (k : ChangeView). k.entries) c.make_node-theirs.ensures.change) c.args.old.at c.requires.fits.0 c.sight.ensures.made in
     make_limits (config_of (record_of c.args.seat.now)) c.args.node.now (Some c.args.from) c.requires.may _ c.made-made.result.nodes c.made-made.result.ports (sym (ap (λ q. (ghosts.state q).kind) c.sight.ensures.own.1 ∙ f.0))
-    c.made-made.ensures.nodes c.made-made.ensures.ports
+    c.made-made.ensures.nodes c.made-made.ensures.ports)
 
-pub handed-requires-clause-room : goal.handed-requires-clause-room
-handed-requires-clause-room c =
+pub handed-guest-requires-clause-room : goal.handed-guest-requires-clause-room
+handed-guest-requires-clause-room c =
     let x = c.args.old.node in
     let r1 = record_of c.make_node-theirs.new.seat in
     let q = c.requires.room in
@@ -59,10 +62,12 @@ handed-requires-clause-room c =
     let same = ap length c.sight.ensures.past in
     let one = length-map {B = PastSeen} c.sight.new.self.node.past.items (λ p. record { slot = p.slot; first = p.first_port; arg = p.arg; log = p.log.items; view = node_in p.seat; table = table_of_node p.seat }) in
     let two = length-map {B = PastSeen} x.past.items (λ p. record { slot = p.slot; first = p.first_port; arg = p.arg; log = p.log.items; view = node_in p.seat; table = table_of_node p.seat }) in
-    omega (arith, fewer, same, one, two, c.args.blank.has_room)
+    let taken = ap (λ y. length y.node.past.items) c.into_guest-old.ensures in
+    omega (arith, fewer, same, one, two, taken, c.args.blank.has_room)
 
-pub handed-requires-clause-seat : goal.handed-requires-clause-seat
-handed-requires-clause-seat c =
+pub handed-guest-requires-clause-seat : goal.handed-guest-requires-clause-seat
+handed-guest-requires-clause-seat c =
+    rw c.into_guest-old.ensures (
     let x = c.args.old.node in
     let f =
     source_guest (record_of c.args.seat.now) (record_of c.make_node-theirs.new.seat) c.args.node.now c.args.from (node_in x.seat) _ (ghosts.state x.inner) x.slot x.first_port c.requires.may
@@ -72,7 +77,7 @@ handed-requires-clause-seat c =
       c.make_node-theirs.ensures.node ∙ (λ i. made_node (sym made.nodes i) (sym made.ports i) c.args.node.now (Some (sym (c.sight.ensures.slot ∙ c.requires.fits.0) i))),
       sym (ap (λ q. (ghosts.state q).kind) c.sight.ensures.own.1 ∙ f.0),
       refl,
-    )
+    ))
 
 pub returns : goal.returns
 returns c =
@@ -87,7 +92,7 @@ returns c =
     (record { slot = x.slot; first = x.first_port; arg = (ghosts.state x.inner).arg; log = x.log.items }) (x.hosted.tells _ refl) x.past.items (config_of (record_of c.make_node-theirs.new.seat)) c.args.old.line c.sight.ensures.made
     (λ line seats. c.seats_tell_of_their_line.ensures.made (config_of (record_of c.make_node-theirs.new.seat)) _ line seats) in
     record {
-      made = record {
+      made = subst (Made c.args.gates.now c.args.seat.now c.sight.new.seat c.args.node.now (Some c.args.from)) (sym c.take_in.ensures) (record {
         here = c.sight.ensures.here ∙ c.make_node-theirs.ensures.here.0;
         entries = record {
           sights = looked_at.0;
@@ -99,12 +104,12 @@ returns c =
         nodes = c.sight.ensures.nodes ∙ c.make_node-theirs.ensures.nodes;
         spare = ap (λ k. k + 1) c.sight.ensures.spare ∙ c.make_node-theirs.ensures.spare;
         fits = (
-          c.handed.ensures.place.0 ∙ c.made-made.ensures.nodes,
+          c.handed-guest.ensures.place.0 ∙ c.made-made.ensures.nodes,
           (
-            ap table_of_node c.handed.ensures.seat ∙ c.make_node-theirs.ensures.here.1 ∙ c.requires.here,
-            subst (AllByRecursion at) (sym c.handed.ensures.past) (rotated at (table_of_node c.sight.new.self.node.seat) _ tables),
+            ap table_of_node c.handed-guest.ensures.seat ∙ c.make_node-theirs.ensures.here.1 ∙ c.requires.here,
+            subst (AllByRecursion at) (sym (c.handed-guest.ensures.past ∙ ap (λ y. map (λ p. table_of_node p.seat) y.node.past.items ++ table_of_node y.node.seat ∷ []) c.into_guest-old.ensures)) (rotated at (table_of_node c.sight.new.self.node.seat) _ tables),
           ),
         );
         below = slot_below (config_of r) c.args.node.now (Some c.args.from) c.requires.may;
-      };
+      });
     }

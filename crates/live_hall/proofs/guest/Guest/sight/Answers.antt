@@ -1,14 +1,11 @@
-use Rattle.std.proofs.Common.{◌≡◌, ◌∙◌, ℕ, ◌∷◌, [], ◌++◌, List, map, Some, None, refl, ap, sym, subst}
-use Rattle.std.specs.List.{AllByRecursion}
-use Rattle.txn_records.specs.Entries.{config_of}
+use Rattle.std.proofs.Common.{◌≡◌, ◌∙◌, ◌∷◌, map, Some, refl, ap, sym}
 use Rattle.txn_law.specs.Views.{node_at}
 use Rattle.txn_law.specs.declared.view.ChangeView.{ChangeView}
-use Rattle.live_hall.specs.Lines.{LinePlace, line_words, seen_word}
-use Rattle.live_hall.specs.Sighting.{IsMadeIn, PastSeen, past_seen}
+use Rattle.live_hall.specs.Lines.{seen_word}
+use Rattle.live_hall.specs.Sighting.{PastSeen, past_seen}
 use Rattle.live_hall.proofs.LineLaws.{line_with}
 use Rattle.live_hall.proofs.PastLaws.{each_place, hosted_with, made_more, read_off}
-use Rattle.txn_gate.specs.Seats.{node_in, record_of, table_of_node}
-use Rattle.txn_gate.specs.declared.node_seat.NodeSeat.{NodeSeat}
+use Rattle.txn_gate.specs.Seats.{node_in, record_of}
 use Rattle.live_hall.proofs.guest.Guest.sight.Goals as goal
 
 pub invariant_of-self : goal.invariant_of-self

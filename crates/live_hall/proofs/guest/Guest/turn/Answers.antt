@@ -1,5 +1,4 @@
 use Rattle.std.proofs.Common.{ap}
-use Rattle.txn_law.specs.Views.{node_at}
 use Rattle.live_hall.specs.Lines.{seen_word}
 use Rattle.txn_gate.specs.Seats.{node_in}
 use Rattle.live_hall.proofs.LineLaws.{turned}
