@@ -6,4 +6,6 @@ mod ending;
 mod running;
 mod working;
 
+pub use live_board::Turnstile;
 pub use running::{Ran, run_on_threads};
+pub use watch_threads::Observers;

@@ -11,7 +11,7 @@ ghost use Rattle.watch_lines.specs.Observers.{AreToldOf};
 ghost use Rattle.watch_threads.specs.Hearing.{HasHeard};
 
 use crate::ending::look_last;
-use crate::working::{Flags, work};
+use crate::working::{Flags, Share, work};
 use change_board::Board;
 use change_law::{Start, Step};
 use change_runner::run_statements;
@@ -98,6 +98,7 @@ where
 {
     let door = own_way(&mut doors);
     let hand = own_way(&mut hands);
+    let workers = doors.len();
     thread::scope(
         thread::scope_env(),
         &rt,
@@ -112,7 +113,8 @@ where
             let mut worker = 0_u32;
             for (door, hand) in doors.into_iter().zip(hands) {
                 worker = worker.wrapping_add(1);
-                let _ = scope.spawn(move || work(&rt, gates, door, hand, told, stile, worker));
+                let share = Share { worker, workers };
+                let _ = scope.spawn(move || work(&rt, gates, door, hand, told, stile, share));
             }
             let board = LiveBoard::new(rt, alloc, gates, seat, door, hand, stile, &told.short);
             let ran = carry_out(alloc, board, start, steps, watch, observers.count);

@@ -13,8 +13,31 @@ use std::sync::atomic::{AtomicBool, Ordering};
 use std::thread;
 use txn_gate::Gates;
 
-/// A worker looks into the cells of all slots once in so many rounds, and else only where it found nodes before.
-const ROUNDS_TO_FAR_SLOTS: u32 = 256;
+/// A worker looks into the cells of all slots once in so many rounds, since nodes are made and other workers may stand
+/// still; and else only into those of its share below which it found nodes before.
+const ROUNDS_TO_ALL_SLOTS: u32 = 256;
+
+/// Which worker this is, from 1 on, and how many there are. Each has a share of the slots, so that nodes mostly stay
+/// with one worker.
+#[derive(Clone, Copy)]
+pub struct Share {
+    pub worker: u32,
+    pub workers: usize,
+}
+
+impl Share {
+    /// Whether a slot is of this worker's share.
+    fn has(&self, slot: u32) -> bool {
+        self.workers == 0 || slot as usize % self.workers == self.worker as usize % self.workers
+    }
+}
+
+/// Which cells a worker looks into in a round: those of slots below this, of its own share or of all.
+#[derive(Clone, Copy)]
+struct Reach {
+    slots: u32,
+    is_all: bool,
+}
 
 /// What the thread of the change and the workers tell one another.
 #[derive(Drop)]
@@ -65,27 +88,41 @@ fn give_turn<J: Named, R: Wait, T: Turnstile>(
     Ok(Some(turn?))
 }
 
-/// Gives each node that lies in the hall, in a slot below this, a turn, in the order of slots.
+/// Where a worker looks in a round of this number, where nodes were found in slots below this.
+fn reach_of(rounds: u32, known: u32) -> Reach
+    requires { known ≤ MAX_NODES }
+    ensures { result.slots ≤ MAX_NODES }
+{
+    let is_all = rounds % ROUNDS_TO_ALL_SLOTS == 0;
+    Reach {
+        slots: if is_all { MAX_NODES } else { known },
+        is_all,
+    }
+}
+
+/// Gives each node that lies in the hall within this reach a turn, in the order of slots.
 fn give_turns<J: Named, R: Wait, T: Turnstile>(
     gates: &Gates,
     door: &mut Door<J, R>,
     hand: &mut Hand<R>,
     stile: &T,
-    worker: u32,
-    slots: u32,
+    share: Share,
+    reach: Reach,
 ) -> Result<Round, NoMemory>
     requires named { J.gates ≡ gates.now.words.shared.table_id }
-    requires few { slots ≤ MAX_NODES }
+    requires few { reach.slots ≤ MAX_NODES }
     ensures few { IfOk result (λ r. r.slots ≤ MAX_NODES) }
 {
     let mut round = Round {
         slots: 0,
         moved: false,
     };
-    for slot in 0..slots {
-        if let Some(turn) = give_turn(gates, door, hand, stile, worker, slot)? {
-            round.slots = slot + 1;
-            round.moved |= turn != Turn::Still;
+    for slot in 0..reach.slots {
+        if reach.is_all || share.has(slot) {
+            if let Some(turn) = give_turn(gates, door, hand, stile, share.worker, slot)? {
+                round.slots = slot + 1;
+                round.moved |= turn != Turn::Still;
+            }
         }
     }
     Ok(round)
@@ -99,7 +136,7 @@ fn give_all_turns<J: Named, R: Wait + Copy, T: Turnstile>(
     hand: &mut Hand<R>,
     stop: &AtomicBool,
     stile: &T,
-    worker: u32,
+    share: Share,
 ) -> Result<(), NoMemory>
     requires named { J.gates ≡ gates.now.words.shared.table_id }
 {
@@ -109,9 +146,8 @@ fn give_all_turns<J: Named, R: Wait + Copy, T: Turnstile>(
         if stop.load(Ordering::SeqCst) {
             return Ok(());
         }
-        let far = rounds % ROUNDS_TO_FAR_SLOTS == 0;
-        let slots = if far { MAX_NODES } else { known };
-        let round = give_turns(gates, door, hand, stile, worker, slots)?;
+        let reach = reach_of(rounds, known);
+        let round = give_turns(gates, door, hand, stile, share, reach)?;
         known = known.max(round.slots);
         rounds = rounds.wrapping_add(1);
         if !round.moved {
@@ -129,11 +165,11 @@ pub fn work<J: Named, R: Wait + Copy, T: Turnstile>(
     mut hand: Hand<R>,
     flags: &Flags,
     stile: &T,
-    worker: u32,
+    share: Share,
 )
     requires named { J.gates ≡ gates.now.words.shared.table_id }
 {
-    let turns = give_all_turns(rt, gates, &mut door, &mut hand, &flags.stop, stile, worker);
+    let turns = give_all_turns(rt, gates, &mut door, &mut hand, &flags.stop, stile, share);
     if turns.is_err() {
         flags.short.store(true, Ordering::SeqCst);
     }
