@@ -25,7 +25,7 @@ use command_answers::Status;
 use command_law::rolls_end_by_their_rounds;
 use command_laws::made_runs_are_not_refused;
 use command_program::{still, write_no_memory};
-use live_board::Turnstile;
+use live_run::Turnstile;
 use std::alloc::Global;
 use std::sync::Wait;
 use std::thread::Threads;
@@ -66,7 +66,7 @@ where
         → Asks (map string_bytes words.now) (commands.Live name workers 0) → IsRunStatus result.0
         → RanShowing (threads 0) (λ report bytes. bytes ≡ report_text report) (H.files shelf.old) name result.0
         (K.taken out.old) (K.taken out.new) }
-    // With `--watch` what observers saw stands behind it.
+    // With `--watch` lines of observers stand behind it, each right for its commit.
     ensures watched { (name : List ℕ) (workers observers : ℕ)
         → Asks (map string_bytes words.now) (commands.Live name workers observers) → IsRunStatus result.0
         → RanShowing (threads observers) (λ report bytes. Watched report observers bytes) (H.files shelf.old) name

@@ -16,7 +16,7 @@ use crate::running::answer_script;
 use cfg_io::{Shelf, Sink};
 use command_answers::Status;
 use command_program::{write_answer, write_no_memory, write_text, write_usage};
-use live_board::Turnstile;
+use live_run::Turnstile;
 use std::alloc::Global;
 use std::sync::Wait;
 use std::thread::Threads;
@@ -24,8 +24,9 @@ use txn_gate::{ChangeSeat, Gates};
 
 /// Runs the script that the words name on these gates, on which nothing was made: so many workers give the nodes their
 /// turns, before each of which the turnstile is called, while this thread changes the system, and observers read the
-/// committed graph. Writes the report and what the observers saw, or one line that refuses. The seat comes back exactly
-/// where a report was written, and agrees with it. It may wait, and where some node is never done it may never return.
+/// committed graph. Writes the report, and behind it lines of each observer, or one line that refuses. The seat comes
+/// back exactly where a report was written, and agrees with it. It may wait, and where some node is never done it may
+/// never return.
 /// What each status says are the laws of command_law, of each run.
 pub fn live<H: Shelf, K: Sink, R, T>(
     rt: R,
@@ -49,7 +50,7 @@ where
     ensures kept { H.files shelf.new ≡ H.files shelf.old }
     // The seat comes back exactly where the run ended as its report says.
     ensures back { IsTrue (is_some result.1) ↔ IsRunStatus result.0 }
-    // One report was written, and behind it what observers saw. It is lawful on threads, is borne by the record of that
+    // One report was written, and behind it lines of observers. It is lawful on threads, is borne by the record of that
     // seat, and has the logs that this took in.
     ensures agrees { IfSome result.1 (ComesBack gates.now.words.shared.table_id
         (run_of H.Shelf K.Sink (map string_bytes words.now) shelf.old shelf.new out.old out.new result.0)) }

@@ -16,7 +16,7 @@ use cfg_io::{Shelf, Sink};
 use command_answers::Status;
 use command_program::write_no_memory;
 use config_graph::NoMemory;
-use live_board::Turnstile;
+use live_run::Turnstile;
 use std::alloc::Global;
 use std::env::Args;
 use std::io;

@@ -18,18 +18,16 @@ use crate::request::Request;
 use cfg_io::Shelf;
 use command_files::{Answer, Prepared, Stop, answer_run, prepare};
 use config_graph::{List, NoMemory};
-use live_board::Turnstile;
-use live_run::run_on_threads;
+use live_run::{Observers, Turnstile, run_on_threads};
 use report_types::Report;
 use std::alloc::Global;
 use std::sync::Wait;
 use std::thread::Threads;
 use txn_gate::{ChangeSeat, Gates};
 use watch_lines::{Sighting, push_watch_text};
-use watch_threads::Observers;
 
-/// Fetches a script and what it uses, runs it on these gates, and answers the report, and behind it what observers saw.
-/// With it comes the seat, which agrees with it.
+/// Fetches a script and what it uses, runs it on these gates, and answers the report, and behind it lines of each
+/// observer. With it comes the seat, which agrees with it.
 pub fn answer_script<H, R, T>(
     rt: R,
     alloc: Global,
@@ -61,7 +59,7 @@ where
     Ok(run_script(rt, alloc, stile, request, gates, seat, asked)?)
 }
 
-/// Runs what a script asks for, and answers the report, and behind it what observers saw.
+/// Runs what a script asks for, and answers the report, and behind it lines of each observer.
 fn run_script<R, T>(
     rt: R,
     alloc: Global,
