@@ -4,7 +4,7 @@ ghost use Rattle.std.specs.Prelude.{◌≤◌, IfOk, length};
 
 use config_graph::NoMemory;
 use live_hands::{Hand, Inboxes};
-use port_queue::{Full, Hints, MAX_HINTS};
+use port_queue::{Full, Hints};
 use std::alloc::Global;
 use std::sync::Wait;
 use std::test::Fail;
@@ -15,6 +15,9 @@ use std::thread::Threads;
 const HINTS: u32 = 1_000;
 
 const NODE: u32 = 7;
+
+/// How many hints an inbox holds. The number stands here once more, so that another limit fails.
+const ROOM: u32 = 1_024;
 
 /// How often a call that was refused is made again at most. So a row ends, and fails, where one refuses for good.
 const TRIES: u32 = 10_000_000;
@@ -123,7 +126,7 @@ fn full_for_all_hands(rt: HostRuntime) -> Result<(), Fail> {
         return Err(Fail::new("two hands"));
     };
     assert!(rt; two.next(NODE).is_none());
-    for port in 0..MAX_HINTS {
+    for port in 0..ROOM {
         assert!(rt; one.post(NODE, port).is_ok());
     }
     assert_eq!(rt; two.post(NODE, 5), Err(Full));
