@@ -24,12 +24,14 @@ use std::sync::atomic::AtomicBool;
 use std::test::Fail;
 use txn_gate::{ChangeSeat, Gates};
 
-/// A teller that moves between two accounts, and a source whose items go through a buffer.
+/// A teller that moves between two accounts, a source whose items go through a buffer, and one whose items go through four
+/// maps, beside another that leads to a sink.
 pub(crate) const SYSTEM: &str = "component teller(int n) { require move; }
 component branch { provide move; require from, to; }
 component account(int b) { provide post; }
 component source(int n) { require out; }
 component buffer(int cap) { provide in; require next; }
+component map(int k) { provide in; require next; }
 component sink { provide in; }
 component Bank(int n, int x, int y) {
   inst a:account(x); b:account(y); r:branch; w:teller(n);
@@ -39,10 +41,15 @@ component Line(int n, int cap) {
   inst s:source(n); q:buffer(cap); t:sink;
   bind s.out -- q.in; q.next -- t.in;
 }
+component Chain(int k) {
+  inst a:source(2); b:sink; c:source(2); d:map(k); e:map(0); f:map(0); g:map(0); h:sink;
+  bind a.out -- b.in;
+       c.out -- d.in; d.next -- e.in; e.next -- f.in; f.next -- g.in; g.next -- h.in;
+}
 ";
 
-/// Each hands a state over, in one of them twice.
-const SCRIPTS: [&str; 2] = [
+/// Two hand a state over, in one of them twice. In the third a chain is changed while the end of it has done nothing yet.
+const SCRIPTS: [&str; 3] = [
     "use system.dar
 start Bank(3,100,0)
 run 2
@@ -57,6 +64,13 @@ run 3
 change to Line(5,4) within 30 moving q -> q
 run 2
 change to Line(5,2) within 30 moving q -> q
+finish within 100
+end
+",
+    "use system.dar
+start Chain(1)
+run 1
+change to Chain(2) within 30
 finish within 100
 end
 ",
@@ -120,7 +134,7 @@ fn same_lines(one: &[u8], other: &[u8]) -> Option<u32> {
     }
 }
 
-/// Runs a script both ways.
+/// Runs a script both ways. Each of its changes is committed.
 fn run_both<R: Wait + Abort + Copy>(rt: R, alloc: Global, script: &str) -> Result<(), Fail> {
     let mut shelf = MemShelf::new(alloc);
     shelf.add("system.dar", SYSTEM.as_bytes())?;
@@ -136,7 +150,8 @@ fn run_both<R: Wait + Abort + Copy>(rt: R, alloc: Global, script: &str) -> Resul
     };
     let report = report_on_gates(rt, alloc, asked)?;
     let text = report_text(alloc, &report)?;
-    assert_eq!(rt; report.status, status.number());
+    assert_eq!(rt; status.number(), 0);
+    assert_eq!(rt; report.status, 0);
     assert!(rt; same_lines(text.as_slice(), sink.bytes()).is_some());
     Ok(())
 }
