@@ -17,6 +17,9 @@ use watch_threads::{Observers, Sighting, Watch};
 /// How often a row looks for what observers noted at most. So it ends, and fails, where they note nothing.
 const LOOKS: u32 = 10_000_000;
 
+/// How many watches there are at most, until each observer looked on in one of them.
+const WATCHES: u32 = 1_000;
+
 /// What an observer notes before the first commit.
 const NOTHING: Sighting = Sighting {
     commits: 0,
@@ -33,8 +36,11 @@ const fn one_node(commits: u32) -> Sighting {
     }
 }
 
-/// Waits until an observer noted so many commits, and says whether one did.
+/// Waits until an observer noted so many commits, and says whether one did, where there is any.
 fn is_noted(observers: &Observers, commits: u32) -> bool {
+    if observers.count == 0 {
+        return true;
+    }
     for _ in 0..LOOKS {
         if observers.seen.load(Ordering::SeqCst) >= commits {
             return true;
@@ -44,7 +50,8 @@ fn is_noted(observers: &Observers, commits: u32) -> bool {
     false
 }
 
-/// The lines of observers beside two commits. The second comes once one of them noted the first, where there is any.
+/// The lines of observers beside two commits, and whether one of them noted the first before the second was made, and the
+/// second before the end.
 fn beside_two_commits<R: Threads + Wait + Copy + Send + Sync>(
     rt: R,
     alloc: Global,
@@ -61,8 +68,9 @@ fn beside_two_commits<R: Threads + Wait + Copy + Send + Sync>(
         {
             let mut watch = Watch::begin(scope, rt, alloc, observers)?;
             watch.committed(graph)?;
-            let noted = is_noted(observers, observers.count.min(1));
+            let first = is_noted(observers, 1);
             watch.committed(graph)?;
+            let noted = first && is_noted(observers, 2);
             Ok((noted, watch.end(alloc, observers.count)?))
         },
     )
@@ -100,6 +108,31 @@ fn all_observers(rt: HostRuntime) -> Result<(), Fail> {
         }
     }
     Ok(())
+}
+
+/// Whether an observer noted more than the last commit, of which it learns at the end.
+fn has_looked_on(lines: &List<Sighting>) -> bool {
+    lines.items().len() > 1
+}
+
+/// Each of four observers looks on before the end, in one of a thousand watches.
+#[test]
+fn each_looks_on(rt: HostRuntime) -> Result<(), Fail> {
+    let alloc = rt.alloc();
+    let graph = one_sink(alloc)?;
+    let mut looked = [false; 4];
+    for _ in 0..WATCHES {
+        let observers = Observers::new(4);
+        let (noted, lines) = beside_two_commits(rt, alloc, &observers, &graph)?;
+        assert!(rt; noted);
+        for (looked, lines) in looked.iter_mut().zip(&lines) {
+            *looked |= has_looked_on(lines);
+        }
+        if looked == [true; 4] {
+            return Ok(());
+        }
+    }
+    Err(Fail::new("an observer that looks on"))
 }
 
 /// A watch that is let go behind a commit, with all of its observers.
