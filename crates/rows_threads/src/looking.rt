@@ -29,10 +29,10 @@ pub fn word_of(gates: &Gates, port: u32) -> Word
     Word::of(gates.words.shared.peek(port as usize))
 }
 
-/// Waits until that has come, and sets the flag where it never does.
+/// Waits until that has come, and sets the flag where it never does. Nobody waits any more once the flag is set.
 pub fn await_it<A: Awaited>(awaited: &A, missed: &AtomicBool) {
     for _ in 0..LOOKS {
-        if awaited.has_come() {
+        if awaited.has_come() || missed.load(Ordering::SeqCst) {
             return;
         }
         thread::yield_now();

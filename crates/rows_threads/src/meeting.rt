@@ -1,45 +1,56 @@
-//! A turnstile at which two workers meet.
+//! A turnstile at which all workers meet.
 
-use crate::looking::await_it;
+use crate::looking::{Awaited, await_it};
 use live_board::Turnstile;
-use std::sync::atomic::{AtomicBool, Ordering};
+use std::sync::atomic::{AtomicBool, AtomicU32, Ordering};
 
-/// Holds worker 1 before its first turn until worker 2 has come to one, and the thread of the change until then.
+/// Holds whoever comes to a turn, the thread of the change too, until all of so many workers have come to one.
 #[derive(Drop)]
 pub struct Meeting {
-    /// Worker 2 has come to a turn.
-    came: AtomicBool,
-    /// Worker 1 was let go.
-    met: AtomicBool,
+    /// A bit for each worker that is to come.
+    all: u32,
+    /// A bit for each that has come.
+    came: AtomicU32,
     /// Somebody waited in vain.
     missed: AtomicBool,
 }
 
+/// The bit of a worker.
+fn bit_of(worker: u32) -> u32 {
+    1_u32.wrapping_shl(worker)
+}
+
 impl Meeting {
-    pub fn new() -> Meeting {
+    /// Of workers 1, 2 and so on, up to this one.
+    pub fn of(workers: u32) -> Meeting {
+        let mut all = 0_u32;
+        for worker in 1..=workers {
+            all |= bit_of(worker);
+        }
         Meeting {
-            came: AtomicBool::new(false),
-            met: AtomicBool::new(false),
+            all,
+            came: AtomicU32::new(0),
             missed: AtomicBool::new(false),
         }
     }
 
-    /// Whether the two met, and nobody waited in vain.
+    /// Whether they all met, and nobody waited in vain.
     pub fn is_held(&self) -> bool {
-        self.met.load(Ordering::SeqCst) && !self.missed.load(Ordering::SeqCst)
+        self.has_come() && !self.missed.load(Ordering::SeqCst)
+    }
+}
+
+/// That all of them have come.
+impl Awaited for Meeting {
+    fn has_come(&self) -> bool {
+        self.came.load(Ordering::SeqCst) & self.all == self.all
     }
 }
 
 impl Turnstile for Meeting {
     fn before(&self, worker: u32, slot: u32) {
         let _ = slot;
-        match worker {
-            0 => await_it(&self.met, &self.missed),
-            1 => {
-                await_it(&self.came, &self.missed);
-                self.met.store(true, Ordering::SeqCst);
-            }
-            _ => self.came.store(true, Ordering::SeqCst),
-        }
+        self.came.fetch_or(bit_of(worker), Ordering::SeqCst);
+        await_it(self, &self.missed);
     }
 }

@@ -4,12 +4,15 @@ use crate::counting::{Counting, ITEMS};
 use crate::held::Held;
 use crate::looking_on::LookingOn;
 use crate::meeting::Meeting;
-use crate::running::{Row, judge_report, run_beside, run_row, run_words};
+use crate::running::{Row, judge_report, run_beside, run_failing, run_row, run_words};
 use command_program::Status;
 use live_board::Free;
+use std::alloc::Global;
 use std::process::Abort;
 use std::str::from_utf8;
+use std::sync::Wait;
 use std::test::Fail;
+use std::thread::Threads;
 use txn_gate::Gates;
 use watch_threads::{Observers, Sighting};
 
@@ -46,6 +49,9 @@ component Lines(int k) {
 component Sources(int n) {
   inst a:sink; b:sink; c:source(n); d:source(n); e:sink;
   bind c.out -- e.in; d.out -- e.in;
+}
+component One {
+  inst a:sink;
 }
 ";
 
@@ -117,6 +123,19 @@ fn live_dine(rt: HostRuntime) -> Result<(), Fail> {
     Ok(())
 }
 
+/// Each of so many workers holds a node before a turn until all of them do.
+fn meet<R>(rt: R, alloc: Global, row: &Row<'_>, workers: u32) -> Result<(), Fail>
+where
+    R: Threads + Wait + Abort + Copy + Send + Sync,
+{
+    let (gates, seat) = Gates::new(alloc)?;
+    let meeting = Meeting::of(workers);
+    let (status, _sink) = run_row(rt, alloc, row, &meeting, &gates, seat)?;
+    assert_eq!(rt; status, Status::Ok);
+    assert!(rt; meeting.is_held());
+    Ok(())
+}
+
 #[test]
 fn two_workers(rt: HostRuntime) -> Result<(), Fail> {
     let row = Row {
@@ -125,12 +144,19 @@ fn two_workers(rt: HostRuntime) -> Result<(), Fail> {
         script: "use line.dar\nstart Line(3,10)\nfinish within 1000000\nend\n",
         options: &["--workers", "2"],
     };
-    let (gates, seat) = Gates::new(rt.alloc())?;
-    let meeting = Meeting::new();
-    let (status, _sink) = run_row(rt, rt.alloc(), &row, &meeting, &gates, seat)?;
-    assert_eq!(rt; status, Status::Ok);
-    assert!(rt; meeting.is_held());
-    Ok(())
+    meet(rt, rt.alloc(), &row, 2)
+}
+
+#[test]
+fn eight_workers(rt: HostRuntime) -> Result<(), Fail> {
+    let row = Row {
+        file: "line.dar",
+        description: LINES,
+        // of nine nodes, since the thread of the change may hold one too
+        script: "use line.dar\nstart Lines(10)\nfinish within 1000000\nend\n",
+        options: &["--workers", "8"],
+    };
+    meet(rt, rt.alloc(), &row, 8)
 }
 
 #[test]
@@ -242,6 +268,35 @@ fn no_options(rt: HostRuntime) -> Result<(), Fail> {
         assert_eq!(rt; status, Status::Usage);
         assert!(rt; !is_back);
         assert_eq!(rt; sink.bytes(), "usage\n".as_bytes());
+    }
+    Ok(())
+}
+
+/// Which fetch fails, counted from 0, the status, and what is written.
+static FETCHES: [(u32, u8, &str); 3] = [
+    (0, 4, "read fault s.cfg\n"),
+    (1, 4, "read fault line.dar\n"),
+    (
+        2,
+        0,
+        "report 2\nstart One()\nmake 0 a sink()\ncommit\nstop\nlog 0 a\nstate\nstatus 0\n",
+    ),
+];
+
+/// The script is fetched, and what it uses, and nothing else is.
+#[test]
+fn each_file_is_fetched_once(rt: HostRuntime) -> Result<(), Fail> {
+    let row = Row {
+        file: "line.dar",
+        description: LINES,
+        script: "use line.dar\nstart One()\nend\n",
+        options: &[],
+    };
+    for (fetch, wanted, written) in &FETCHES {
+        let (status, is_back, sink) = run_failing(rt, rt.alloc(), &row, *fetch)?;
+        assert_eq!(rt; status.number(), *wanted);
+        assert_eq!(rt; is_back, *wanted == 0);
+        assert_eq!(rt; sink.bytes(), written.as_bytes());
     }
     Ok(())
 }

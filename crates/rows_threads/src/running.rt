@@ -9,7 +9,7 @@ use command_files::prepare;
 use command_live::live;
 use command_program::{Status, still};
 use config_graph::List;
-use live_board::Turnstile;
+use live_board::{Free, Turnstile};
 use live_run::run_on_threads;
 use std::alloc::Global;
 use std::process::Abort;
@@ -81,6 +81,41 @@ where
     requires fresh { (change_in seat ≡ nothing_done) × (collected_in seat ≡ []) × (seat.spare ≡ 0) }
 {
     let mut shelf = shelf_of(alloc, row)?;
+    run_over(rt, alloc, row, &mut shelf, stile, gates, seat)
+}
+
+/// Runs a row on gates of its own, where the fetch of this number fails, counted from 0. Gives the same.
+pub fn run_failing<R>(
+    rt: R,
+    alloc: Global,
+    row: &Row<'_>,
+    fetch: u32,
+) -> Result<(Status, bool, MemSink), Fail>
+where
+    R: Threads + Wait + Abort + Copy + Send + Sync,
+{
+    let mut shelf = shelf_of(alloc, row)?;
+    shelf.fail_at(fetch)?;
+    let (gates, seat) = Gates::new(alloc)?;
+    run_over(rt, alloc, row, &mut shelf, &Free, &gates, seat)
+}
+
+/// Runs a row's words over a shelf.
+fn run_over<R, T>(
+    rt: R,
+    alloc: Global,
+    row: &Row<'_>,
+    shelf: &mut MemShelf,
+    stile: &T,
+    gates: &Gates,
+    seat: ChangeSeat,
+) -> Result<(Status, bool, MemSink), Fail>
+where
+    R: Threads + Wait + Abort + Copy + Send + Sync,
+    T: Turnstile + Sync,
+    requires here { IsChangeSeatOf seat gates.now }
+    requires fresh { (change_in seat ≡ nothing_done) × (collected_in seat ≡ []) × (seat.spare ≡ 0) }
+{
     let mut sink = MemSink::new(alloc, 65_536)?;
     let mut words = words_of(alloc, &["live", "s.cfg"])?;
     for option in row.options {
@@ -90,7 +125,7 @@ where
         rt,
         alloc,
         words.as_slice(),
-        &mut shelf,
+        shelf,
         &mut sink,
         stile,
         gates,
