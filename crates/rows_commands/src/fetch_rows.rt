@@ -1,6 +1,6 @@
 //! Rows of fetches: which there are, and that there are no more.
 
-use crate::descriptions::LINE;
+use crate::descriptions::{LINE, ONE};
 use crate::running::{AMPLE, run_over};
 use cfg_io::{FileShelf, MemShelf, Shelf};
 use std::alloc::Global;
@@ -22,10 +22,16 @@ const PLAN: [&str; 9] = [
     "plan", "line.dar", "Line", "3", "10", "--", "Line", "3", "10",
 ];
 
-const REPLAY: [&str; 3] = ["replay", "line.dar", "e.txt"];
+const PARTS: [&str; 9] = [
+    "parts", "line.dar", "Line", "3", "10", "--", "Line", "3", "10",
+];
 
-/// Each file is fetched once, so that the fetch behind the last doesn't fail.
-static ROWS: [Failing; 7] = [
+const ROLL: [&str; 11] = [
+    "roll", "line.dar", "1", "0", "Line", "3", "10", "--", "Line", "3", "10",
+];
+
+/// The fetch of the description fails, and one behind it that there isn't.
+static DESCRIPTIONS: [Failing; 8] = [
     Failing {
         words: &FLAT,
         fetch: 0,
@@ -51,6 +57,46 @@ static ROWS: [Failing; 7] = [
         written: "",
     },
     Failing {
+        words: &PARTS,
+        fetch: 0,
+        status: 4,
+        written: "read fault line.dar\n",
+    },
+    Failing {
+        words: &PARTS,
+        fetch: 1,
+        status: 0,
+        written: "",
+    },
+    Failing {
+        words: &ROLL,
+        fetch: 0,
+        status: 4,
+        written: "read fault line.dar\n",
+    },
+    Failing {
+        words: &ROLL,
+        fetch: 1,
+        status: 0,
+        written: "done\nnode m map(10)\nport m.next t.in\nnode s source(3)\nport s.out m.in\nnode t sink()\n",
+    },
+];
+
+const REPLAY: [&str; 3] = ["replay", "line.dar", "e.txt"];
+
+const UPGRADE: [&str; 2] = ["upgrade", "r.txt"];
+
+const CHECK: [&str; 3] = ["check", "s.cfg", "r.txt"];
+
+const SCRIPT: &str = "use one.dar\nstart One()\nend\n";
+
+/// The report of that script.
+const REPORT: &str =
+    "report 2\nstart One()\nmake 0 t sink()\ncommit\nstop\nlog 0 t\nstate\nstatus 0\n";
+
+/// Each fetch fails in its turn, and one behind them that there isn't.
+static TEXTS: [Failing; 9] = [
+    Failing {
         words: &REPLAY,
         fetch: 0,
         status: 4,
@@ -68,20 +114,69 @@ static ROWS: [Failing; 7] = [
         status: 0,
         written: "events 0\nrest 0\n",
     },
+    Failing {
+        words: &UPGRADE,
+        fetch: 0,
+        status: 4,
+        written: "read fault r.txt\n",
+    },
+    Failing {
+        words: &UPGRADE,
+        fetch: 1,
+        status: 0,
+        written: REPORT,
+    },
+    Failing {
+        words: &CHECK,
+        fetch: 0,
+        status: 4,
+        written: "read fault s.cfg\n",
+    },
+    Failing {
+        words: &CHECK,
+        fetch: 1,
+        status: 4,
+        written: "read fault one.dar\n",
+    },
+    Failing {
+        words: &CHECK,
+        fetch: 2,
+        status: 4,
+        written: "read fault r.txt\n",
+    },
+    Failing {
+        words: &CHECK,
+        fetch: 3,
+        status: 0,
+        written: "consistent\n",
+    },
 ];
 
 fn assert_failing(rt: &impl Abort, alloc: Global, row: &Failing) -> Result<(), Fail> {
     let mut shelf = MemShelf::new(alloc);
     shelf.add("line.dar", LINE.as_bytes())?;
     shelf.add("e.txt", b"start Line(3,10)\n")?;
+    shelf.add("one.dar", ONE.as_bytes())?;
+    shelf.add("s.cfg", SCRIPT.as_bytes())?;
+    shelf.add("r.txt", REPORT.as_bytes())?;
     shelf.fail_at(row.fetch)?;
     let wanted = (AMPLE, row.status, row.written);
     run_over(rt, alloc, &mut shelf, row.words, wanted)
 }
 
+/// A description is fetched once: the first fetch may fail, and there is no second.
 #[test]
-fn each_file_is_fetched_once(rt: HostRuntime) -> Result<(), Fail> {
-    for row in &ROWS {
+fn a_description_is_fetched_once(rt: HostRuntime) -> Result<(), Fail> {
+    for row in &DESCRIPTIONS {
+        assert_failing(&rt, rt.alloc(), row)?;
+    }
+    Ok(())
+}
+
+/// Events, reports, scripts and what these use are fetched once each, in this order, and nothing else is.
+#[test]
+fn each_text_is_fetched_once(rt: HostRuntime) -> Result<(), Fail> {
+    for row in &TEXTS {
         assert_failing(&rt, rt.alloc(), row)?;
     }
     Ok(())
