@@ -47,3 +47,36 @@ component Chain(int n, int items) {
   bind s.out -- m[0].in; m[n-1].next -- t.in;
 }
 ";
+
+/// A source that leads to a buffer, which leads to nothing.
+pub const KEEP: &str = "component source(int n) { require out; }
+component buffer(int cap) { provide in; require next; }
+component Keep(int n, int cap) {
+  inst s:source(n); b:buffer(cap);
+  bind s.out -- b.in;
+}
+";
+
+/// An asker that leads to an adder, which sends it a further message in each service.
+pub const SUMS: &str = "component asker(int n) { require sum; }
+component adder { provide sum; }
+component Sums(int n) { inst a:asker(n); d:adder; bind a.sum -- d.sum; }
+";
+
+/// Philosophers at a table, with a fork between two neighbours, of which one may be left out.
+pub const TABLE: &str = "component philosopher(int meals) { require dine; }
+component place(int first) { provide dine; require left, right; }
+component fork { provide hold; }
+component Table(int n, int meals, int skip) {
+  array ph[n]:philosopher(meals); pl[n]:place; f[n]:fork;
+  forall i:0..n-1 {
+    inst ph[i]; pl[i](i == 0);
+    bind ph[i].dine -- pl[i].dine;
+    when i != skip {
+      inst f[i];
+      bind pl[i].left -- f[i].hold;
+           pl[(i+n-1) % n].right -- f[i].hold;
+    }
+  }
+}
+";

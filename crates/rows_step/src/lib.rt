@@ -15,6 +15,8 @@ mod limit_rows;
 #[cfg(test)]
 mod line_rows;
 #[cfg(test)]
+mod long_rows;
+#[cfg(test)]
 mod refusal_rows;
 #[cfg(test)]
 mod round_rows;

@@ -1,7 +1,7 @@
 //! Rows of scripts as large as they may be, and one past it.
 
 use crate::descriptions::{LINE, MANY};
-use crate::running::{AMPLE, STEP, run_over, words_of};
+use crate::running::{AMPLE, STEP, count_of_lines, run_over, words_of};
 use cfg_io::{MemShelf, MemSink};
 use command_program::{Status, still};
 use std::alloc::{AllocError, Global};
@@ -13,10 +13,6 @@ const WIDE: usize = 65_536;
 
 /// The most statements of a script.
 const MOST: u32 = 256;
-
-fn count_of_lines(text: &[u8]) -> usize {
-    text.iter().filter(|byte| **byte == b'\n').count()
-}
 
 const FIRST_LINES: &[u8] =
     b"report 2\nstart Many(1023)\nmake 0 A[0] sink()\nmake 1 A[1000] sink()\n";

@@ -1,7 +1,7 @@
 //! Changes once so many transactions ended: what is counted or kept at the end doesn't depend on it.
 
 use crate::descriptions::{BANK, CHAIN, LINE};
-use crate::running::{STEP, words_of};
+use crate::running::{STEP, has_lines, words_of};
 use cfg_io::{MemShelf, MemSink};
 use command_program::{Status, still};
 use std::alloc::Global;
@@ -59,16 +59,6 @@ static FALLINGS: [Falling; 7] = [
 
 /// Room of a sink that takes every report of these.
 const ROOM: usize = 16_384;
-
-/// Whether a text has the line.
-fn has_line(text: &[u8], line: &str) -> bool {
-    text.split(|byte| *byte == b'\n')
-        .any(|part| part == line.as_bytes())
-}
-
-fn has_lines(text: &[u8], lines: &[&str]) -> bool {
-    lines.iter().all(|line| has_line(text, line))
-}
 
 /// Runs a script over one of the systems, and stops the test where another status comes or one of the lines doesn't.
 fn run_to(

@@ -41,6 +41,21 @@ pub fn words_of(alloc: Global, words: &[&str]) -> Result<Vec<String>, Fail> {
     Ok(given)
 }
 
+pub fn count_of_lines(text: &[u8]) -> usize {
+    text.iter().filter(|byte| **byte == b'\n').count()
+}
+
+/// Whether a text has the line.
+fn has_line(text: &[u8], line: &str) -> bool {
+    text.split(|byte| *byte == b'\n')
+        .any(|part| part == line.as_bytes())
+}
+
+/// Whether a text has each of these lines.
+pub fn has_lines(text: &[u8], lines: &[&str]) -> bool {
+    lines.iter().all(|line| has_line(text, line))
+}
+
 /// Runs words over a shelf, and stops the test where another text or status comes.
 pub fn run_over(
     rt: &impl Abort,
