@@ -7,7 +7,7 @@ use std::process::Abort;
 use std::test::Fail;
 
 /// Texts, and their trees with all parentheses, and places as `@line:column`.
-static TREES: [(&str, &str); 9] = [
+static TREES: [(&str, &str); 10] = [
     ("", ""),
     ("component X { }", "X@1:1{ }"),
     (
@@ -37,6 +37,10 @@ static TREES: [(&str, &str); 9] = [
     (
         "component X { inst a[1 or 2 and 3 or 4 == 5 - 6 - 7 * 8 / -(9 + x)]; }",
         "X@1:1{ a[((1 or (2 and 3)) or (4==((5-6)-((7*8)/-(9+x)))))]@1:20 }",
+    ),
+    (
+        "component X { inst a[1<2 and 3<=4 and 5==6 or 7!=8 and 9>=0 and 1>2]; }",
+        "X@1:1{ a[((((1<2) and (3<=4)) and (5==6)) or (((7!=8) and (9>=0)) and (1>2)))]@1:20 }",
     ),
 ];
 

@@ -1,4 +1,4 @@
-//! Rows of `elaborate` on values: their ends, signs and arguments of kinds.
+//! Rows of `elaborate` on values: their ends, signs, comparisons and arguments of kinds.
 
 use crate::elaborating::{Elaborated, KINDS, assert_outcomes};
 use std::test::Fail;
@@ -134,8 +134,30 @@ static QUOTIENTS: [Elaborated; 8] = [
     ),
 ];
 
-/// Division by 0, sides that aren't valued, and arguments of kinds.
-static DECISIONS_AND_ARGUMENTS: [Elaborated; 8] = [
+/// All comparisons of two values, as a sum in which each that holds has a power of two of its own.
+const COMPARED: &str =
+    "(a < b) + 2 * (a <= b) + 4 * (a == b) + 8 * (a != b) + 16 * (a >= b) + 32 * (a > b)";
+
+/// Comparisons, division by 0, sides that aren't valued, and arguments of kinds.
+static DECISIONS_AND_ARGUMENTS: [Elaborated; 11] = [
+    (
+        &[VALUE, COMPARED, END, KINDS],
+        "V",
+        &[1, 1],
+        "node s source(22)\nport s.out -\n",
+    ),
+    (
+        &[VALUE, COMPARED, END, KINDS],
+        "V",
+        &[1, 2],
+        "node s source(11)\nport s.out -\n",
+    ),
+    (
+        &[VALUE, COMPARED, END, KINDS],
+        "V",
+        &[2, 1],
+        "node s source(56)\nport s.out -\n",
+    ),
     (
         &[VALUE, "a / b", END, KINDS],
         "V",
