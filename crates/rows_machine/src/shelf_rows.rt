@@ -34,19 +34,21 @@ fn copy<H: Shelf, K: Sink>(shelf: &mut H, sink: &mut K, name: &str) -> Outcome {
 /// A file's name, what comes of a copy, and what the sink has then.
 type Copied = (&'static str, Outcome, &'static [u8]);
 
-static COPIES: [Copied; 5] = [
+static COPIES: [Copied; 6] = [
     ("a", Outcome::Done, b"abc"),
     ("none", Outcome::ReadFault, b"abc"),
     ("b", Outcome::WriteFault, b"abcdefg"),
     ("a", Outcome::ReadFault, b"abcdefg"),
     ("a", Outcome::WriteFault, b"abcdefg"),
+    ("b", Outcome::ReadFault, b"abcdefg"),
 ];
 
-/// Two files, and the fourth fetch fails.
+/// Two files, and the fourth fetch and the sixth fail.
 fn fill(shelf: &mut MemShelf) -> Result<(), NoMemory> {
     shelf.add("a", b"old")?;
     shelf.add("a", b"abc")?;
     shelf.add("b", b"defgh")?;
+    shelf.fail_at(5)?;
     shelf.fail_at(3)
 }
 

@@ -4,7 +4,7 @@ ghost use Rattle.std.specs.Prelude.{IfOk};
 ghost use Rattle.config_graph.specs.Sound.{Sound};
 
 use change_script::{EventFile, ScriptError, parse_events};
-use config_graph::Graph;
+use config_graph::{Graph, NoMemory};
 use darwin_lexer::MAX_TEXT;
 use quiesce_core::{Core, Event};
 use std::alloc::{AllocError, Global};
@@ -73,18 +73,20 @@ pub fn events_of(
     Ok(events_in(rt, alloc, text.as_str().as_bytes())?)
 }
 
-/// Each event happens.
-fn happen(rt: &impl Abort, core: &mut Core, events: &[Event]) {
+/// A copy of each event happens.
+fn happen(rt: &impl Abort, core: &mut Core, events: &[Event]) -> Result<(), NoMemory> {
     for event in events {
-        assert_eq!(rt; core.apply(event), Ok(()));
+        let copy = event.try_clone()?;
+        assert_eq!(rt; core.apply(&copy), Ok(()));
     }
+    Ok(())
 }
 
 /// The state after these events, from where nothing is made.
 pub fn core_after(rt: &impl Abort, alloc: Global, pieces: &[&str]) -> Result<Core, Fail> {
     let file = events_of(rt, alloc, pieces, "")?;
     let mut core = Core::empty(alloc);
-    happen(rt, &mut core, file.events.items());
+    happen(rt, &mut core, file.events.items())?;
     Ok(core)
 }
 
