@@ -10,8 +10,14 @@ use std::test::Fail;
 /// A description, events over it, the status, and what is written, where they are the files `f.dar` and `e.txt`.
 pub type Replay = (&'static str, &'static str, u8, &'static str);
 
-/// Events that are steps, and events that are denied.
-static EVENTS: [Replay; 16] = [
+/// Transactions that were begun or called, and wait, are taken or are answered.
+static STAGES: [Replay; 5] = [
+    (
+        LINE,
+        "start Line(3,10)\nbegin 1 1 1\n",
+        0,
+        "events 1\nopen 1 1 root waiting\nrest 7\n",
+    ),
     (
         LINE,
         "start Line(3,10)\nbegin 1 1 1\ntake 1 1 1\ncall 0 1 11\n",
@@ -24,6 +30,22 @@ static EVENTS: [Replay; 16] = [
         0,
         "events 5\nopen 0 1 call answered\nopen 1 1 root taken\nrest 3\n",
     ),
+    (
+        LINE,
+        "start Line(3,10)\nbegin 1 1 1\ntake 1 1 1\ncall 0 1 11\ntake 0 1 11\n",
+        0,
+        "events 4\nopen 0 1 call taken\nopen 1 1 root taken\nrest 4\n",
+    ),
+    (
+        LINE,
+        "start Line(3,10)\nbegin 1 1 1\ntake 1 1 1\ngive 1 1 5\n",
+        0,
+        "events 3\nopen 1 1 root answered\nrest 1\n",
+    ),
+];
+
+/// Events that are steps, and events that are denied.
+static EVENTS: [Replay; 14] = [
     (
         SMALL,
         "start L()\nbegin 1 1 1\nclose 1\ntake 1 1 1\ngive 1 1 1\nend 1 1 1\nclose 0\n",
@@ -230,6 +252,7 @@ pub fn replay_all(rt: &impl Abort, alloc: Global, rows: &[Replay]) -> Result<(),
 
 #[test]
 fn events_lead_or_are_denied(rt: HostRuntime) -> Result<(), Fail> {
+    replay_all(&rt, rt.alloc(), &STAGES)?;
     replay_all(&rt, rt.alloc(), &EVENTS)
 }
 
