@@ -2,6 +2,8 @@
 
 use crate::running::{AMPLE, Row, run_all, run_over};
 use cfg_io::MemShelf;
+use std::alloc::Global;
+use std::process::Abort;
 use std::test::Fail;
 
 /// The run of a source that leads to nothing, in the two versions.
@@ -83,13 +85,26 @@ fn upgrade_writes_reports_again(rt: HostRuntime) -> Result<(), Fail> {
     run_all(&rt, rt.alloc(), &ROWS)
 }
 
-/// A file longer than a report may be.
+/// Runs `upgrade` over a file of so many line feeds.
+fn run_long(rt: &impl Abort, alloc: Global, length: usize, written: &str) -> Result<(), Fail> {
+    let feeds = Vec::from_elem(alloc, b'\n', length)?;
+    let mut shelf = MemShelf::new(alloc);
+    shelf.add("long.txt", feeds.as_slice())?;
+    drop(feeds);
+    let words = ["upgrade", "long.txt"];
+    run_over(rt, alloc, &mut shelf, &words, (AMPLE, 3, written))
+}
+
+/// A file longer than a report may be is refused for that.
 #[test]
 fn long_reports_are_refused(rt: HostRuntime) -> Result<(), Fail> {
-    let alloc = rt.alloc();
-    let blanks = Vec::from_elem(alloc, b'\n', 67_108_865)?;
-    let mut shelf = MemShelf::new(alloc);
-    shelf.add("long.txt", blanks.as_slice())?;
-    let wanted = (AMPLE, 3, "script long.txt: TooLong\n");
-    run_over(&rt, alloc, &mut shelf, &["upgrade", "long.txt"], wanted)
+    let written = "script long.txt: TooLong\n";
+    run_long(&rt, rt.alloc(), 67_108_865, written)
+}
+
+/// A file as long as a report may be is read, and refused for its first line.
+#[test]
+fn reports_of_the_limit_are_read(rt: HostRuntime) -> Result<(), Fail> {
+    let written = "script long.txt: BadLine 1\n";
+    run_long(&rt, rt.alloc(), 67_108_864, written)
 }
