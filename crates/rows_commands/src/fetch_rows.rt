@@ -152,6 +152,7 @@ static TEXTS: [Failing; 9] = [
     },
 ];
 
+/// Runs a row on a shelf where the fetch behind those of the run fails too. The row itself makes that one.
 fn assert_failing(rt: &impl Abort, alloc: Global, row: &Failing) -> Result<(), Fail> {
     let mut shelf = MemShelf::new(alloc);
     shelf.add("line.dar", LINE.as_bytes())?;
@@ -159,9 +160,13 @@ fn assert_failing(rt: &impl Abort, alloc: Global, row: &Failing) -> Result<(), F
     shelf.add("one.dar", ONE.as_bytes())?;
     shelf.add("s.cfg", SCRIPT.as_bytes())?;
     shelf.add("r.txt", REPORT.as_bytes())?;
+    let failed = u32::from(row.status != 0);
     shelf.fail_at(row.fetch)?;
+    shelf.fail_at(row.fetch.wrapping_add(failed))?;
     let wanted = (AMPLE, row.status, row.written);
-    run_over(rt, alloc, &mut shelf, row.words, wanted)
+    run_over(rt, alloc, &mut shelf, row.words, wanted)?;
+    assert!(rt; shelf.fetch("line.dar", 4_096).is_err());
+    Ok(())
 }
 
 /// A description is fetched once: the first fetch may fail, and there is no second.

@@ -272,11 +272,12 @@ fn no_options(rt: HostRuntime) -> Result<(), Fail> {
     Ok(())
 }
 
-/// Which fetch fails, counted from 0, the status, and what is written.
-static FETCHES: [(u32, u8, &str); 3] = [
-    (0, 4, "read fault s.cfg\n"),
-    (1, 4, "read fault line.dar\n"),
+/// Which fetch fails, counted from 0, how many there are, the status, and what is written.
+static FETCHES: [(u32, u32, u8, &str); 3] = [
+    (0, 1, 4, "read fault s.cfg\n"),
+    (1, 2, 4, "read fault line.dar\n"),
     (
+        2,
         2,
         0,
         "report 2\nstart One()\nmake 0 a sink()\ncommit\nstop\nlog 0 a\nstate\nstatus 0\n",
@@ -292,8 +293,8 @@ fn each_file_is_fetched_once(rt: HostRuntime) -> Result<(), Fail> {
         script: "use line.dar\nstart One()\nend\n",
         options: &[],
     };
-    for (fetch, wanted, written) in &FETCHES {
-        let (status, is_back, sink) = run_failing(rt, rt.alloc(), &row, *fetch)?;
+    for (fetch, fetches, wanted, written) in &FETCHES {
+        let (status, is_back, sink) = run_failing(rt, rt.alloc(), &row, *fetch, *fetches)?;
         assert_eq!(rt; status.number(), *wanted);
         assert_eq!(rt; is_back, *wanted == 0);
         assert_eq!(rt; sink.bytes(), written.as_bytes());

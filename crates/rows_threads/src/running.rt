@@ -4,7 +4,7 @@ ghost use Rattle.std.specs.Prelude.{◌≡◌, ◌≤◌, []};
 ghost use Rattle.txn_gate.specs.Seats.{IsChangeSeatOf, change_in, collected_in};
 ghost use Rattle.txn_law.specs.Views.{nothing_done};
 
-use cfg_io::{MemShelf, MemSink};
+use cfg_io::{MemShelf, MemSink, Shelf};
 use command_files::prepare;
 use command_live::live;
 use command_program::{Status, still};
@@ -84,20 +84,26 @@ where
     run_over(rt, alloc, row, &mut shelf, stile, gates, seat)
 }
 
-/// Runs a row on gates of its own, where the fetch of this number fails, counted from 0. Gives the same.
+/// Runs a row on gates of its own, where the fetch of this number fails, counted from 0. Gives the same. The test fails
+/// where the run makes other than so many fetches.
 pub fn run_failing<R>(
     rt: R,
     alloc: Global,
     row: &Row<'_>,
     fetch: u32,
+    fetches: u32,
 ) -> Result<(Status, bool, MemSink), Fail>
 where
     R: Threads + Wait + Abort + Copy + Send + Sync,
 {
     let mut shelf = shelf_of(alloc, row)?;
     shelf.fail_at(fetch)?;
+    shelf.fail_at(fetches)?;
     let (gates, seat) = Gates::new(alloc)?;
-    run_over(rt, alloc, row, &mut shelf, &Free, &gates, seat)
+    let ran = run_over(rt, alloc, row, &mut shelf, &Free, &gates, seat)?;
+    // the fetch behind those of the run fails
+    assert!(rt; shelf.fetch(row.file, 65_536).is_err());
+    Ok(ran)
 }
 
 /// Runs a row's words over a shelf.
