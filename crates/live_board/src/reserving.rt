@@ -12,8 +12,8 @@ use config_graph::NoMemory;
 use live_hall::{BoxedGuest, Named};
 use std::alloc::Global;
 
-/// A place to keep each node in, once it is removed, and one to note its heir; and so many lists for the pasts of nodes
-/// to be made, each with room for so many earlier nodes.
+/// A place to keep each node in, once it is removed, and one to note its heir; and memory for so many nodes to be made,
+/// each with a list for so many earlier nodes.
 pub fn make_room<J: Named>(
     alloc: Global,
     kept: &mut Vec<Option<BoxedGuest>>,

@@ -13,8 +13,8 @@ use std::sync::atomic::{AtomicBool, Ordering};
 use std::thread;
 use txn_gate::Gates;
 
-/// A worker looks into the cells of all slots once in so many rounds, since nodes are made and other workers may stand
-/// still; and else only into those of its share below which it found nodes before.
+/// A worker looks into all cells once in so many rounds, since nodes are made and other workers may stand still; else
+/// into those of its share, up to the last slot in which it found a node.
 const ROUNDS_TO_ALL_SLOTS: u32 = 256;
 
 /// Which worker this is, from 1 on, and how many there are. Each has a share of the slots, so that nodes mostly stay

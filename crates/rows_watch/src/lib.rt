@@ -1,5 +1,5 @@
 //! Worked rows of observers beside a writer. They end by themselves, and come out alike in every order of the threads'
-//! steps.
+//! steps, but for one, which asks that each thread gets on now and then.
 #![tactic(auto)]
 
 #[cfg(test)]
