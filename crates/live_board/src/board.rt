@@ -25,8 +25,10 @@ use crate::collecting::collect;
 use crate::heirs::note_heir;
 use crate::keeping::{await_guest, put_away};
 use crate::making::make_guest;
+use crate::pacing::Pace;
 use crate::reserving::make_room;
 use crate::scanning::scan;
+use crate::signs::Signs;
 use crate::stile::Turnstile;
 use change_board::{Board, Collected, Scan};
 use component_trait::Component;
@@ -37,7 +39,6 @@ use state_handover::AnyNode;
 use std::alloc::{AllocError, Global};
 use std::marker::Model;
 use std::sync::Wait;
-use std::sync::atomic::{AtomicBool, Ordering};
 use txn_gate::{ChangeSeat, Gates};
 use txn_records::Look;
 
@@ -51,8 +52,7 @@ pub struct LiveBoard<'g, J: Named, R: Wait + Copy, T: Turnstile> {
     door: Door<J, R>,
     hand: Hand<R>,
     stile: &'g T,
-    /// Whether a worker found no memory.
-    short: &'g AtomicBool,
+    signs: &'g Signs,
     /// Removed nodes, by slot.
     kept: Vec<Option<BoxedGuest>>,
     /// Which node took over the state of each, by slot.
@@ -65,6 +65,7 @@ pub struct LiveBoard<'g, J: Named, R: Wait + Copy, T: Turnstile> {
     lines: u32,
     /// How long the logs were that the last scan saw, where it found all ports idle and nothing was done since.
     last: Option<Vec<Option<usize>>>,
+    pace: Pace,
 }
 
 impl<'g, J: Named, R: Wait + Copy, T: Turnstile> Model for LiveBoard<'g, J, R, T> {
@@ -91,8 +92,7 @@ impl<'g, J: Named, R: Wait + Copy, T: Turnstile> Model for LiveBoard<'g, J, R, T
 }
 
 impl<'g, J: Named, R: Wait + Copy, T: Turnstile> LiveBoard<'g, J, R, T> {
-    /// The board of these gates and of the hall to which the door leads. Nothing was made. A worker that found no memory
-    /// sets the flag.
+    /// The board of these gates and of the hall to which the door leads. Nothing was made. Workers set the signs.
     pub fn new(
         rt: R,
         alloc: Global,
@@ -101,7 +101,7 @@ impl<'g, J: Named, R: Wait + Copy, T: Turnstile> LiveBoard<'g, J, R, T> {
         door: Door<J, R>,
         hand: Hand<R>,
         stile: &'g T,
-        short: &'g AtomicBool,
+        signs: &'g Signs,
     ) -> LiveBoard<'g, J, R, T>
         requires here { IsChangeSeatOf seat gates.now }
         requires named { J.gates ≡ gates.now.words.shared.table_id }
@@ -117,13 +117,14 @@ impl<'g, J: Named, R: Wait + Copy, T: Turnstile> LiveBoard<'g, J, R, T> {
             door,
             hand,
             stile,
-            short,
+            signs,
             kept: Vec::new(alloc),
             heirs: Vec::new(alloc),
             blanks: Vec::new(alloc),
             sources: 0,
             lines: 0,
             last: None,
+            pace: Pace::new(),
         }
     }
 
@@ -164,6 +165,8 @@ impl<'g, J: Named, R: Wait + Copy, T: Turnstile> Board for LiveBoard<'g, J, R, T
 
     fn look(&mut self, port: u32) -> Look {
         self.last = None;
+        // a run looks before it scans, and so does a change that waits
+        self.pace.restart();
         self.gates.look(&mut self.seat, port)
     }
 
@@ -174,6 +177,7 @@ impl<'g, J: Named, R: Wait + Copy, T: Turnstile> Board for LiveBoard<'g, J, R, T
 
     fn link(&mut self, port: u32, node: u32, provide: u32) {
         self.gates.link(&mut self.seat, port, node, provide);
+        self.signs.tell_link(port, node);
         self.last = None;
     }
 
@@ -247,10 +251,13 @@ impl<'g, J: Named, R: Wait + Copy, T: Turnstile> Board for LiveBoard<'g, J, R, T
         self.gates.learn(&mut self.seat);
         note_heir(&mut self.heirs, from, made.nodes);
         self.door.put(guest);
+        self.signs
+            .tell_made(made.nodes, made.ports, node.kind.requires_());
         self.last = None;
     }
 
     /// Of the live nodes, turns are given to those that lie in the hall, and those that lie there and are done are sighted.
+    /// Where transactions may begin, it leaves the nodes to workers that move them for a while first.
     fn scan(&mut self, begins: bool) -> Result<Scan, NoMemory>
         ensures ok { IfOk result (AddsScan StandsLive false self.old self.new begins) }
         ensures room { OnOk result (self.new.room ≡ self.old.room) }
@@ -262,7 +269,10 @@ impl<'g, J: Named, R: Wait + Copy, T: Turnstile> Board for LiveBoard<'g, J, R, T
             self.old.missed self.new.missed) }
         ensures stored { self.new.stored ≡ self.old.stored }
     {
-        if self.short.load(Ordering::SeqCst) {
+        if begins {
+            self.pace.wait(&self.rt);
+        }
+        if self.signs.is_short() {
             return Err(AllocError);
         }
         let scanned = scan(
@@ -276,6 +286,7 @@ impl<'g, J: Named, R: Wait + Copy, T: Turnstile> Board for LiveBoard<'g, J, R, T
             begins,
         )?;
         self.last = scanned.lengths;
+        self.pace.note(self.signs.take_move());
         Ok(scanned.scan)
     }
 

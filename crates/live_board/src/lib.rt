@@ -11,12 +11,16 @@ mod keeping;
 mod laws;
 mod looking;
 mod making;
+mod pacing;
+mod partners;
 mod reserving;
 mod scanning;
 mod seeing;
+mod signs;
 mod stile;
 mod turning;
 
 pub use board::LiveBoard;
 pub use laws::scripts_leave_all_taken_in;
+pub use signs::Signs;
 pub use stile::{Free, Turnstile};

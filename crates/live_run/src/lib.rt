@@ -2,6 +2,7 @@
 //! system.
 #![tactic(auto)]
 
+mod due;
 mod ending;
 mod running;
 mod working;

@@ -98,7 +98,7 @@ where
 {
     let door = own_way(&mut doors);
     let hand = own_way(&mut hands);
-    let workers = doors.len();
+    let workers = u32::try_from(doors.len()).unwrap_or(u32::MAX);
     thread::scope(
         thread::scope_env(),
         &rt,
@@ -116,7 +116,7 @@ where
                 let share = Share { worker, workers };
                 let _ = scope.spawn(move || work(&rt, gates, door, hand, told, stile, share));
             }
-            let board = LiveBoard::new(rt, alloc, gates, seat, door, hand, stile, &told.short);
+            let board = LiveBoard::new(rt, alloc, gates, seat, door, hand, stile, &told.signs);
             let ran = carry_out(alloc, board, start, steps, watch, observers.count);
             told.stop.store(true, Ordering::SeqCst);
             ran
@@ -156,12 +156,12 @@ where
 {
     let doors = Hall::with_doors::<J, R>(rt, alloc, workers + 1)?;
     let hands = Inboxes::with_hands(rt, alloc, workers + 1)?;
-    let flags = Flags::new();
+    let flags = Flags::new(alloc)?;
     let (report, seen, mut seat) = carry_out_beside(
         rt, alloc, gates, seat, stile, doors, hands, observers, start, steps, &flags,
     )?;
     // no scan may have come behind a worker's want of memory
-    if flags.short.load(Ordering::SeqCst) {
+    if flags.signs.is_short() {
         return Err(AllocError);
     }
     look_last(gates, &mut seat);

@@ -1,42 +1,94 @@
 //! What a worker does until it is told to stop.
 
-ghost use Rattle.std.specs.Prelude.{◌≡◌, ◌≤◌, ◌<◌, IfOk};
+ghost use Rattle.std.specs.Prelude.{◌≡◌, ◌<◌};
 ghost use Rattle.config_graph.specs.declared.TheConstants.{MAX_NODES};
 
+use crate::due::{Due, waits};
 use config_graph::{MAX_NODES, NoMemory};
-use live_board::Turnstile;
+use live_board::{Signs, Turnstile};
 use live_hall::{Door, Named};
 use live_hands::Hand;
 use node_host::Turn;
+use std::alloc::Global;
 use std::sync::Wait;
 use std::sync::atomic::{AtomicBool, Ordering};
 use std::thread;
+use std::thread::Parker;
+use std::time::Duration;
 use txn_gate::Gates;
 
-/// A worker looks into all cells once in so many rounds, since nodes are made and other workers may stand still; else
-/// into those of its share, up to the last slot in which it found a node.
-const ROUNDS_TO_ALL_SLOTS: u32 = 256;
+/// In one of so many rounds all nodes of a worker's share are due, and in one of so many all nodes: a turn of the thread
+/// of the change may have left one something to do, and other workers may stand still.
+const ROUNDS_TO_SHARE: u32 = 32;
 
-/// Which worker this is, from 1 on, and how many there are. Each has a share of the slots, so that nodes mostly stay
-/// with one worker.
+const ROUNDS_TO_ALL: u32 = 256;
+
+/// The same of rounds that move nothing: all nodes are due behind the first, and behind one of so many.
+const QUIET_ROUNDS_TO_ALL: u32 = 8;
+
+/// Behind more quiet rounds in a row a worker sleeps, for up to so many microseconds.
+const QUIET_ROUNDS_AWAKE: u32 = 32;
+
+const LONGEST_SLEEP: u32 = 500;
+
+/// Which worker this is, from 1 on, and how many there are. Its share is one slot of so many.
 #[derive(Clone, Copy)]
 pub struct Share {
     pub worker: u32,
-    pub workers: usize,
+    pub workers: u32,
 }
 
 impl Share {
     /// Whether a slot is of this worker's share.
-    fn has(&self, slot: u32) -> bool {
-        self.workers == 0 || slot as usize % self.workers == self.worker as usize % self.workers
+    fn has(self, slot: u32) -> bool {
+        slot.checked_rem(self.workers) == self.worker.checked_rem(self.workers)
     }
 }
 
-/// Which cells a worker looks into in a round: those of slots below this, of its own share or of all.
+/// How many rounds a worker made, and how many since a node moved.
 #[derive(Clone, Copy)]
-struct Reach {
-    slots: u32,
-    is_all: bool,
+struct Rounds {
+    made: u32,
+    quiet: u32,
+}
+
+impl Rounds {
+    /// Whether all nodes are due.
+    fn take_all(self) -> bool {
+        self.made % ROUNDS_TO_ALL == 0
+            || self.quiet == 1
+            || self.quiet > 0 && self.quiet % QUIET_ROUNDS_TO_ALL == 0
+    }
+
+    /// Whether those of the worker's share are.
+    fn take_share(self) -> bool {
+        self.made % ROUNDS_TO_SHARE == 0 || self.quiet > 0
+    }
+
+    /// Behind one round more.
+    fn after(self, moved: bool) -> Rounds {
+        Rounds {
+            made: self.made.wrapping_add(1),
+            quiet: if moved {
+                0
+            } else {
+                self.quiet.saturating_add(1)
+            },
+        }
+    }
+}
+
+/// Makes the nodes below a slot due that are to be looked for before this round, whatever is known of them.
+fn remind(due: &mut Due, share: Share, rounds: Rounds, slots: u32) {
+    let all = rounds.take_all();
+    if !all && !rounds.take_share() {
+        return;
+    }
+    for slot in 0..slots {
+        if all || share.has(slot) {
+            due.add_once(slot);
+        }
+    }
 }
 
 /// What the thread of the change and the workers tell one another.
@@ -44,26 +96,16 @@ struct Reach {
 pub struct Flags {
     /// The workers are to stop.
     pub stop: AtomicBool,
-    /// A worker found no memory.
-    pub short: AtomicBool,
+    pub signs: Signs,
 }
 
 impl Flags {
-    pub fn new() -> Flags {
-        Flags {
+    pub fn new(alloc: Global) -> Result<Flags, NoMemory> {
+        Ok(Flags {
             stop: AtomicBool::new(false),
-            short: AtomicBool::new(false),
-        }
+            signs: Signs::new(alloc)?,
+        })
     }
-}
-
-/// What came of a round.
-#[derive(Drop)]
-struct Round {
-    /// Nodes lay in slots below this.
-    slots: u32,
-    /// Whether a node moved.
-    moved: bool,
 }
 
 /// Gives the node of a slot a turn, where it lies in the hall. There is none where it doesn't. After want of memory the
@@ -88,44 +130,56 @@ fn give_turn<J: Named, R: Wait, T: Turnstile>(
     Ok(Some(turn?))
 }
 
-/// Where a worker looks in a round of this number, where nodes were found in slots below this.
-fn reach_of(rounds: u32, known: u32) -> Reach
-    requires { known ≤ MAX_NODES }
-    ensures { result.slots ≤ MAX_NODES }
-{
-    let is_all = rounds % ROUNDS_TO_ALL_SLOTS == 0;
-    Reach {
-        slots: if is_all { MAX_NODES } else { known },
-        is_all,
+/// What a turn of the node of a slot makes due: itself, unless it can't go on by itself, and who may go on by what it did.
+/// Tells whether it moved.
+fn note(due: &mut Due, signs: &Signs, slot: u32, turn: &Turn) -> bool {
+    due.remove(slot);
+    let Turn::Moved(event) = turn else {
+        return false;
+    };
+    if !waits(event) {
+        due.add(slot);
     }
+    if let Some(partner) = signs.partner(event) {
+        due.add(partner);
+    }
+    true
 }
 
-/// Gives each node that lies in the hall within this reach a turn, in the order of slots.
+/// Gives each node that is due, and lies in the hall, a turn, in the order of slots. Tells whether one moved.
 fn give_turns<J: Named, R: Wait, T: Turnstile>(
     gates: &Gates,
     door: &mut Door<J, R>,
     hand: &mut Hand<R>,
+    flags: &Flags,
     stile: &T,
-    share: Share,
-    reach: Reach,
-) -> Result<Round, NoMemory>
+    due: &mut Due,
+    worker: u32,
+    slots: u32,
+) -> Result<bool, NoMemory>
     requires named { J.gates ≡ gates.now.words.shared.table_id }
-    requires few { reach.slots ≤ MAX_NODES }
-    ensures few { IfOk result (λ r. r.slots ≤ MAX_NODES) }
 {
-    let mut round = Round {
-        slots: 0,
-        moved: false,
-    };
-    for slot in 0..reach.slots {
-        if reach.is_all || share.has(slot) {
-            if let Some(turn) = give_turn(gates, door, hand, stile, share.worker, slot)? {
-                round.slots = slot + 1;
-                round.moved |= turn != Turn::Still;
+    let mut moved = false;
+    for slot in 0..slots.min(MAX_NODES) {
+        if due.has(slot) {
+            match give_turn(gates, door, hand, stile, worker, slot)? {
+                Some(turn) => moved |= note(due, &flags.signs, slot, &turn),
+                None => due.miss(slot),
             }
         }
     }
-    Ok(round)
+    Ok(moved)
+}
+
+/// Lets others go first behind a round that moved nothing, the longer the more there were.
+fn give_way<R: Wait>(rt: &R, parker: &Parker, rounds: Rounds) {
+    match rounds.quiet.checked_sub(QUIET_ROUNDS_AWAKE) {
+        Some(longer) => {
+            let micros = u64::from(longer.min(LONGEST_SLEEP));
+            parker.park_timeout(rt, Duration::from_micros(micros));
+        }
+        None => thread::yield_now(),
+    }
 }
 
 /// Gives nodes turns until it is told to stop. It stops with want of memory where a node's turn found none.
@@ -134,24 +188,36 @@ fn give_all_turns<J: Named, R: Wait + Copy, T: Turnstile>(
     gates: &Gates,
     door: &mut Door<J, R>,
     hand: &mut Hand<R>,
-    stop: &AtomicBool,
+    flags: &Flags,
     stile: &T,
     share: Share,
 ) -> Result<(), NoMemory>
     requires named { J.gates ≡ gates.now.words.shared.table_id }
 {
-    let mut known = 0_u32;
-    let mut rounds = 0_u32;
+    let mut due = Due::new();
+    let parker = Parker::new();
+    let mut rounds = Rounds { made: 0, quiet: 0 };
     for _ in rt.forever() {
-        if stop.load(Ordering::SeqCst) {
+        if flags.stop.load(Ordering::SeqCst) {
             return Ok(());
         }
-        let reach = reach_of(rounds, known);
-        let round = give_turns(gates, door, hand, stile, share, reach)?;
-        known = known.max(round.slots);
-        rounds = rounds.wrapping_add(1);
-        if !round.moved {
-            thread::yield_now();
+        let slots = flags.signs.made();
+        remind(&mut due, share, rounds, slots);
+        let moved = give_turns(
+            gates,
+            door,
+            hand,
+            flags,
+            stile,
+            &mut due,
+            share.worker,
+            slots,
+        )?;
+        rounds = rounds.after(moved);
+        if moved {
+            flags.signs.tell_move();
+        } else {
+            give_way(rt, &parker, rounds);
         }
     }
     unreachable!()
@@ -169,8 +235,8 @@ pub fn work<J: Named, R: Wait + Copy, T: Turnstile>(
 )
     requires named { J.gates ≡ gates.now.words.shared.table_id }
 {
-    let turns = give_all_turns(rt, gates, &mut door, &mut hand, &flags.stop, stile, share);
+    let turns = give_all_turns(rt, gates, &mut door, &mut hand, flags, stile, share);
     if turns.is_err() {
-        flags.short.store(true, Ordering::SeqCst);
+        flags.signs.tell_short();
     }
 }

@@ -11,7 +11,7 @@ use cfg_io::{MemShelf, MemSink};
 use change_runner::{NoOne, run_statements};
 use command_files::{Prepared, prepare};
 use command_program::still;
-use live_board::{Free, LiveBoard};
+use live_board::{Free, LiveBoard, Signs};
 use live_hall::{Hall, Named};
 use live_hands::Inboxes;
 use report_types::Report;
@@ -20,7 +20,6 @@ use std::alloc::Global;
 use std::marker::Brand;
 use std::process::Abort;
 use std::sync::Wait;
-use std::sync::atomic::AtomicBool;
 use std::test::Fail;
 use txn_gate::{ChangeSeat, Gates};
 
@@ -95,8 +94,8 @@ fn live_report<J: Named, R: Wait + Copy>(
     let (Some(door), Some(hand)) = (doors.pop(), hands.pop()) else {
         return Err(Fail::new("a door and a hand"));
     };
-    let short = AtomicBool::new(false);
-    let board = LiveBoard::new(rt, alloc, gates, seat, door, hand, &Free, &short);
+    let signs = Signs::new(alloc)?;
+    let board = LiveBoard::new(rt, alloc, gates, seat, door, hand, &Free, &signs);
     let (report, board, _listener) = run_statements(alloc, board, asked.start, asked.steps, NoOne)?;
     let _seat = board.into_seat();
     Ok(report)

@@ -15,7 +15,7 @@ use change_engine::Engine;
 use change_law::Start;
 use command_files::prepare;
 use config_graph::NoMemory;
-use live_board::{LiveBoard, Turnstile};
+use live_board::{LiveBoard, Signs, Turnstile};
 use live_hall::{BoxedGuest, Door, Hall, Named};
 use live_hands::{Hand, Inboxes};
 use node_host::Turn;
@@ -23,7 +23,7 @@ use std::alloc::Global;
 use std::marker::Brand;
 use std::process::Abort;
 use std::sync::Wait;
-use std::sync::atomic::{AtomicBool, AtomicU32, Ordering};
+use std::sync::atomic::{AtomicU32, Ordering};
 use std::test::Fail;
 use txn_gate::{ChangeSeat, Gates};
 
@@ -163,9 +163,9 @@ fn empty_then_full<J: Named, R: Wait + Copy + Abort>(
     let (Some(hand), Some(mut theirs)) = (hands.pop(), hands.pop()) else {
         return Err(Fail::new("two hands"));
     };
-    let short = AtomicBool::new(false);
+    let signs = Signs::new(alloc)?;
     let stile = Counting::new();
-    let board = LiveBoard::new(rt, alloc, gates, seat, door, hand, &stile, &short);
+    let board = LiveBoard::new(rt, alloc, gates, seat, door, hand, &stile, &signs);
     let mut engine = started(alloc, board, start)?;
     seen_apart(rt, gates, &mut engine, &mut other, &mut theirs)?;
     assert_eq!(rt; finish(&mut engine, 100)?, 3);
@@ -205,12 +205,12 @@ fn no_nodes<J: Named, R: Wait + Copy + Abort>(
     let mut hands = Inboxes::with_hands(rt, alloc, 1)?;
     let door = doors.pop().expect(&rt, "a door");
     let hand = hands.pop().expect(&rt, "a hand");
-    let short = AtomicBool::new(false);
+    let signs = Signs::new(alloc)?;
     let stile = Counting::new();
-    let mut board = LiveBoard::new(rt, alloc, gates, seat, door, hand, &stile, &short);
+    let mut board = LiveBoard::new(rt, alloc, gates, seat, door, hand, &stile, &signs);
     assert!(rt; !board.scan(true)?.done);
     assert!(rt; board.scan(true)?.done);
-    short.store(true, Ordering::SeqCst);
+    signs.tell_short();
     assert!(rt; board.scan(true).is_err());
     Ok(())
 }

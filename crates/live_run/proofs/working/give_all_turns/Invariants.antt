@@ -1,7 +1,5 @@
-use Rattle.std.proofs.Common.{◌≤◌}
-use Rattle.config_graph.specs.declared.TheConstants.{MAX_NODES}
 use Rattle.live_run.proofs.working.give_all_turns.Given as goal
 
 abbrev pub invariant-loop : goal.invariant-loop
 invariant-loop g l =
-    (goal.iterator-loop g).can_next l.iterator' × (goal.iterator-loop g).is_finite l.iterator' × (l.known ≤ MAX_NODES)
+    (goal.iterator-loop g).can_next l.iterator' × (goal.iterator-loop g).is_finite l.iterator'

@@ -1,0 +1,77 @@
+//! What a board and the workers beside it tell one another.
+
+use crate::partners::Partners;
+use config_graph::NoMemory;
+use quiesce_core::Event;
+use std::alloc::Global;
+use std::sync::atomic::{AtomicBool, AtomicU32, Ordering};
+
+/// What the workers beside a board tell it, and what it tells them. No contract rests on it.
+#[derive(Drop)]
+pub struct Signs {
+    /// A worker found no memory.
+    short: AtomicBool,
+    /// A worker moved a node since the last scan.
+    moved: AtomicBool,
+    /// Nodes were made in slots below this.
+    made: AtomicU32,
+    partners: Partners,
+}
+
+impl Signs {
+    /// Nothing was told.
+    pub fn new(alloc: Global) -> Result<Signs, NoMemory> {
+        Ok(Signs {
+            short: AtomicBool::new(false),
+            moved: AtomicBool::new(false),
+            made: AtomicU32::new(0),
+            partners: Partners::new(alloc)?,
+        })
+    }
+
+    /// A worker found no memory.
+    pub fn tell_short(&self) {
+        self.short.store(true, Ordering::SeqCst);
+    }
+
+    /// Whether a worker found no memory.
+    pub fn is_short(&self) -> bool {
+        self.short.load(Ordering::SeqCst)
+    }
+
+    /// A worker moved a node. The sign is read first, since writing takes it from other processors.
+    pub fn tell_move(&self) {
+        if !self.moved.load(Ordering::SeqCst) {
+            self.moved.store(true, Ordering::SeqCst);
+        }
+    }
+
+    /// Whether a worker moved a node since this was called last.
+    pub(crate) fn take_move(&self) -> bool {
+        self.moved.load(Ordering::SeqCst) && self.moved.swap(false, Ordering::SeqCst)
+    }
+
+    /// A node was made in the next slot, with so many ports from this one on.
+    pub(crate) fn tell_made(&self, slot: u32, first_port: u32, ports: u32) {
+        for port in 0..ports {
+            self.partners
+                .tell_owner(first_port.saturating_add(port), slot);
+        }
+        self.made.store(slot.saturating_add(1), Ordering::SeqCst);
+    }
+
+    /// A port was linked to the node of a slot.
+    pub(crate) fn tell_link(&self, port: u32, slot: u32) {
+        self.partners.tell_target(port, slot);
+    }
+
+    /// Below which slot nodes were made.
+    pub fn made(&self) -> u32 {
+        self.made.load(Ordering::SeqCst)
+    }
+
+    /// The slot of the node that may go on by what another did, where one may.
+    pub fn partner(&self, event: &Event) -> Option<u32> {
+        self.partners.of(event)
+    }
+}
