@@ -19,9 +19,9 @@ use txn_gate::Gates;
 
 /// In one of so many rounds all nodes of a worker's share are due, and in one of so many all nodes: a turn of the thread
 /// of the change may have left one something to do, and other workers may stand still.
-const ROUNDS_TO_SHARE: u32 = 32;
+const ROUNDS_TO_SHARE: u32 = 256;
 
-const ROUNDS_TO_ALL: u32 = 256;
+const ROUNDS_TO_ALL: u32 = 8_192;
 
 /// The same of rounds that move nothing: all nodes are due behind the first, and behind one of so many.
 const QUIET_ROUNDS_TO_ALL: u32 = 8;
