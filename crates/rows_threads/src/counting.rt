@@ -22,7 +22,8 @@ pub const ITEMS: u32 = 3;
 #[derive(Drop)]
 struct AreDone<'a>(&'a Gates);
 
-fn is_done(word: Word) -> bool {
+/// Whether a source's port has had the transactions of all its items.
+pub fn is_done(word: Word) -> bool {
     word.serial == ITEMS && word.phase.is_idle()
 }
 

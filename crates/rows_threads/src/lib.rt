@@ -3,6 +3,8 @@
 #![tactic(auto)]
 
 #[cfg(test)]
+mod coming;
+#[cfg(test)]
 mod counting;
 #[cfg(test)]
 mod held;

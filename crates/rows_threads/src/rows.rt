@@ -1,5 +1,6 @@
 //! The rows.
 
+use crate::coming::Coming;
 use crate::counting::{Counting, ITEMS};
 use crate::held::Held;
 use crate::looking_on::LookingOn;
@@ -204,6 +205,22 @@ fn each_turn_is_announced(rt: HostRuntime) -> Result<(), Fail> {
         return Err(Fail::new("calls before turns"));
     };
     assert!(rt; turns >= events);
+    Ok(())
+}
+
+#[test]
+fn workers_come_to_new_nodes(rt: HostRuntime) -> Result<(), Fail> {
+    let row = Row {
+        file: "line.dar",
+        description: LINES,
+        script: "use line.dar\nstart Sources(1)\nrun 1\nchange to Sources(3) within 1000000\nfinish within 1000000\nend\n",
+        options: &["--workers", "1"],
+    };
+    let (gates, seat) = Gates::new(rt.alloc())?;
+    let coming = Coming::new(&gates);
+    let (status, _sink) = run_row(rt, rt.alloc(), &row, &coming, &gates, seat)?;
+    assert_eq!(rt; status, Status::Ok);
+    assert!(rt; coming.is_held());
     Ok(())
 }
 
