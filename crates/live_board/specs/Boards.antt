@@ -43,6 +43,13 @@ pub record StandsLive (b : BoardSeen) (r : List Entry) : Type 0 where
   pub fits : FitsNodes (config_of r) b.room.sources b.lines b.heirs
   pub last : IsLast r b.last
 
+-- What an act of the change on a port leaves as it was: which nodes were taken in, which removed ones lie in their
+-- places, and how often its door found each cell empty.
+pub record KeepsNodes (old new : BoardSeen) : Type 0 where
+  pub nodes : new.nodes ≡ old.nodes
+  pub stored : new.stored ≡ old.stored
+  pub missed : new.missed ≡ old.missed
+
 -- what was taken in, by slot; nothing counts before all were
 abbrev pub taken_in : BoardSeen → List (List Event)
 taken_in b = if list_all (is_among b.nodes) (range_with_len 0 (length (config_of b.entries).slots)) then collected_logs b.entries b.nodes else []

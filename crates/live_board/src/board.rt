@@ -2,12 +2,13 @@
 
 ghost use Rattle.std.specs.Prelude.{◌≡◌, ℕ, ◌+◌, ◌<◌, ◌≤◌, ◌∷◌, ◌++◌, [], List, false, true, length, slice_set, IfOk, IsTrue, OnErr, OnOk};
 ghost use Rattle.change_board.specs.Collecting.{Collects};
+ghost use Rattle.change_board.specs.Looking.{AddsLook};
 ghost use Rattle.change_board.specs.Making.{Makes};
 ghost use Rattle.change_board.specs.Scans.{AddsScan, Found, scan_entries};
 ghost use Rattle.change_board.specs.Sights.{Sight};
 ghost use Rattle.change_board.specs.Steps.{HasRoomToMake, less_one};
 ghost use Rattle.config_graph.specs.declared.TheConstants.{MAX_NODES};
-ghost use Rattle.live_board.specs.Boards.{StandsLive, taken_in};
+ghost use Rattle.live_board.specs.Boards.{KeepsNodes, StandsLive, taken_in};
 ghost use Rattle.live_board.specs.Keeping.{is_stored, without};
 ghost use Rattle.live_board.specs.Making.{AddsMake};
 ghost use Rattle.live_board.specs.Standing as standing;
@@ -153,29 +154,54 @@ impl<'g, J: Named, R: Wait + Copy, T: Turnstile> Board for LiveBoard<'g, J, R, T
         false
     }
 
-    fn close(&mut self, port: u32) {
+    fn close(&mut self, port: u32)
+        requires may { (r : List Entry) × StandsLive self.old r × May r (event.Close port) }
+        ensures board { Adds StandsLive self.old self.new (Did (event.Close port) ∷ []) }
+        ensures room { self.new.room ≡ self.old.room }
+        ensures kept { KeepsNodes self.old self.new }
+    {
         self.gates.close(&mut self.seat, port);
         self.last = None;
     }
 
-    fn reopen(&mut self, port: u32) {
+    fn reopen(&mut self, port: u32)
+        requires may { (r : List Entry) × StandsLive self.old r × May r (event.Reopen port) }
+        ensures board { Adds StandsLive self.old self.new (Did (event.Reopen port) ∷ []) }
+        ensures room { self.new.room ≡ self.old.room }
+        ensures kept { KeepsNodes self.old self.new }
+    {
         self.gates.reopen(&mut self.seat, port);
         self.last = None;
     }
 
-    fn look(&mut self, port: u32) -> Look {
+    fn look(&mut self, port: u32) -> Look
+        requires made { (r : List Entry) × StandsLive self.old r × (port < length (config_of r).gates) }
+        ensures board { AddsLook StandsLive self.old self.new port result }
+        ensures room { self.new.room ≡ self.old.room }
+        ensures kept { KeepsNodes self.old self.new }
+    {
         self.last = None;
         // a run looks before it scans, and so does a change that waits
         self.pace.restart();
         self.gates.look(&mut self.seat, port)
     }
 
-    fn unlink(&mut self, port: u32) {
+    fn unlink(&mut self, port: u32)
+        requires may { (r : List Entry) × StandsLive self.old r × May r (event.Unlink port) }
+        ensures board { Adds StandsLive self.old self.new (Did (event.Unlink port) ∷ []) }
+        ensures room { self.new.room ≡ self.old.room }
+        ensures kept { KeepsNodes self.old self.new }
+    {
         self.gates.unlink(&mut self.seat, port);
         self.last = None;
     }
 
-    fn link(&mut self, port: u32, node: u32, provide: u32) {
+    fn link(&mut self, port: u32, node: u32, provide: u32)
+        requires may { (r : List Entry) × StandsLive self.old r × May r (event.Link port node provide) }
+        ensures board { Adds StandsLive self.old self.new (Did (event.Link port node provide) ∷ []) }
+        ensures room { self.new.room ≡ self.old.room }
+        ensures kept { KeepsNodes self.old self.new }
+    {
         self.gates.link(&mut self.seat, port, node, provide);
         self.signs.tell_link(port, node);
         self.last = None;
@@ -187,6 +213,7 @@ impl<'g, J: Named, R: Wait + Copy, T: Turnstile> Board for LiveBoard<'g, J, R, T
         ensures board { Adds StandsLive self.old self.new (Did (event.Remove slot) ∷ []) }
         ensures room { self.new.room ≡ self.old.room }
         ensures stored { self.new.stored ≡ slice_set self.old.stored slot true }
+        ensures collected { self.new.nodes ≡ self.old.nodes }
     {
         self.gates.remove(&mut self.seat, slot);
         let guest = await_guest(&self.rt, &mut self.door, slot);
@@ -206,6 +233,7 @@ impl<'g, J: Named, R: Wait + Copy, T: Turnstile> Board for LiveBoard<'g, J, R, T
         ensures places { OnOk result
             ((r : List Entry) → StandsLive self.old r → length (config_of r).slots + nodes ≤ length self.new.stored) }
         ensures stored { (n : ℕ) → is_stored self.new.stored n ≡ is_stored self.old.stored n }
+        ensures collected { self.new.nodes ≡ self.old.nodes }
     {
         let made = self.seat.made().nodes;
         // the nodes that were made since may be the next of a line too
@@ -235,6 +263,7 @@ impl<'g, J: Named, R: Wait + Copy, T: Turnstile> Board for LiveBoard<'g, J, R, T
         ensures sights { AddsMake self.old.entries self.new.entries node from }
         ensures room { self.new.room ≡ less_one self.old.room }
         ensures stored { self.new.stored ≡ without self.old.stored from }
+        ensures collected { self.new.nodes ≡ self.old.nodes }
     {
         let made = self.seat.made();
         let guest = make_guest(
