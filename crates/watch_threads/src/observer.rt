@@ -1,6 +1,6 @@
 //! One who looks, and notes what is new.
 
-ghost use Rattle.std.specs.Prelude.{◌≡◌, [], IfOk, OnOk, List as Items};
+ghost use Rattle.std.specs.Prelude.{◌≡◌, [], IfOk, IfSome, OnOk, length, List as Items};
 ghost use Rattle.config_graph.specs.Graph.{Graph as Shape};
 ghost use Rattle.watch_threads.specs.Noted.{AreNoted, AreNotedTo, EndAt, is_new, watching};
 ghost use Rattle.watch_view.specs.Known.{Reads};
@@ -72,6 +72,7 @@ impl Observer {
     /// Looks once, and notes what is seen where its number is new. That number is the answer.
     fn look<R: Wait>(&mut self, rt: &R) -> Result<Option<u32>, NoMemory>
         ensures reads { Reads (watching self.old) (watching self.new) }
+        ensures number { IfOk result (λ told. IfSome told (λ commits. commits ≡ length self.new.list)) }
         ensures ends { OnOk result (EndAt self.new.list self.new.noted) }
     {
         let seen = self.viewer.read(rt)?;
@@ -85,6 +86,7 @@ fn note(noted: &mut Vec<Sighting>, seen: &Seen) -> Result<Option<u32>, NoMemory>
         → AreNoted list noted.new.items }
     ensures ends { (list : Items Shape) → AreNoted list noted.old.items → IsLast list seen.now
         → OnOk result (EndAt list noted.new.items) }
+    ensures number { IfOk result (λ told. IfSome told (λ commits. commits ≡ seen.now.commits)) }
 {
     if !is_new(noted, seen.commits) {
         return Ok(None);
