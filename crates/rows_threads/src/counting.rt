@@ -45,7 +45,7 @@ pub struct Counting<'a> {
     /// How often it came to one of the first source, and of the second.
     firsts: AtomicU32,
     seconds: AtomicU32,
-    /// A source had begun more transactions than it had turns before.
+    /// A source had begun more transactions than its turns before are enough for.
     early: AtomicBool,
     /// Somebody waited in vain.
     missed: AtomicBool,
@@ -78,9 +78,10 @@ impl<'a> Counting<'a> {
         await_it(&AreDone(self.gates), &self.missed);
     }
 
-    /// A source that began so many transactions comes to a turn. In each of those before it began one at most.
+    /// A source that began so many transactions comes to a turn. Each of those before took a turn to begin, and each but
+    /// the last another to end.
     fn before_source(&self, turns: &AtomicU32, begun: u32) {
-        if begun > turns.fetch_add(1, Ordering::SeqCst) {
+        if begun > turns.fetch_add(1, Ordering::SeqCst).div_ceil(2) {
             self.early.store(true, Ordering::SeqCst);
         }
     }

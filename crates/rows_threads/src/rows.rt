@@ -54,6 +54,17 @@ component Sources(int n) {
 component One {
   inst a:sink;
 }
+component Crowd(int n, int items) {
+  array a[n]:sink;
+  forall i:0..n-1 inst a[i];
+  inst s:source(items); m:map(1); t:sink;
+  bind s.out -- m.in; m.next -- t.in;
+}
+component Either(int k) {
+  inst s:source(3); a:sink; b:sink;
+  when k == 0 bind s.out -- a.in;
+  when k == 1 bind s.out -- b.in;
+}
 ";
 
 /// The text between two lines, the first of which begins so.
@@ -83,6 +94,12 @@ fn count_events(text: &str) -> u32 {
     count
 }
 
+/// Whether a `finish within 100000000` ended before its last scan.
+fn comes_to_rest(text: &str) -> bool {
+    count_lines(text, "finish 100000000 ") == 1
+        && count_lines(text, "finish 100000000 100000000") == 0
+}
+
 /// Whether each log of a node of this name ends with this line.
 fn all_end_so(text: &str, name: &str, end: &str) -> bool {
     let mut of_name = false;
@@ -102,7 +119,7 @@ fn live_dine(rt: HostRuntime) -> Result<(), Fail> {
     let row = Row {
         file: "table.dar",
         description: TABLE,
-        script: "use table.dar\nstart Table(5,3,9)\nrun 10\nchange to Table(6,3,9) within 1000000\nshow\nfinish within 1000000\nend\n",
+        script: "use table.dar\nstart Table(5,3,9)\nrun 10\nchange to Table(6,3,9) within 100000000\nshow\nfinish within 100000000\nend\n",
         options: &["--workers", "4"],
     };
     let (gates, seat) = Gates::new(rt.alloc())?;
@@ -119,8 +136,7 @@ fn live_dine(rt: HostRuntime) -> Result<(), Fail> {
     assert_eq!(rt; count_lines(change, "close "), 3);
     assert!(rt; all_end_so(text, " ph[", "state 3"));
     assert!(rt; all_end_so(text, " f[", "state 0"));
-    assert_eq!(rt; count_lines(text, "finish 1000000 "), 1);
-    assert_eq!(rt; count_lines(text, "finish 1000000 1000000"), 0);
+    assert!(rt; comes_to_rest(text));
     Ok(())
 }
 
@@ -142,7 +158,7 @@ fn two_workers(rt: HostRuntime) -> Result<(), Fail> {
     let row = Row {
         file: "line.dar",
         description: LINES,
-        script: "use line.dar\nstart Line(3,10)\nfinish within 1000000\nend\n",
+        script: "use line.dar\nstart Line(3,10)\nfinish within 100000000\nend\n",
         options: &["--workers", "2"],
     };
     meet(rt, rt.alloc(), &row, 2)
@@ -154,7 +170,7 @@ fn eight_workers(rt: HostRuntime) -> Result<(), Fail> {
         file: "line.dar",
         description: LINES,
         // of nine nodes, since the thread of the change may hold one too
-        script: "use line.dar\nstart Lines(10)\nfinish within 1000000\nend\n",
+        script: "use line.dar\nstart Lines(10)\nfinish within 100000000\nend\n",
         options: &["--workers", "8"],
     };
     meet(rt, rt.alloc(), &row, 8)
@@ -165,7 +181,7 @@ fn outside_goes_on(rt: HostRuntime) -> Result<(), Fail> {
     let row = Row {
         file: "line.dar",
         description: LINES,
-        script: "use line.dar\nstart Lines(1)\nrun 1\nchange to Lines(2) within 3\nfinish within 1000000\nend\n",
+        script: "use line.dar\nstart Lines(1)\nrun 1\nchange to Lines(2) within 3\nfinish within 100000000\nend\n",
         options: &["--workers", "3"],
     };
     let (gates, seat) = Gates::new(rt.alloc())?;
@@ -187,7 +203,7 @@ fn each_turn_is_announced(rt: HostRuntime) -> Result<(), Fail> {
     let row = Row {
         file: "line.dar",
         description: LINES,
-        script: "use line.dar\nstart Sources(3)\nfinish within 1000000\nend\n",
+        script: "use line.dar\nstart Sources(3)\nfinish within 100000000\nend\n",
         options: &["--workers", "1"],
     };
     let (gates, seat) = Gates::new(rt.alloc())?;
@@ -205,6 +221,8 @@ fn each_turn_is_announced(rt: HostRuntime) -> Result<(), Fail> {
         return Err(Fail::new("calls before turns"));
     };
     assert!(rt; turns >= events);
+    // two of the nodes did nothing
+    assert!(rt; comes_to_rest(text));
     Ok(())
 }
 
@@ -213,7 +231,7 @@ fn workers_come_to_new_nodes(rt: HostRuntime) -> Result<(), Fail> {
     let row = Row {
         file: "line.dar",
         description: LINES,
-        script: "use line.dar\nstart Sources(1)\nrun 1\nchange to Sources(3) within 1000000\nfinish within 1000000\nend\n",
+        script: "use line.dar\nstart Sources(1)\nrun 1\nchange to Sources(3) within 100000000\nfinish within 100000000\nend\n",
         options: &["--workers", "1"],
     };
     let (gates, seat) = Gates::new(rt.alloc())?;
@@ -224,12 +242,54 @@ fn workers_come_to_new_nodes(rt: HostRuntime) -> Result<(), Fail> {
     Ok(())
 }
 
+/// Each node is found at the end, also those in the last slots, which have the line.
+#[test]
+fn as_many_nodes_as_can_be(rt: HostRuntime) -> Result<(), Fail> {
+    let row = Row {
+        file: "line.dar",
+        description: LINES,
+        script: "use line.dar\nstart Crowd(1020,50)\nfinish within 100000000\nend\n",
+        options: &["--workers", "2"],
+    };
+    let (gates, seat) = Gates::new(rt.alloc())?;
+    let (status, sink) = run_row(rt, rt.alloc(), &row, &Free, &gates, seat)?;
+    assert_eq!(rt; status, Status::Ok);
+    let Ok(text) = from_utf8(sink.bytes()) else {
+        return Err(Fail::new("a text"));
+    };
+    assert_eq!(rt; count_lines(text, "log "), 1_023);
+    assert_eq!(rt; count_lines(text, "end "), 100);
+    assert!(rt; comes_to_rest(text));
+    Ok(())
+}
+
+/// A change that makes no node and removes none.
+#[test]
+fn links_alone_change(rt: HostRuntime) -> Result<(), Fail> {
+    let row = Row {
+        file: "line.dar",
+        description: LINES,
+        script: "use line.dar\nstart Either(0)\nchange to Either(1) within 100000000\nfinish within 100000000\nend\n",
+        options: &["--workers", "1"],
+    };
+    let (gates, seat) = Gates::new(rt.alloc())?;
+    let (status, sink) = run_row(rt, rt.alloc(), &row, &Free, &gates, seat)?;
+    assert_eq!(rt; status, Status::Ok);
+    let Ok(text) = from_utf8(sink.bytes()) else {
+        return Err(Fail::new("a text"));
+    };
+    assert_eq!(rt; count_lines(text, "link "), 2);
+    assert_eq!(rt; count_lines(text, "make "), 3);
+    assert!(rt; comes_to_rest(text));
+    Ok(())
+}
+
 /// A line that is changed once.
 fn changed_line<'a>(options: &'a [&'a str]) -> Row<'a> {
     Row {
         file: "line.dar",
         description: LINES,
-        script: "use line.dar\nstart Line(3,10)\nchange to Line(3,20) within 1000000\nfinish within 1000000\nend\n",
+        script: "use line.dar\nstart Line(3,10)\nchange to Line(3,20) within 100000000\nfinish within 100000000\nend\n",
         options,
     }
 }
@@ -244,6 +304,8 @@ fn watch_line(rt: HostRuntime) -> Result<(), Fail> {
         return Err(Fail::new("a text"));
     };
     assert!(rt; text.contains("\nstatus 0\nseen 0 "));
+    // a node was removed that none took over from
+    assert!(rt; comes_to_rest(text));
     assert!(rt; text.ends_with("\nseen 0 2 3 2\n"));
     Ok(())
 }
@@ -334,7 +396,7 @@ fn an_observer_reads(rt: HostRuntime) -> Result<(), Fail> {
     let row = Row {
         file: "line.dar",
         description: LINES,
-        script: "use line.dar\nstart Line(3,10)\nrun 1\nchange to Line(3,20) within 1000000\nfinish within 1000000\nend\n",
+        script: "use line.dar\nstart Line(3,10)\nrun 1\nchange to Line(3,20) within 100000000\nfinish within 100000000\nend\n",
         options: &[],
     };
     let observers = Observers::new(1);

@@ -19,6 +19,10 @@ use std::thread::Threads;
 use txn_gate::{ChangeSeat, Gates};
 use watch_threads::{Observers, Sighting};
 
+/// Room for the text of a report. Places ask for their forks again and again, so it may be long where a thread stands
+/// still that holds one.
+const ROOM: usize = 16_777_216;
+
 /// A script, the file that it uses, and the words behind its name.
 #[derive(Drop)]
 pub struct Row<'a> {
@@ -122,7 +126,7 @@ where
     requires here { IsChangeSeatOf seat gates.now }
     requires fresh { (change_in seat ≡ nothing_done) × (collected_in seat ≡ []) × (seat.spare ≡ 0) }
 {
-    let mut sink = MemSink::new(alloc, 65_536)?;
+    let mut sink = MemSink::new(alloc, ROOM)?;
     let mut words = words_of(alloc, &["live", "s.cfg"])?;
     for option in row.options {
         words.push(String::from_str(alloc, option)?)?;
