@@ -1,6 +1,7 @@
 //! Rows of observers in threads of their own.
 
 ghost use Rattle.std.specs.Prelude.{◌≡◌, ◌≤◌, [], List as Items, OnOk};
+ghost use Rattle.config_graph.specs.Graph.{Graph as Shape};
 ghost use Rattle.watch_threads.specs.Hearing.{HasHeard};
 
 use crate::graphs::one_sink;
@@ -19,6 +20,9 @@ const LOOKS: u32 = 10_000_000;
 
 /// How many watches there are at most, until each observer looked on in one of them.
 const WATCHES: u32 = 1_000;
+
+/// How many commits one observer sees, one after the other.
+const COMMITS: u32 = 20;
 
 /// What an observer notes before the first commit.
 const NOTHING: Sighting = Sighting {
@@ -50,13 +54,31 @@ fn is_noted(observers: &Observers, commits: u32) -> bool {
     false
 }
 
-/// The lines of observers beside two commits, and whether one of them noted the first before the second was made, and the
-/// second before the end.
-fn beside_two_commits<R: Threads + Wait + Copy + Send + Sync>(
+/// Makes so many commits, and says whether an observer noted each before the next was made.
+fn commit_each<R: Threads + Wait + Copy>(
+    watch: &mut Watch<R>,
+    observers: &Observers,
+    graph: &Graph,
+    commits: u32,
+) -> Result<bool, NoMemory>
+    requires { (graphs : Items Shape) × HasHeard watch.old graphs }
+{
+    let mut noted = true;
+    for commit in 0..commits {
+        watch.committed(graph)?;
+        noted = noted && is_noted(observers, commit + 1);
+    }
+    Ok(noted)
+}
+
+/// The lines of observers beside so many commits, and whether one of them noted each before the next was made, and the
+/// last before the end.
+fn beside_commits<R: Threads + Wait + Copy + Send + Sync>(
     rt: R,
     alloc: Global,
     observers: &Observers,
     graph: &Graph,
+    commits: u32,
 ) -> Result<(bool, Vec<List<Sighting>>), NoMemory>
     requires { observers.now.count ≤ 4 }
 {
@@ -67,10 +89,7 @@ fn beside_two_commits<R: Threads + Wait + Copy + Send + Sync>(
             requires { observers.now.count ≤ 4 }
         {
             let mut watch = Watch::begin(scope, rt, alloc, observers)?;
-            watch.committed(graph)?;
-            let first = is_noted(observers, 1);
-            watch.committed(graph)?;
-            let noted = first && is_noted(observers, 2);
+            let noted = commit_each(&mut watch, observers, graph, commits)?;
             Ok((noted, watch.end(alloc, observers.count)?))
         },
     )
@@ -81,7 +100,7 @@ fn beside_two_commits<R: Threads + Wait + Copy + Send + Sync>(
 fn one_observer(rt: HostRuntime) -> Result<(), Fail> {
     let alloc = rt.alloc();
     let observers = Observers::new(1);
-    let (noted, lines) = beside_two_commits(rt, alloc, &observers, &one_sink(alloc)?)?;
+    let (noted, lines) = beside_commits(rt, alloc, &observers, &one_sink(alloc)?, COMMITS)?;
     assert!(rt; noted);
     let Some(lines) = lines.first() else {
         return Err(Fail::new("lines"));
@@ -90,7 +109,10 @@ fn one_observer(rt: HostRuntime) -> Result<(), Fail> {
         [first, behind @ ..] if *first == NOTHING => behind,
         lines => lines,
     };
-    assert_eq!(rt; lines, [one_node(1), one_node(2)].as_slice());
+    assert_eq!(rt; lines.len(), COMMITS as usize);
+    for (line, commits) in lines.iter().zip(1..) {
+        assert_eq!(rt; *line, one_node(commits));
+    }
     Ok(())
 }
 
@@ -100,7 +122,7 @@ fn all_observers(rt: HostRuntime) -> Result<(), Fail> {
     let alloc = rt.alloc();
     for count in 0..=4 {
         let observers = Observers::new(count);
-        let (noted, lines) = beside_two_commits(rt, alloc, &observers, &one_sink(alloc)?)?;
+        let (noted, lines) = beside_commits(rt, alloc, &observers, &one_sink(alloc)?, 2)?;
         assert!(rt; noted);
         assert_eq!(rt; lines.len(), count as usize);
         for lines in &lines {
@@ -123,7 +145,7 @@ fn each_looks_on(rt: HostRuntime) -> Result<(), Fail> {
     let mut looked = [false; 4];
     for _ in 0..WATCHES {
         let observers = Observers::new(4);
-        let (noted, lines) = beside_two_commits(rt, alloc, &observers, &graph)?;
+        let (noted, lines) = beside_commits(rt, alloc, &observers, &graph, 2)?;
         assert!(rt; noted);
         for (looked, lines) in looked.iter_mut().zip(&lines) {
             *looked |= has_looked_on(lines);
