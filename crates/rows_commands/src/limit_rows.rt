@@ -104,3 +104,25 @@ fn the_largest_change_is_planned(rt: HostRuntime) -> Result<(), Fail> {
         (21_355, 1_021),
     )
 }
+
+/// A node that is made is a part by itself.
+#[test]
+fn a_part_for_each_of_many_nodes(rt: HostRuntime) -> Result<(), Fail> {
+    let front = b"part 1\ncreate A[100] sink()\npart 2\ncreate A[101] sink()\n";
+    run_many(
+        &rt,
+        rt.alloc(),
+        &["parts", "many.dar", "Many", "1", "--", "Many", "300"],
+        (front, b"part 299\ncreate A[9] sink()\n"),
+        (8_754, 598),
+    )?;
+    run_many(
+        &rt,
+        rt.alloc(),
+        &[
+            "roll", "many.dar", "0", "0", "Many", "1", "--", "Many", "300",
+        ],
+        (front, b"node A[99] sink()\nnode A[9] sink()\n"),
+        (14_349, 899),
+    )
+}

@@ -212,6 +212,7 @@ fn no_nodes<J: Named, R: Wait + Copy + Abort>(
     assert!(rt; board.scan(true)?.done);
     signs.tell_short();
     assert!(rt; board.scan(true).is_err());
+    assert!(rt; board.scan(false).is_err());
     Ok(())
 }
 

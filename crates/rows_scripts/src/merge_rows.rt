@@ -23,7 +23,7 @@ static LAST: [(&'static str, bool); 4] = [
 ];
 
 /// A source and a sink: the history behind what is made, the source's log, and whether it can be so.
-static PAIRS: [(&'static str, &'static str, bool); 9] = [
+static PAIRS: [(&'static str, &'static str, bool); 10] = [
     ("close 0|drained 0 1|", "begin 0 1 1|end 0 1 1|", true),
     ("close 0|drained 0 0|", "begin 0 1 1|end 0 1 1|", false),
     (
@@ -49,6 +49,7 @@ static PAIRS: [(&'static str, &'static str, bool); 9] = [
     ("close 0|drained 0 1|", "begin 0 1 1|", false),
     ("close 0|drained 0 1|", "end 0 1 1|begin 0 1 1|", false),
     ("close 0|drained 0 1|", "begin 0 2 1|end 0 2 1|", false),
+    ("unlink 0|", "begin 0 1 1|end 0 1 1|", false),
 ];
 
 /// Whether a text with `|` for each line feed is a report whose history and logs are parts of one run.
