@@ -94,10 +94,9 @@ fn count_events(text: &str) -> u32 {
     count
 }
 
-/// Whether a `finish within 100000000` ended before its last scan.
+/// Whether a `finish within 1000000` ended before its last scan.
 fn comes_to_rest(text: &str) -> bool {
-    count_lines(text, "finish 100000000 ") == 1
-        && count_lines(text, "finish 100000000 100000000") == 0
+    count_lines(text, "finish 1000000 ") == 1 && count_lines(text, "finish 1000000 1000000") == 0
 }
 
 /// Whether each log of a node of this name ends with this line.
@@ -119,7 +118,7 @@ fn live_dine(rt: HostRuntime) -> Result<(), Fail> {
     let row = Row {
         file: "table.dar",
         description: TABLE,
-        script: "use table.dar\nstart Table(5,3,9)\nrun 10\nchange to Table(6,3,9) within 100000000\nshow\nfinish within 100000000\nend\n",
+        script: "use table.dar\nstart Table(5,3,9)\nrun 10\nchange to Table(6,3,9) within 1000000\nshow\nfinish within 1000000\nend\n",
         options: &["--workers", "4"],
     };
     let (gates, seat) = Gates::new(rt.alloc())?;
@@ -158,7 +157,7 @@ fn two_workers(rt: HostRuntime) -> Result<(), Fail> {
     let row = Row {
         file: "line.dar",
         description: LINES,
-        script: "use line.dar\nstart Line(3,10)\nfinish within 100000000\nend\n",
+        script: "use line.dar\nstart Line(3,10)\nfinish within 1000000\nend\n",
         options: &["--workers", "2"],
     };
     meet(rt, rt.alloc(), &row, 2)
@@ -170,7 +169,7 @@ fn eight_workers(rt: HostRuntime) -> Result<(), Fail> {
         file: "line.dar",
         description: LINES,
         // of nine nodes, since the thread of the change may hold one too
-        script: "use line.dar\nstart Lines(10)\nfinish within 100000000\nend\n",
+        script: "use line.dar\nstart Lines(10)\nfinish within 1000000\nend\n",
         options: &["--workers", "8"],
     };
     meet(rt, rt.alloc(), &row, 8)
@@ -181,7 +180,7 @@ fn outside_goes_on(rt: HostRuntime) -> Result<(), Fail> {
     let row = Row {
         file: "line.dar",
         description: LINES,
-        script: "use line.dar\nstart Lines(1)\nrun 1\nchange to Lines(2) within 3\nfinish within 100000000\nend\n",
+        script: "use line.dar\nstart Lines(1)\nrun 1\nchange to Lines(2) within 3\nfinish within 1000000\nend\n",
         options: &["--workers", "3"],
     };
     let (gates, seat) = Gates::new(rt.alloc())?;
@@ -203,7 +202,7 @@ fn each_turn_is_announced(rt: HostRuntime) -> Result<(), Fail> {
     let row = Row {
         file: "line.dar",
         description: LINES,
-        script: "use line.dar\nstart Sources(3)\nfinish within 100000000\nend\n",
+        script: "use line.dar\nstart Sources(3)\nfinish within 1000000\nend\n",
         options: &["--workers", "1"],
     };
     let (gates, seat) = Gates::new(rt.alloc())?;
@@ -231,7 +230,7 @@ fn workers_come_to_new_nodes(rt: HostRuntime) -> Result<(), Fail> {
     let row = Row {
         file: "line.dar",
         description: LINES,
-        script: "use line.dar\nstart Sources(1)\nrun 1\nchange to Sources(3) within 100000000\nfinish within 100000000\nend\n",
+        script: "use line.dar\nstart Sources(1)\nrun 1\nchange to Sources(3) within 1000000\nfinish within 1000000\nend\n",
         options: &["--workers", "1"],
     };
     let (gates, seat) = Gates::new(rt.alloc())?;
@@ -248,7 +247,7 @@ fn as_many_nodes_as_can_be(rt: HostRuntime) -> Result<(), Fail> {
     let row = Row {
         file: "line.dar",
         description: LINES,
-        script: "use line.dar\nstart Crowd(1020,50)\nfinish within 100000000\nend\n",
+        script: "use line.dar\nstart Crowd(1020,50)\nfinish within 1000000\nend\n",
         options: &["--workers", "2"],
     };
     let (gates, seat) = Gates::new(rt.alloc())?;
@@ -269,7 +268,7 @@ fn links_alone_change(rt: HostRuntime) -> Result<(), Fail> {
     let row = Row {
         file: "line.dar",
         description: LINES,
-        script: "use line.dar\nstart Either(0)\nchange to Either(1) within 100000000\nfinish within 100000000\nend\n",
+        script: "use line.dar\nstart Either(0)\nchange to Either(1) within 1000000\nfinish within 1000000\nend\n",
         options: &["--workers", "1"],
     };
     let (gates, seat) = Gates::new(rt.alloc())?;
@@ -289,7 +288,7 @@ fn changed_line<'a>(options: &'a [&'a str]) -> Row<'a> {
     Row {
         file: "line.dar",
         description: LINES,
-        script: "use line.dar\nstart Line(3,10)\nchange to Line(3,20) within 100000000\nfinish within 100000000\nend\n",
+        script: "use line.dar\nstart Line(3,10)\nchange to Line(3,20) within 1000000\nfinish within 1000000\nend\n",
         options,
     }
 }
@@ -396,7 +395,7 @@ fn an_observer_reads(rt: HostRuntime) -> Result<(), Fail> {
     let row = Row {
         file: "line.dar",
         description: LINES,
-        script: "use line.dar\nstart Line(3,10)\nrun 1\nchange to Line(3,20) within 100000000\nfinish within 100000000\nend\n",
+        script: "use line.dar\nstart Line(3,10)\nrun 1\nchange to Line(3,20) within 1000000\nfinish within 1000000\nend\n",
         options: &[],
     };
     let observers = Observers::new(1);

@@ -65,6 +65,9 @@ where
     requires fresh { (change_in seat ≡ nothing_done) × (collected_in seat ≡ []) × (seat.spare ≡ 0) }
 {
     let (status, is_back, sink) = run_words(rt, alloc, row, stile, gates, seat)?;
+    // each alone, so that a test that fails says which it was
+    assert!(rt; !matches!(status, Status::NoMemory));
+    assert!(rt; !matches!(status, Status::WriteFault));
     assert!(rt; is_back);
     Ok((status, sink))
 }
