@@ -109,7 +109,7 @@ help_text =
     ++ codes "darwin_run step SCRIPT                        run a script on one thread, write its report\n"
     ++ codes "darwin_run live SCRIPT [--workers W [--watch N]]\n"
     ++ codes "                                              run a script on W worker threads (1 to 8, or 4),\n"
-    ++ codes "                                              and write what N observers saw of it (1 to 4)\n"
+    ++ codes "                                              and write lines of N observers behind it (1 to 4)\n"
     ++ codes "darwin_run check SCRIPT REPORT                say whether a report can be one of this machine\n"
     ++ codes "darwin_run big N                              run and change a system of N lanes (1 to 40)\n"
     ++ codes "darwin_run upgrade FILE                       write a report in version 2\n"

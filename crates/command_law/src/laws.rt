@@ -94,7 +94,7 @@ pub fn want_of_memory_has_its_line()
 {}
 
 /// A law of runs: the run of a script ends with Ok, Pending or Unfinished, and comes with the text of its report, or
-/// with its summary where the script was made. Behind the text stands what observers saw, and nothing where there are
+/// with its summary where the script was made. Behind the text stand lines of observers, and none where there are
 /// none. Pending comes exactly where the report says that a change was given up, Unfinished exactly where it names a
 /// node that wasn't done and no such change. The two come for no other command, but that a roll may end with Pending.
 pub fn runs_end_by_their_reports()

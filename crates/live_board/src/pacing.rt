@@ -26,7 +26,7 @@ const MOST_MICROS: u32 = 500;
 #[derive(Drop)]
 pub struct Pace {
     parker: Parker,
-    /// Behind how many scans workers had moved nodes, since the last that found them still.
+    /// Behind how many scans workers had moved nodes, since eight in a row found them still.
     busy: u32,
     /// Since how many scans no worker moved a node.
     alone: u32,

@@ -65,7 +65,7 @@ where
     requires fresh { (change_in seat ≡ nothing_done) × (collected_in seat ≡ []) × (seat.spare ≡ 0) }
 {
     let (status, is_back, sink) = run_words(rt, alloc, row, stile, gates, seat)?;
-    // each alone, so that a test that fails says which it was
+    // each alone, so that a test that fails tells memory from room for the text
     assert!(rt; !matches!(status, Status::NoMemory));
     assert!(rt; !matches!(status, Status::WriteFault));
     assert!(rt; is_back);

@@ -1,4 +1,4 @@
--- The report of the run is answered, and agrees with the seat; behind it stands what its observers saw.
+-- The report of the run is answered, and agrees with the seat; behind it stand the lines of its observers.
 use Rattle.std.proofs.Common.{◌++◌, ◌∙◌, Ok, ap}
 use Rattle.command_law.specs.Schedules.{IsShownBy, threads}
 use Rattle.command_files.specs.Preparing.{statements_in}
