@@ -1,4 +1,4 @@
-"""What observers saw of a run, which stands behind its report: `seen I C K L`, the observer, a number of commits, and how many nodes and links
+"""The lines of observers of a run, which stand behind its report: `seen I C K L`, the observer, a number of commits, and how many nodes and links
 the graph has that stands at the commit line of this number."""
 import re
 
