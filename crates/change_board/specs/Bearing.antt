@@ -23,8 +23,13 @@ abbrev pub loads_root : ℕ → ℕ → Entry → Bool
 loads_root p k (Looked q w) = q == p && (has_root (unpack w) && serial_of w == k)
 loads_root p k _ = false
 
+-- whether an entry is the mark of a scan
+abbrev pub is_scan : Entry → Bool
+is_scan (Scanned b m) = true
+is_scan _ = false
+
 -- Behind the last close and before the line on how many rounds were made, at least one look more than these rounds
--- loaded root k of port p.
+-- loaded root k of port p; one of them behind the last scan.
 pub record SawRoot (before : List Item) (p k : ℕ) : Type 0 where
   pub front : List Item
   pub since : List Item
@@ -34,6 +39,12 @@ pub record SawRoot (before : List Item) (p k : ℕ) : Type 0 where
   pub only_roots : list_all is_root (lines roots) ≡ true
   pub behind_closes : list_any is_close (lines since) ≡ false
   pub enough : rounds + 1 ≤ count_by (loads_root p k) (entries since)
+  pub earlier : List Item
+  pub word : ℕ
+  pub later : List Item
+  pub last : since ≡ earlier ++ silent (Looked p word) ∷ later
+  pub loads : loads_root p k (Looked p word) ≡ true
+  pub no_scan_behind : list_any is_scan (entries later) ≡ false
 
 -- whether an entry is the mark of a scan in which no node begins a transaction
 abbrev pub is_waiting_scan : Entry → Bool

@@ -60,8 +60,8 @@ fn meaning_of(alloc: Global, verb: EventVerb, line: &[u8]) -> Result<EventLine, 
 {
     match verb {
         EventVerb::Start => start(alloc, line),
-        EventVerb::Owner(step) => Ok(EventLine::Event(step.event(triple_in(line)?))),
-        EventVerb::Target(step) => Ok(EventLine::Event(step.event(triple_in(line)?))),
+        EventVerb::Owner(step) => Ok(EventLine::Event(step.event(triple_in(line)?).event())),
+        EventVerb::Target(step) => Ok(EventLine::Event(step.event(triple_in(line)?).event())),
         EventVerb::Single(kind) => Ok(EventLine::Event(kind.event(single_in(line)?))),
         EventVerb::Link => Ok(EventLine::Event(link(triple_in(line)?))),
         EventVerb::Make => Ok(EventLine::Event(make(alloc, line)?)),

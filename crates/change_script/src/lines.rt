@@ -57,7 +57,7 @@ fn cut_line(text: &[u8]) -> (&[u8], &[u8])
 }
 
 /// `line` without the blanks at its ends.
-fn trimmed(line: &[u8]) -> &[u8]
+pub fn trimmed(line: &[u8]) -> &[u8]
     ensures { result.now ≡ trimmed line.now }
 {
     without_right_margin(without_left_margin(line))
@@ -102,7 +102,7 @@ fn is_margin(byte: u8) -> bool
 }
 
 /// Whether a trimmed line says something.
-fn is_statement(line: &[u8]) -> bool
+pub fn is_statement(line: &[u8]) -> bool
     ensures { result ≡ is_statement line.now }
 {
     match line.first() {

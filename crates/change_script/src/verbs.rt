@@ -4,6 +4,7 @@ ghost use Rattle.std.specs.Prelude.{◌≡◌};
 ghost use Rattle.change_script.specs.EventLines.{owner_bytes, owner_event, single_bytes, single_event, target_bytes, target_event, event_verb_bytes, event_verb_named};
 
 use crate::event_lines::Triple;
+use node_events::{Deed, Message, NodeEvent};
 use quiesce_core::Event;
 
 /// A step of a transaction that the owner of its port makes: PORT SERIAL VALUE follow.
@@ -101,36 +102,20 @@ impl OwnerStep {
     }
 
     /// The event of this port, serial and value.
-    pub fn event(self, numbers: Triple) -> Event
+    pub fn event(self, numbers: Triple) -> NodeEvent
         ensures { result ≡ owner_event self numbers }
     {
-        let Triple {
-            first: port,
-            second: serial,
-            third: value,
-        } = numbers;
-        match self {
-            OwnerStep::Begin => Event::Begin {
-                port,
-                serial,
-                value,
-            },
-            OwnerStep::Call => Event::Call {
-                port,
-                serial,
-                value,
-            },
-            OwnerStep::Ask => Event::Ask {
-                port,
-                serial,
-                value,
-            },
-            OwnerStep::End => Event::End {
-                port,
-                serial,
-                value,
-            },
-        }
+        let message = Message {
+            port: numbers.first,
+            serial: numbers.second,
+            value: numbers.third,
+        };
+        NodeEvent::of(match self {
+            OwnerStep::Begin => Deed::Begin(message),
+            OwnerStep::Call => Deed::Call(message),
+            OwnerStep::Ask => Deed::Ask(message),
+            OwnerStep::End => Deed::End(message),
+        })
     }
 }
 
@@ -147,36 +132,20 @@ impl TargetStep {
     }
 
     /// The event of this port, serial and value.
-    pub fn event(self, numbers: Triple) -> Event
+    pub fn event(self, numbers: Triple) -> NodeEvent
         ensures { result ≡ target_event self numbers }
     {
-        let Triple {
-            first: port,
-            second: serial,
-            third: value,
-        } = numbers;
-        match self {
-            TargetStep::Take => Event::Take {
-                port,
-                serial,
-                value,
-            },
-            TargetStep::More => Event::More {
-                port,
-                serial,
-                value,
-            },
-            TargetStep::Hear => Event::Hear {
-                port,
-                serial,
-                value,
-            },
-            TargetStep::Give => Event::Give {
-                port,
-                serial,
-                value,
-            },
-        }
+        let message = Message {
+            port: numbers.first,
+            serial: numbers.second,
+            value: numbers.third,
+        };
+        NodeEvent::of(match self {
+            TargetStep::Take => Deed::Take(message),
+            TargetStep::More => Deed::More(message),
+            TargetStep::Hear => Deed::Hear(message),
+            TargetStep::Give => Deed::Give(message),
+        })
     }
 }
 

@@ -318,7 +318,7 @@ module _ (t : List Item) (m : List Moment) (ms : List Member) (fair : AreFair t)
           rest,
         )
 
-    loaded_last : loads (Looked p w) ≡ true
+    pub loaded_last : loads_root p (serial_of w) (Looked p w) ≡ true
     loaded_last = root_loads (before_close ++ event.Close p ∷ members.events since) p (serial_of w) w run_split word_there root_there
 
     pub loaded_often : (y1 y2 rest : List Item) → ys ≡ y1 ++ y2 → count_by (looks_at p) (entries y2) + 1 ≤ count_by loads (entries (y2 ++ silent (Looked p w) ∷ rest))

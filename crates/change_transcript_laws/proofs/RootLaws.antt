@@ -31,7 +31,7 @@ use Rattle.txn_records.specs.declared.entry.Entry.{Entry}
 use Rattle.txn_records.specs.declared.entry.Entry.TheVariants.{Did, Looked, Sighted, Scanned}
 use Rattle.txn_records.specs.Looks.{is_drained_word, serial_of}
 use Rattle.txn_records.specs.Records.{IsRecordOf, Moment}
-use Rattle.change_board.specs.Bearing.{SawRoot, loads_root, looks_at}
+use Rattle.change_board.specs.Bearing.{SawRoot, is_scan, loads_root, looks_at}
 use Rattle.change_board.specs.Scans.{Found, look_entry, scan_entries}
 use Rattle.change_board.specs.Transcripts.{Item, silent, told, said, entries, line_in, lines, tells}
 use Rattle.change_engine.specs.Carrying.{deed_items, sight_item}
@@ -45,7 +45,7 @@ use Rattle.change_transcript_laws.proofs.ItemLemmas.{AreFair, IsFair, is_aside}
 use Rattle.change_transcript_laws.proofs.LineLemmas.{any_line, both_lines, none_both, none_deeds, none_passivation, none_roots, none_silent, silent_line}
 use Rattle.change_transcript_laws.proofs.LookLemmas.{all_are_seen}
 use Rattle.change_transcript_laws.proofs.LookingLemmas.{left_was_looked_at}
-use Rattle.change_transcript_laws.proofs.OpenLaws.{loaded_often, stood}
+use Rattle.change_transcript_laws.proofs.OpenLaws.{loaded_last, loaded_often, stood}
 use Rattle.change_engine.proofs.ItemLaws.{entries_both, sight_lines}
 use Rattle.change_engine.proofs.PassivationLaws.{left_more, looks_of, seen_root}
 use Rattle.change_transcript_laws.proofs.FollowLaws.{items_pushed}
@@ -120,6 +120,17 @@ record SeenAt (items : List Item) (p k n : ℕ) : Type 0 where
   busy : is_drained_word word ≡ false
   serial : serial_of word ≡ k
   often : n ≤ count_by (looks_at p) (entries front)
+  unscanned : list_any is_scan (entries back) ≡ false
+
+-- a pass has no mark of a scan
+no_scans : (found : List Found) → list_any is_scan (entries (map look_item found)) ≡ false
+no_scans [] = refl
+no_scans (f ∷ found) = by (is_drained_word f.word) (no_scans found)
+  where
+    by : (b : Bool) → list_any is_scan (entries (map look_item found)) ≡ false
+        → list_any is_scan (entries (cond b (told (Looked f.port f.word) (to.Drained f.port (serial_of f.word))) (silent (Looked f.port f.word)) ∷ map look_item found)) ≡ false
+    by true rest = rest
+    by false rest = rest
 
 busy_look : (p w : ℕ) (b : Bool) → b ≡ false → cond b (told (Looked p w) (to.Drained p (serial_of w))) (silent (Looked p w)) ≡ silent (Looked p w)
 busy_look p w b e = ap (λ c. cond c (told (Looked p w) (to.Drained p (serial_of w))) (silent (Looked p w))) e
@@ -139,6 +150,7 @@ seen_in_pass found xs x ys h =
       busy = busy;
       serial = ap (λ (r : LeftRoot). r.serial) w.is_root;
       often = omega arith;
+      unscanned = no_scans w.back;
     }
 
 behind : (more_ items : List Item) (p k n m : ℕ) → SeenAt items p k n → m ≤ count_by (looks_at p) (entries more_) + n → SeenAt (more_ ++ items) p k m
@@ -152,6 +164,7 @@ behind more_ items p k n m w few = record {
   often =
       let both = ap (count_by (looks_at p)) (entries_both more_ w.front) ∙ count_by-append (looks_at p) (entries more_) (entries w.front) in
       omega (arith, few, w.often, both);
+  unscanned = w.unscanned;
 }
 
 root_listed : (xs : List LeftRoot) (x : LeftRoot) (ys : List LeftRoot) → 1 ≤ count_by (λ q. q == x.port) (root_ports (xs ++ x ∷ ys))
@@ -193,6 +206,7 @@ record ClosedAt (ports : List ℕ) (how : Passivation) (p k : ℕ) : Type 0 wher
   ys_are : ys ≡ closes ++ looks
   looks_are : looks_region how ≡ looks ++ silent (Looked p word) ∷ zs
   often : length how.rounds ≤ count_by (looks_at p) (entries looks)
+  unscanned : list_any is_scan (entries zs) ≡ false
 
 -- a test of lines by their events
 abbrev reopens_line : ℕ → HistoryLine → Bool
@@ -286,6 +300,7 @@ closed_at ports within how xs x ys is h =
       ys_are = refl;
       looks_are = s.are;
       often = s.often;
+      unscanned = s.unscanned;
     }
 
 -- ---- each line of a transcript
@@ -377,6 +392,12 @@ module _ (t : List Item) (m : List Moment) (ms : List Member) (fair : AreFair t)
             only_roots = only_roots front;
             behind_closes = none_region is_close (λ q i. refl) how;
             enough = omega (arith, made, c.often, often, ap (λ u. count_by (loads_root p (serial_of c.word)) (entries u)) c.looks_are);
+            earlier = c.looks;
+            word = c.word;
+            later = c.zs;
+            last = c.looks_are;
+            loads = loaded_last t m ms fair j is_of p c.word xs c.ys (c.zs ++ v) after parts c.busy c.none_reopened none_closed;
+            no_scan_behind = c.unscanned;
           },
         )
 

@@ -20,7 +20,7 @@ use config_graph::{List, NoMemory};
 use live_hall::{BoxedGuest, Door, Guest, Named};
 use live_laws::{lines_have_folds, seats_tell_of_their_line};
 use node_host::Past;
-use quiesce_core::Event;
+use node_events::NodeEvent;
 use report_types::NodeLog;
 use state_handover::AnyNode;
 use std::alloc::Global;
@@ -28,7 +28,7 @@ use std::sync::Wait;
 use txn_gate::{ChangeSeat, Gates, NodeSeat};
 
 /// Puts what a node did into its place.
-fn put_log(logs: &mut Vec<NodeLog>, slot: u32, log: Vec<Event>)
+fn put_log(logs: &mut Vec<NodeLog>, slot: u32, log: Vec<NodeEvent>)
     ensures { logs.new.items ≡ with_events logs.old.items slot log.items }
 {
     let at = slot as usize;
@@ -42,7 +42,7 @@ fn take_node_in(
     gates: &Gates,
     seat: &mut ChangeSeat,
     theirs: NodeSeat,
-    log: Vec<Event>,
+    log: Vec<NodeEvent>,
     logs: &mut Vec<NodeLog>,
 )
     requires here { IsChangeSeatOf seat.old gates.now }

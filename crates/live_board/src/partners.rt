@@ -1,7 +1,7 @@
 //! Which nodes meet at each port.
 
 use config_graph::{MAX_PORTS, NoMemory};
-use quiesce_core::Event;
+use node_events::{Deed, NodeEvent};
 use std::alloc::Global;
 use std::sync::atomic::{AtomicU32, Ordering};
 
@@ -34,12 +34,12 @@ impl Partners {
     }
 
     /// The slot of the node that may go on by what another did at a port, where one may and is known.
-    pub fn of(&self, event: &Event) -> Option<u32> {
-        match event {
-            Event::Begin { port, .. } | Event::Call { port, .. } | Event::Ask { port, .. } => {
-                at(&self.targets, *port)
+    pub fn of(&self, event: NodeEvent) -> Option<u32> {
+        match event.deed() {
+            Deed::Begin(message) | Deed::Call(message) | Deed::Ask(message) => {
+                at(&self.targets, message.port)
             }
-            Event::Give { port, .. } | Event::More { port, .. } => at(&self.owners, *port),
+            Deed::Give(message) | Deed::More(message) => at(&self.owners, message.port),
             _ => None,
         }
     }

@@ -2,7 +2,7 @@
 
 use crate::partners::Partners;
 use config_graph::NoMemory;
-use quiesce_core::Event;
+use node_events::NodeEvent;
 use std::alloc::Global;
 use std::sync::atomic::{AtomicBool, AtomicU32, Ordering};
 
@@ -71,7 +71,7 @@ impl Signs {
     }
 
     /// The slot of the node that may go on by what another did, where one may.
-    pub fn partner(&self, event: &Event) -> Option<u32> {
+    pub fn partner(&self, event: NodeEvent) -> Option<u32> {
         self.partners.of(event)
     }
 }

@@ -14,8 +14,8 @@ ghost use Rattle.worked_report_laws.specs.Filled as filled;
 
 use change_board::Board;
 use change_transcript_laws::{
-    early_finishes_leave_nothing_undone, records_and_transcripts_join, records_bear_their_reports,
-    reports_of_threads_are_lawful,
+    early_finishes_leave_nothing_undone, joined_members_make_a_report_lawful,
+    records_and_transcripts_join, records_bear_their_reports, runs_and_finishes_end_at_rest,
 };
 
 /// Where the last look of the change's seat showed that its record and what it took in are of one run, the report of
@@ -28,7 +28,8 @@ pub fn reports_agree_with_their_seat()
     early_finishes_leave_nothing_undone();
     records_and_transcripts_join();
     records_bear_their_reports();
-    reports_of_threads_are_lawful();
+    joined_members_make_a_report_lawful();
+    runs_and_finishes_end_at_rest();
 }
 
 /// What a runner carried out on a board that isn't alone is so, where the board stands for the record of the seat alone,

@@ -1,11 +1,12 @@
 -- A look behind all else changes nothing of what a report and its seat agree on.
-use Rattle.std.proofs.Common.{◌≡◌, ◌∙◌, ℕ, List, [], ◌∷◌, ◌++◌, length, map, refl, ap, sym}
+use Rattle.std.proofs.Common.{◌≡◌, ◌∙◌, ℕ, List, [], ◌∷◌, ◌++◌, append_assoc, length, map, None, refl, ap, sym}
 use Rattle.std.specs.List.{range_with_len}
 use Rattle.std.proofs.lemmas.List.{append-nil}
 use Rattle.std.proofs.lemmas.List.Elements.{filter_map-append}
 use Rattle.base.proofs.EachLaws.{each_pushed}
+use Rattle.base.proofs.ListLaws.{AllByRecursion-push}
 use Rattle.change_board.specs.Bearing.{Bears, IsBorne}
-use Rattle.change_board.specs.Transcripts.{entry_in, line_in, lines, silent}
+use Rattle.change_board.specs.Transcripts.{entries, entry_in, line_in, lines, silent}
 use Rattle.change_law.specs.Statements.{Statement}
 use Rattle.live_laws.specs.Ended.{AgreesWith}
 use Rattle.quiesce_commit_laws.specs.Steps.{change_all}
@@ -18,7 +19,7 @@ use Rattle.txn_records.specs.Entries.{config_of, event_in, events_in}
 use Rattle.txn_records.specs.declared.entry.Entry.{Entry}
 use Rattle.txn_records.specs.declared.entry.Entry.TheVariants.{Looked}
 
-config_kept : (r : List Entry) (p w : ℕ) → config_of (r ++ Looked p w ∷ []) ≡ config_of r
+pub config_kept : (r : List Entry) (p w : ℕ) → config_of (r ++ Looked p w ∷ []) ≡ config_of r
 config_kept r p w = ap (change_all empty.config) (filter_map-append event_in r (Looked p w ∷ []) ∙ append-nil (events_in r))
 
 bears_still : (r : List Entry) (p w : ℕ) (history : List HistoryLine) → Bears r history → Bears (r ++ Looked p w ∷ []) history
@@ -33,6 +34,18 @@ pub agrees_still : (statements : List Statement) (report : Report) (r : List Ent
     → AgreesWith statements report (r ++ Looked p w ∷ []) nodes
 agrees_still statements report r p w nodes a = record {
   lawful = a.lawful;
+  came = record {
+    transcript = a.came.transcript;
+    is_transcript = a.came.is_transcript;
+    history_is = a.came.history_is;
+    seen_behind = a.came.seen_behind ++ Looked p w ∷ [];
+    quiet = AllByRecursion-push (λ x. event_in x ≡ None) a.came.seen_behind (Looked p w) a.came.quiet refl;
+    record_is = ap (λ q. q ++ Looked p w ∷ []) a.came.record_is ∙ append_assoc (entries a.came.transcript) a.came.seen_behind (Looked p w ∷ []);
+    moments = a.came.moments;
+    is_record = a.came.is_record;
+    logs = a.came.logs;
+    joined = a.came.joined;
+  };
   at_once = a.at_once;
   bears = bears_still r p w report.history a.bears;
   logs_are = a.logs_are ∙ ap (λ (c : Configuration). map (log_in nodes) (range_with_len 0 (length c.slots))) (sym (config_kept r p w));

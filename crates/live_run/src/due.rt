@@ -1,7 +1,7 @@
 //! Which nodes a worker gives turns next.
 
 use config_graph::MAX_NODES;
-use quiesce_core::Event;
+use node_events::{Deed, NodeEvent};
 
 /// How often a worker looks for a node that has something to do, where others have it.
 const LOOKS: u8 = 4;
@@ -57,9 +57,9 @@ impl Due {
 }
 
 /// Whether a node that did this can't go on by itself.
-pub fn waits(event: &Event) -> bool {
+pub fn waits(event: NodeEvent) -> bool {
     matches!(
-        event,
-        Event::Begin { .. } | Event::Call { .. } | Event::Ask { .. } | Event::More { .. }
+        event.deed(),
+        Deed::Begin(_) | Deed::Call(_) | Deed::Ask(_) | Deed::More(_)
     )
 }

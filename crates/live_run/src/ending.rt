@@ -1,11 +1,14 @@
 //! The end of a script on threads: the last look of the change's seat.
 
-ghost use Rattle.std.specs.Prelude.{◌≡◌, List};
+ghost use Rattle.std.specs.Prelude.{◌≡◌, ◌<◌, ℕ, IsTrue, List, length};
 ghost use Rattle.change_law.specs.Statements.{Statement};
 ghost use Rattle.live_laws.specs.Ended.{AgreesWith};
 ghost use Rattle.live_run.specs.Carried.{CarriedOut};
 ghost use Rattle.report_types.specs.declared.report.Report.{Report};
 ghost use Rattle.txn_gate.specs.Seats.{IsChangeSeatOf, collected_in, record_of};
+ghost use Rattle.txn_law.specs.Merging.{MergeIntoRun};
+ghost use Rattle.txn_law.specs.Views.{is_among};
+ghost use Rattle.txn_records.specs.Entries.{config_of};
 
 use live_laws::reports_agree_with_their_seat;
 use txn_gate::{ChangeSeat, Gates};
@@ -20,6 +23,9 @@ pub fn look_last(gates: &Gates, seat: &mut ChangeSeat)
     ensures agrees { (statements : List Statement) (report : Report)
         → CarriedOut gates.now.words.shared.table_id statements report seat.old
         → AgreesWith statements report (record_of seat.new) (collected_in seat.new) }
+    ensures merged { MergeIntoRun (record_of seat.new) (collected_in seat.new) }
+    ensures all { (n : ℕ) → n < length (config_of (record_of seat.new)).slots
+        → IsTrue (is_among (collected_in seat.new) n) }
 {
     reports_agree_with_their_seat();
     gates.finish(seat);

@@ -137,10 +137,10 @@ fn note(due: &mut Due, signs: &Signs, slot: u32, turn: &Turn) -> bool {
     let Turn::Moved(event) = turn else {
         return false;
     };
-    if !waits(event) {
+    if !waits(*event) {
         due.add(slot);
     }
-    if let Some(partner) = signs.partner(event) {
+    if let Some(partner) = signs.partner(*event) {
         due.add(partner);
     }
     true

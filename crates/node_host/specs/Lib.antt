@@ -9,5 +9,4 @@ pub mod Trying
 pub mod Tried
 pub mod Posting
 pub mod Awaiting
-pub mod NodeEvents
 pub mod Turning

@@ -11,9 +11,9 @@ ghost use Rattle.node_host.specs.Tried.{CannotBegin, IsHeld, IsTried, Keeps, is_
 
 use crate::node::HostNode;
 use component_trait::Component;
+use node_events::NodeEvent;
 use node_gate::{GateSeat, PortGate};
 use port_queue::Hints;
-use quiesce_core::Event;
 
 impl<C: Component + Drop, S: GateSeat + Drop> HostNode<C, S> {
     /// Takes the next request up, or else begins what it wants.
@@ -22,7 +22,7 @@ impl<C: Component + Drop, S: GateSeat + Drop> HostNode<C, S> {
         gate: &mut G,
         hints: &mut H,
         allowed: bool,
-    ) -> Option<Event>
+    ) -> Option<NodeEvent>
         requires can { CanAct G.PortGate gate.old self.old }
         requires has_room { C.has_room self.old.inner }
         requires free { (C.state self.old.inner).service ≡ None }
@@ -44,7 +44,7 @@ impl<C: Component + Drop, S: GateSeat + Drop> HostNode<C, S> {
         gate: &mut G,
         hints: &mut H,
         allowed: bool,
-    ) -> Option<Event>
+    ) -> Option<NodeEvent>
         requires can { CanAct G.PortGate gate.old self.old }
         requires has_room { C.has_room self.old.inner }
         ensures acts { Acts G.PortGate gate.old gate.new self.old self.new result }
@@ -68,7 +68,7 @@ impl<C: Component + Drop, S: GateSeat + Drop> HostNode<C, S> {
         gate: &mut G,
         hints: &mut H,
         allowed: bool,
-    ) -> Option<Event>
+    ) -> Option<NodeEvent>
         requires can { CanAct G.PortGate gate.old self.old }
         requires has_room { C.has_room self.old.inner }
         ensures acts { Acts G.PortGate gate.old gate.new self.old self.new result }
@@ -103,7 +103,7 @@ impl<C: Component + Drop, S: GateSeat + Drop> HostNode<C, S> {
         gate: &mut G,
         hints: &mut H,
         allowed: bool,
-    ) -> Option<Event>
+    ) -> Option<NodeEvent>
         requires can { CanAct G.PortGate gate.old self.old }
         requires has_room { C.has_room self.old.inner }
         ensures acts { Acts G.PortGate gate.old gate.new self.old self.new result }

@@ -11,14 +11,13 @@ ghost use Rattle.node_turn_laws.specs.Turn.{begins};
 ghost use Rattle.node_host.specs.Tried.{CannotBegin, Keeps, is_begin, is_move};
 
 use crate::ending::port_known;
-use crate::events::{Message, NodeEvent};
 use crate::keeping::{keep, seats_have_places};
 use crate::node::HostNode;
 use crate::posting::post;
 use component_trait::{Ask, Component};
+use node_events::{Deed, Message, NodeEvent};
 use node_gate::{BeginAnswer, GateSeat, PortGate};
 use port_queue::Hints;
-use quiesce_core::Event;
 
 impl<C: Component + Drop, S: GateSeat + Drop> HostNode<C, S> {
     /// Begins this, which the component wants, at an idle port, where the gate lets it, and posts the hint.
@@ -28,7 +27,7 @@ impl<C: Component + Drop, S: GateSeat + Drop> HostNode<C, S> {
         gate: &mut G,
         hints: &mut H,
         ask: Ask,
-    ) -> Option<Event>
+    ) -> Option<NodeEvent>
         requires wanted { moves.wants (C.state self.old.inner) ≡ Some ask }
         requires fits_ask { FitsRequest (C.state self.old.inner).kind ask }
         requires idle { (slice_index_or self.old.known.ports ask.require port_at_start).idle ≡ true }
@@ -50,7 +49,7 @@ impl<C: Component + Drop, S: GateSeat + Drop> HostNode<C, S> {
         let BeginAnswer::Begun { serial, target } = gate.begin(&mut self.seat, port, value) else {
             return None;
         };
-        let done = NodeEvent::Begin(Message {
+        let done = Deed::Begin(Message {
             port,
             serial,
             value,
@@ -73,7 +72,7 @@ impl<C: Component + Drop, S: GateSeat + Drop> HostNode<C, S> {
         gate: &mut G,
         hints: &mut H,
         ask: Ask,
-    ) -> Option<Event>
+    ) -> Option<NodeEvent>
         requires wanted { moves.wants (C.state self.old.inner) ≡ Some ask }
         requires fits_ask { FitsRequest (C.state self.old.inner).kind ask }
         requires can { CanAct G.PortGate gate.old self.old }
@@ -102,7 +101,7 @@ impl<C: Component + Drop, S: GateSeat + Drop> HostNode<C, S> {
         &mut self,
         gate: &mut G,
         hints: &mut H,
-    ) -> Option<Event>
+    ) -> Option<NodeEvent>
         requires can { CanAct G.PortGate gate.old self.old }
         ensures acts { Acts G.PortGate gate.old gate.new self.old self.new result }
         ensures hint { HintOf (gate_seen G.PortGate gate.old self.old self.new) self.old.first_port result
@@ -128,7 +127,7 @@ impl<C: Component + Drop, S: GateSeat + Drop> HostNode<C, S> {
         gate: &mut G,
         hints: &mut H,
         allowed: bool,
-    ) -> Option<Event>
+    ) -> Option<NodeEvent>
         requires can { CanAct G.PortGate gate.old self.old }
         ensures acts { Acts G.PortGate gate.old gate.new self.old self.new result }
         ensures hint { HintOf (gate_seen G.PortGate gate.old self.old self.new) self.old.first_port result

@@ -14,12 +14,12 @@ ghost use Rattle.quiesce_core.specs.declared.event.Event.TheVariants as event;
 ghost use Rattle.node_turn_laws.specs.Agreement.{expects};
 ghost use Rattle.node_host.specs.Tried.{HasNoReply, LoadsPort, is_reply_at};
 
-use crate::events::{Message, NodeEvent};
 use crate::keeping::{keep, seats_have_places};
 use crate::node::HostNode;
 use component_trait::Component;
+use node_events::{Deed, Message, NodeEvent};
 use node_gate::{GateSeat, PortGate, SeeAnswer};
-use quiesce_core::{Event, Known, PortKnown};
+use quiesce_core::{Known, PortKnown};
 
 /// What is known of the port of this requirement.
 pub(crate) fn port_known(known: &Known, require: u32) -> PortKnown
@@ -48,7 +48,11 @@ fn hand_in<C: Component>(inner: &mut C, first_port: u32, require: u32, known: Po
 impl<C: Component + Drop, S: GateSeat + Drop> HostNode<C, S> {
     /// Ends or replies at the port of one requirement that isn't idle, where a reply stands there.
     #[inline(never)]
-    fn reply_at_busy<G: PortGate<Seat = S>>(&mut self, gate: &mut G, require: u32) -> Option<Event>
+    fn reply_at_busy<G: PortGate<Seat = S>>(
+        &mut self,
+        gate: &mut G,
+        require: u32,
+    ) -> Option<NodeEvent>
         requires can { CanAct G.PortGate gate.old self.old }
         requires require { require < length (row (C.state self.old.inner).kind).requires_ }
         requires busy { (slice_index_or self.old.known.ports require port_at_start).idle ≡ false }
@@ -74,7 +78,7 @@ impl<C: Component + Drop, S: GateSeat + Drop> HostNode<C, S> {
             SeeAnswer::Answer { value } => {
                 gate.end(&mut self.seat, port);
                 hand_in(&mut self.inner, first, require, known, value);
-                let done = NodeEvent::End(Message {
+                let done = Deed::End(Message {
                     port,
                     serial,
                     value,
@@ -84,7 +88,7 @@ impl<C: Component + Drop, S: GateSeat + Drop> HostNode<C, S> {
             SeeAnswer::More { .. } => {
                 let value = self.inner.replies(require);
                 gate.ask(&mut self.seat, port, value);
-                let done = NodeEvent::Ask(Message {
+                let done = Deed::Ask(Message {
                     port,
                     serial,
                     value,
@@ -96,7 +100,7 @@ impl<C: Component + Drop, S: GateSeat + Drop> HostNode<C, S> {
 
     /// Ends or replies at the port of one requirement, where a reply stands there.
     #[inline(always)]
-    fn reply_at<G: PortGate<Seat = S>>(&mut self, gate: &mut G, require: u32) -> Option<Event>
+    fn reply_at<G: PortGate<Seat = S>>(&mut self, gate: &mut G, require: u32) -> Option<NodeEvent>
         requires can { CanAct G.PortGate gate.old self.old }
         requires require { require < length (row (C.state self.old.inner).kind).requires_ }
         ensures acts { Acts G.PortGate gate.old gate.new self.old self.new result }
@@ -120,7 +124,7 @@ impl<C: Component + Drop, S: GateSeat + Drop> HostNode<C, S> {
 
     /// Ends or replies at the lower of two ports at which a reply stands.
     #[tactic(auto, using(crate::proofs::ActLaws::acts_then))]
-    fn reply_at_either<G: PortGate<Seat = S>>(&mut self, gate: &mut G) -> Option<Event>
+    fn reply_at_either<G: PortGate<Seat = S>>(&mut self, gate: &mut G) -> Option<NodeEvent>
         requires can { CanAct G.PortGate gate.old self.old }
         requires two { length (row (C.state self.old.inner).kind).requires_ ≡ 2 }
         ensures acts { Acts G.PortGate gate.old gate.new self.old self.new result }
@@ -136,7 +140,7 @@ impl<C: Component + Drop, S: GateSeat + Drop> HostNode<C, S> {
     }
 
     /// Ends or replies at the lowest of its ports at which a reply stands.
-    pub(crate) fn end_or_ask<G: PortGate<Seat = S>>(&mut self, gate: &mut G) -> Option<Event>
+    pub(crate) fn end_or_ask<G: PortGate<Seat = S>>(&mut self, gate: &mut G) -> Option<NodeEvent>
         requires can { CanAct G.PortGate gate.old self.old }
         ensures acts { Acts G.PortGate gate.old gate.new self.old self.new result }
         ensures waiting { self.new.waiting ≡ self.old.waiting }

@@ -1,23 +1,23 @@
 //! What is kept of an event that a node did, and what a gate says of the node at a seat.
 
 ghost use Rattle.std.specs.Prelude.{◌≡◌, ◌++◌, ◌∷◌, [], ◌<◌, ◌^◌, length, vec_capacity};
-ghost use Rattle.node_host.specs.NodeEvents.{as_event};
+ghost use Rattle.node_events.specs.NodeEvents.{as_event};
 ghost use Rattle.node_gate.specs.Noting.{CanCount};
 ghost use Rattle.node_gate.specs.Seats.{IsWithinLimits};
 ghost use Rattle.quiesce_core.specs.Knowledge.{known_next};
 
-use crate::events::NodeEvent;
+use node_events::{Deed, NodeEvent};
 use node_gate::{PortGate, note};
-use quiesce_core::{Event, Known};
+use quiesce_core::Known;
 
 /// Puts an event at the end of a log that has room for it, and into what is known. It is answered too.
 #[inline(always)]
 pub(crate) fn keep(
-    log: &mut Vec<Event>,
+    log: &mut Vec<NodeEvent>,
     known: &mut Known,
     first_port: u32,
-    done: NodeEvent,
-) -> Event
+    done: Deed,
+) -> NodeEvent
     requires room { length log.old.items < vec_capacity log.old }
     requires small { first_port < 2 ^ 31 }
     requires count { CanCount known.old.service (as_event done) }
@@ -25,10 +25,10 @@ pub(crate) fn keep(
     ensures logged { log.new.items ≡ log.old.items ++ result ∷ [] }
     ensures known { known.new ≡ known_next first_port known.old result }
 {
-    let event = done.event();
-    note(known, first_port, &event);
+    let event = NodeEvent::of(done);
+    note(known, first_port, &event.event());
     log.push_reserved(event);
-    done.event()
+    event
 }
 
 /// A seat that fits is one of a slot and of ports as one run has them.

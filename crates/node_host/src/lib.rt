@@ -4,7 +4,6 @@
 mod acting;
 mod beginning;
 mod ending;
-mod events;
 mod keeping;
 mod node;
 mod posting;

@@ -10,8 +10,9 @@ ghost use Rattle.quiesce_core.specs.Knowledge.{nothing_known};
 ghost use Rattle.quiesce_core.specs.declared.event.Event.{Event};
 
 use component_trait::Component;
+use node_events::NodeEvent;
 use node_gate::{GateSeat, unknown};
-use quiesce_core::{Event, Known};
+use quiesce_core::Known;
 use std::alloc::Global;
 
 /// An earlier node, from which the state was handed on: its argument, its seat and all that it did.
@@ -22,7 +23,7 @@ pub struct Past<S: GateSeat + Drop> {
     /// 0 where its kind has none.
     pub arg: u32,
     pub seat: S,
-    pub log: Vec<Event>,
+    pub log: Vec<NodeEvent>,
     ghost told: { (es : List Event) → S.tells seat ≡ Some es → es ≡ log.items },
 }
 
@@ -33,7 +34,7 @@ pub struct HostNode<C: Component + Drop, S: GateSeat + Drop> {
     pub first_port: u32,
     pub inner: C,
     pub seat: S,
-    pub log: Vec<Event>,
+    pub log: Vec<NodeEvent>,
     /// The earliest first.
     pub past: Vec<Past<S>>,
     /// What the seat knows.
@@ -86,7 +87,7 @@ impl<C: Component + Drop, S: GateSeat + Drop> HostNode<C, S> {
         }
     }
 
-    pub fn log(&self) -> &[Event]
+    pub fn log(&self) -> &[NodeEvent]
         ensures { result.now ≡ self.now.log.items }
     {
         &self.log
@@ -105,7 +106,7 @@ impl<C: Component + Drop, S: GateSeat + Drop> HostNode<C, S> {
     }
 
     /// The component, the seat, the log and the past.
-    pub fn into_parts(self) -> (C, S, Vec<Event>, Vec<Past<S>>)
+    pub fn into_parts(self) -> (C, S, Vec<NodeEvent>, Vec<Past<S>>)
         ensures { result ≡ (self.inner, self.seat, self.log, self.past) }
     {
         (self.inner, self.seat, self.log, self.past)

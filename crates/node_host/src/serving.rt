@@ -15,14 +15,14 @@ ghost use Rattle.node_turn_laws.specs.Turn.{calls, does_next, hears, serves};
 ghost use Rattle.node_host.specs.Tried.{IsHeld, Keeps, is_move, shows_in_more};
 ghost use Rattle.node_gate.specs.Loads.{IsLed};
 
-use crate::events::{Message, NodeEvent};
 use crate::keeping::{keep, seats_have_places};
 use crate::node::HostNode;
 use crate::posting::post;
 use component_trait::{Ask, Component, Next};
+use node_events::{Deed, Message, NodeEvent};
 use node_gate::{CallAnswer, GateSeat, HearAnswer, PortGate};
 use port_queue::Hints;
-use quiesce_core::{Event, Known, Served};
+use quiesce_core::{Known, Served};
 
 /// Whether a call is left to end.
 fn awaits_call(known: &Known) -> bool
@@ -35,7 +35,7 @@ fn awaits_call(known: &Known) -> bool
 
 impl<C: Component + Drop, S: GateSeat + Drop> HostNode<C, S> {
     /// Hears the further message for which the service waits, once it is there.
-    fn hear<G: PortGate<Seat = S>>(&mut self, gate: &mut G, served: Served) -> Option<Event>
+    fn hear<G: PortGate<Seat = S>>(&mut self, gate: &mut G, served: Served) -> Option<NodeEvent>
         requires served { self.old.known.service ≡ Some served }
         requires waits { served.heard ≡ false }
         requires can { CanAct G.PortGate gate.old self.old }
@@ -58,7 +58,7 @@ impl<C: Component + Drop, S: GateSeat + Drop> HostNode<C, S> {
             HearAnswer::NotYet { .. } => None,
             HearAnswer::Heard { value } => {
                 self.inner.heard(value);
-                let done = NodeEvent::Hear(Message {
+                let done = Deed::Hear(Message {
                     port,
                     serial,
                     value,
@@ -74,7 +74,7 @@ impl<C: Component + Drop, S: GateSeat + Drop> HostNode<C, S> {
         gate: &mut G,
         served: Served,
         value: u32,
-    ) -> Option<Event>
+    ) -> Option<NodeEvent>
         requires served { self.old.known.service ≡ Some served }
         requires heard { served.heard ≡ true }
         requires ended { awaits self.old.known ≡ false }
@@ -93,7 +93,7 @@ impl<C: Component + Drop, S: GateSeat + Drop> HostNode<C, S> {
         let serial = served.serial;
         gate.give(&mut self.seat, port, value);
         self.inner.given();
-        let done = NodeEvent::Give(Message {
+        let done = Deed::Give(Message {
             port,
             serial,
             value,
@@ -107,7 +107,7 @@ impl<C: Component + Drop, S: GateSeat + Drop> HostNode<C, S> {
         gate: &mut G,
         served: Served,
         value: u32,
-    ) -> Option<Event>
+    ) -> Option<NodeEvent>
         requires served { self.old.known.service ≡ Some served }
         requires heard { served.heard ≡ true }
         requires ended { awaits self.old.known ≡ false }
@@ -126,7 +126,7 @@ impl<C: Component + Drop, S: GateSeat + Drop> HostNode<C, S> {
         let serial = served.serial;
         gate.more(&mut self.seat, port, value);
         self.inner.more_given();
-        let done = NodeEvent::More(Message {
+        let done = Deed::More(Message {
             port,
             serial,
             value,
@@ -141,7 +141,7 @@ impl<C: Component + Drop, S: GateSeat + Drop> HostNode<C, S> {
         hints: &mut H,
         served: Served,
         ask: Ask,
-    ) -> Option<Event>
+    ) -> Option<NodeEvent>
         requires served { self.old.known.service ≡ Some served }
         requires heard { served.heard ≡ true }
         requires ended { awaits self.old.known ≡ false }
@@ -164,11 +164,11 @@ impl<C: Component + Drop, S: GateSeat + Drop> HostNode<C, S> {
         match gate.call(&mut self.seat, port, value) {
             CallAnswer::Missed { .. } => {
                 self.inner.answered(ask.require, 0);
-                let done = NodeEvent::Miss { port };
+                let done = Deed::Miss { port };
                 Some(keep(&mut self.log, &mut self.known, self.first_port, done))
             }
             CallAnswer::Called { serial, target } => {
-                let done = NodeEvent::Call(Message {
+                let done = Deed::Call(Message {
                     port,
                     serial,
                     value,
@@ -192,7 +192,7 @@ impl<C: Component + Drop, S: GateSeat + Drop> HostNode<C, S> {
         gate: &mut G,
         hints: &mut H,
         served: Served,
-    ) -> Option<Event>
+    ) -> Option<NodeEvent>
         requires served { self.old.known.service ≡ Some served }
         requires heard { served.heard ≡ true }
         requires ended { awaits self.old.known ≡ false }
@@ -219,7 +219,7 @@ impl<C: Component + Drop, S: GateSeat + Drop> HostNode<C, S> {
         gate: &mut G,
         hints: &mut H,
         served: Served,
-    ) -> Option<Event>
+    ) -> Option<NodeEvent>
         requires served { self.old.known.service ≡ Some served }
         requires ended { awaits self.old.known ≡ false }
         requires can { CanAct G.PortGate gate.old self.old }
@@ -248,7 +248,7 @@ impl<C: Component + Drop, S: GateSeat + Drop> HostNode<C, S> {
         &mut self,
         gate: &mut G,
         hints: &mut H,
-    ) -> Option<Event>
+    ) -> Option<NodeEvent>
         requires can { CanAct G.PortGate gate.old self.old }
         ensures acts { Acts G.PortGate gate.old gate.new self.old self.new result }
         ensures room { result ≡ None → (self.new.log ≡ self.old.log) × (self.new.inner ≡ self.old.inner) }

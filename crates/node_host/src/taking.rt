@@ -11,17 +11,16 @@ ghost use Rattle.node_turn_laws.specs.Turn.{takes};
 ghost use Rattle.node_host.specs.Tried.{HasNoRequest, Keeps, is_move, is_stale_for};
 ghost use Rattle.node_gate.specs.Loads.{IsLed};
 
-use crate::events::{Message, NodeEvent};
 use crate::keeping::{keep, seats_have_places};
 use crate::node::HostNode;
 use component_trait::Component;
+use node_events::{Deed, Message, NodeEvent};
 use node_gate::{GateSeat, PortGate, TakeAnswer};
 use port_queue::Hints;
-use quiesce_core::Event;
 
 impl<C: Component + Drop, S: GateSeat + Drop> HostNode<C, S> {
     /// Takes the request up that waits at a port for this node, which is in no service.
-    fn take_at<G: PortGate<Seat = S>>(&mut self, gate: &mut G, port: u32) -> Option<Event>
+    fn take_at<G: PortGate<Seat = S>>(&mut self, gate: &mut G, port: u32) -> Option<NodeEvent>
         requires port { port < MAX_PORTS }
         requires can { CanAct G.PortGate gate.old self.old }
         requires has_room { C.has_room self.old.inner }
@@ -47,7 +46,7 @@ impl<C: Component + Drop, S: GateSeat + Drop> HostNode<C, S> {
                 value,
             } => {
                 self.inner.serve(provide, value);
-                let done = NodeEvent::Take(Message {
+                let done = Deed::Take(Message {
                     port,
                     serial,
                     value,
@@ -64,7 +63,7 @@ impl<C: Component + Drop, S: GateSeat + Drop> HostNode<C, S> {
         &mut self,
         gate: &mut G,
         hints: &mut H,
-    ) -> Option<Event>
+    ) -> Option<NodeEvent>
         requires can { CanAct G.PortGate gate.old self.old }
         requires has_room { C.has_room self.old.inner }
         requires free { (C.state self.old.inner).service ≡ None }

@@ -14,20 +14,20 @@ ghost use Rattle.node_host.specs.Tried.{IsTried, is_begin};
 use crate::node::HostNode;
 use component_trait::Component;
 use config_graph::NoMemory;
+use node_events::NodeEvent;
 use node_gate::{GateSeat, PortGate};
 use port_queue::Hints;
-use quiesce_core::Event;
 
 /// What a turn did.
 #[derive(Debug, Drop, PartialEq, Eq)]
 pub enum Turn {
-    Moved(Event),
+    Moved(NodeEvent),
     /// No move was found possible in this turn.
     Still,
 }
 
 /// Takes the memory of one more event.
-fn reserve(log: &mut Vec<Event>) -> Result<(), NoMemory>
+fn reserve(log: &mut Vec<NodeEvent>) -> Result<(), NoMemory>
     ensures items { log.new.items ≡ log.old.items }
     ensures room { OnOk result (length log.new.items < vec_capacity log.new) }
     ensures full { OnErr result (length log.old.items < vec_capacity log.old → ⊥) }

@@ -17,7 +17,7 @@ use crate::handed::Handed;
 use crate::held::Held;
 use crate::table::NodeTable;
 use config_graph::Made;
-use quiesce_core::Event;
+use node_events::NodeEvent;
 use quiesce_word::Word;
 use state_handover::AnyNode;
 
@@ -74,7 +74,7 @@ impl NodeTable {
     }
 
     /// The log of a node that was handed over.
-    fn past_log(&self, handed: Handed) -> &[Event]
+    fn past_log(&self, handed: Handed) -> &[NodeEvent]
         requires there { ∥ HasLog (entries_of self.now) self.now.line_ends.items handed ∥₁ }
         ensures { result.now ≡ log_in (entries_of self.now) self.now.line_ends.items (gone handed) }
     {
@@ -86,7 +86,7 @@ impl NodeTable {
     }
 
     /// All that the node in a slot did, whether it is live, was removed or handed its state over.
-    pub fn log(&self, slot: u32) -> &[Event]
+    pub fn log(&self, slot: u32) -> &[NodeEvent]
         requires made { slot < length (machine self.now).config.slots }
         requires some { ∥ ((w : World) × Shows self.now w) ∥₁ }
         ensures log { (w : World) → Shows self.now w

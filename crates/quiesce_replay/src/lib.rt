@@ -8,6 +8,6 @@ mod replaying;
 mod settling;
 mod writing;
 
-pub use applying::Denial;
+pub use applying::{Denial, apply_all};
 pub use laws::denied_or_replayed;
 pub use replaying::{Outcome, replay};

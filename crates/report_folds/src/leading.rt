@@ -8,6 +8,7 @@ ghost use Rattle.report_folds.specs.Leading.{LedBy};
 
 use component_trait::{Component, follow};
 use config_graph::{NoMemory, VALUE_LIMIT};
+use node_events::NodeEvent;
 use quiesce_core::Event;
 use report_types::Last;
 
@@ -44,13 +45,13 @@ fn lead<C: Component>(node: &mut C, first_port: u32, event: &Event) -> Result<bo
 pub(crate) fn lead_through<C: Component>(
     node: &mut C,
     first_port: u32,
-    log: &[Event],
+    log: &[NodeEvent],
 ) -> Result<bool, NoMemory>
     ensures { IfOk result
         (LedBy (leading.led_through first_port (C.state node.old) log.now) (C.state node.new)) }
 {
     for event in log {
-        if !lead(node, first_port, event)? {
+        if !lead(node, first_port, &event.event())? {
             return Ok(false);
         }
     }

@@ -16,19 +16,19 @@ use crate::numbers::{one_index, plain, triple};
 use crate::parts::{Words, first_word};
 use change_script::{EventVerb, Single, Triple, cut, event_verb_named};
 use config_graph::{List, NoMemory};
-use quiesce_core::Event;
+use node_events::{Deed, NodeEvent};
 use report_types::Last;
 use std::alloc::Global;
 
 /// The event of a node that a line is, or `None` where it is none.
-pub fn event_line(line: &[u8]) -> Option<Event>
+pub fn event_line(line: &[u8]) -> Option<NodeEvent>
     ensures event { IfSome result (λ event. (line.now ≡ written event) × IsNodeEvent event) }
     ensures whenever_event { (event : Event) → IsNodeEvent event → line.now ≡ written event → result ≡ Some event }
 {
     read_event(line)
 }
 
-fn read_event(line: &[u8]) -> Option<Event>
+fn read_event(line: &[u8]) -> Option<NodeEvent>
     ensures { result ≡ event_in (words line.now) }
 {
     let (verb, rest) = cut(line, b' ');
@@ -36,7 +36,7 @@ fn read_event(line: &[u8]) -> Option<Event>
 }
 
 /// What stands behind a verb, where the event is one of a node.
-fn event_by(verb: EventVerb, rest: Words<'_>) -> Option<Event>
+fn event_by(verb: EventVerb, rest: Words<'_>) -> Option<NodeEvent>
     ensures { result ≡ event_by verb (parts_left 32 (option_copied rest.entry)) }
 {
     match verb {
@@ -60,13 +60,13 @@ fn step_numbers(rest: Words<'_>) -> Option<Triple>
 }
 
 /// A miss is an event of a node; the other events with one number are those of a change.
-fn miss(single: Single, rest: Words<'_>) -> Option<Event>
+fn miss(single: Single, rest: Words<'_>) -> Option<NodeEvent>
     ensures { result ≡ event_by (verbs.Single single) (parts_left 32 (option_copied rest.entry)) }
 {
     match single {
-        Single::Miss => Some(Event::Miss {
+        Single::Miss => Some(NodeEvent::of(Deed::Miss {
             port: one_index(rest)?,
-        }),
+        })),
         Single::Close | Single::Reopen | Single::Unlink | Single::Remove => None,
     }
 }

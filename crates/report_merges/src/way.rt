@@ -15,6 +15,7 @@ use crate::candidates::{Candidates, Chain};
 use crate::closes::{Closes, Root};
 use crate::guards::{is_beyond, is_called_at, is_done_by, is_drained, is_met, is_of_change, tell};
 use config_graph::NoMemory;
+use node_events::NodeEvent;
 use quiesce_core::{Core, Event};
 use report_types::{HistoryLine, NodeLog};
 use std::alloc::Global;
@@ -30,7 +31,7 @@ pub struct Way {
     pub closes: Closes,
 }
 
-fn log_at(logs: &[NodeLog], node: usize) -> &[Event]
+fn log_at(logs: &[NodeLog], node: usize) -> &[NodeEvent]
     ensures { result.now ≡ slice_index_or (events_of logs.now) node [] }
 {
     match logs.get(node) {
@@ -161,10 +162,11 @@ impl Way {
         let Some(event) = log.get(place) else {
             return false;
         };
-        if !self.may_do(history, node, event) {
+        let event = event.event();
+        if !self.may_do(history, node, &event) {
             return false;
         }
-        self.core.perform(event);
+        self.core.perform(&event);
         self.places[node] = place + 1;
         true
     }
@@ -232,7 +234,7 @@ impl Way {
     /// The port of the last event that came of a log.
     fn last_port(&self, logs: &[NodeLog], node: usize) -> Option<u32> {
         let place = self.place_of(node).checked_sub(1)?;
-        port_of(log_at(logs, node).get(place)?)
+        port_of(&log_at(logs, node).get(place)?.event())
     }
 
     /// Whether the next line waits for what is done at a port.

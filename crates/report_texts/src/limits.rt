@@ -4,7 +4,7 @@ ghost use Rattle.std.specs.Prelude.{◌≡◌};
 ghost use Rattle.report_texts.specs.Limits.{event_keeps, is_port, is_slot, is_source, last_keeps, line_keeps};
 
 use crate::version::Version;
-use quiesce_core::Event;
+use node_events::{Deed, NodeEvent};
 use report_types::{HistoryLine, Last};
 
 /// Below which number the slots of a report of version 1 are.
@@ -61,20 +61,19 @@ pub fn line_keeps(version: Version, line: &HistoryLine) -> bool
 }
 
 /// Whether the port of an event of a node keeps the limit of this version.
-pub fn event_keeps(version: Version, event: &Event) -> bool
-    ensures { result ≡ event_keeps version event.now }
+pub fn event_keeps(version: Version, event: NodeEvent) -> bool
+    ensures { result ≡ event_keeps version event }
 {
-    match event {
-        Event::Begin { port, .. }
-        | Event::Call { port, .. }
-        | Event::Take { port, .. }
-        | Event::More { port, .. }
-        | Event::Ask { port, .. }
-        | Event::Hear { port, .. }
-        | Event::Give { port, .. }
-        | Event::End { port, .. }
-        | Event::Miss { port } => is_port(version, *port),
-        _ => true,
+    match event.deed() {
+        Deed::Begin(message)
+        | Deed::Call(message)
+        | Deed::Take(message)
+        | Deed::Give(message)
+        | Deed::End(message)
+        | Deed::More(message)
+        | Deed::Ask(message)
+        | Deed::Hear(message) => is_port(version, message.port),
+        Deed::Miss { port } => is_port(version, port),
     }
 }
 

@@ -16,7 +16,7 @@ use crate::rest::{Rest, first_line, next_line};
 use crate::version::Version;
 use config_graph::{List, NoMemory};
 use itoa::Buffer;
-use quiesce_core::Event;
+use node_events::NodeEvent;
 use report_types::{HistoryLine, Last, NodeLog};
 use std::alloc::Global;
 
@@ -141,7 +141,7 @@ fn read_events<'a>(
     alloc: Global,
     version: Version,
     rest: Rest<'a>,
-) -> Result<(Vec<Event>, Rest<'a>), NoMemory>
+) -> Result<(Vec<NodeEvent>, Rest<'a>), NoMemory>
     requires { CanNumberLines rest }
     ensures read { IfOk result (λ found. events_from version [] rest.entry.number (lines rest.entry.text.now)
         ≡ leaving found.0.items found.1) }
@@ -177,11 +177,11 @@ fn count_events(text: &[u8]) -> usize {
     count
 }
 
-fn event_in(version: Version, line: &[u8]) -> Option<Event>
+fn event_in(version: Version, line: &[u8]) -> Option<NodeEvent>
     ensures { result ≡ event_of version line.now }
 {
     let event = event_said(line)?;
-    if event_keeps(version, &event) {
+    if event_keeps(version, event) {
         Some(event)
     } else {
         None

@@ -5,7 +5,7 @@ ghost use Rattle.report_lines.specs.Parts.{words};
 ghost use Rattle.report_lines.specs.Readings.{event_in, last_in, line_in};
 
 use config_graph::NoMemory;
-use quiesce_core::Event;
+use node_events::NodeEvent;
 use report_lines::{event_line, history_line, last_line};
 use report_types::{HistoryLine, Last};
 use std::alloc::Global;
@@ -18,7 +18,7 @@ pub fn line_said(alloc: Global, line: &[u8]) -> Result<Option<HistoryLine>, NoMe
 }
 
 /// The event that a line of a log says.
-pub fn event_said(line: &[u8]) -> Option<Event>
+pub fn event_said(line: &[u8]) -> Option<NodeEvent>
     ensures { result ≡ event_in (words line.now) }
 {
     event_line(line)

@@ -1,7 +1,7 @@
 //! What a run leaves behind: the history of its changes, the log of each node, and how it ended.
 
 use config_graph::{Graph, List, Node, Text};
-use quiesce_core::Event;
+use node_events::NodeEvent;
 
 /// A report of a run, as its text says it.
 #[derive(Debug, Drop)]
@@ -93,7 +93,7 @@ pub enum HistoryLine {
 #[derive(Debug, Drop)]
 pub struct NodeLog {
     pub slot: u32,
-    pub events: List<Event>,
+    pub events: List<NodeEvent>,
     pub last: Last,
 }
 

@@ -6,4 +6,4 @@ mod line_end;
 mod room;
 mod writing;
 
-pub use writing::report_text;
+pub use writing::{push_line, report_text};

@@ -6,7 +6,7 @@
 ghost use Rattle.std.specs.Prelude.{◌≤◌};
 
 use config_graph::{Graph, Node};
-use quiesce_core::Event;
+use node_events::{Deed, NodeEvent};
 use report_types::{HistoryLine, Last, NodeLog, Report};
 
 /// The most bytes of a line, names, paths and arguments left out.
@@ -92,64 +92,24 @@ fn log_room(log: &NodeLog) -> usize {
 }
 
 /// Serials grow, so that hardly a line of a log is longer than the last.
-fn events_room(events: &[Event]) -> usize {
+fn events_room(events: &[NodeEvent]) -> usize {
     match events.last() {
-        Some(event) => event_room(event).saturating_mul(events.len()),
+        Some(event) => event_room(*event).saturating_mul(events.len()),
         None => 0,
     }
 }
 
-fn event_room(event: &Event) -> usize {
-    match event {
-        Event::Begin {
-            port,
-            serial,
-            value,
-        }
-        | Event::Call {
-            port,
-            serial,
-            value,
-        }
-        | Event::Ask {
-            port,
-            serial,
-            value,
-        }
-        | Event::End {
-            port,
-            serial,
-            value,
-        } => three_room(*port, *serial, *value),
-        Event::Make { node, .. } => path_len(node).saturating_add(BARE_LINE),
-        event => room_of_target(event),
-    }
-}
-
-/// The same of an event of a target, or of one whose numbers aren't looked at.
-fn room_of_target(event: &Event) -> usize {
-    match event {
-        Event::Take {
-            port,
-            serial,
-            value,
-        }
-        | Event::Give {
-            port,
-            serial,
-            value,
-        }
-        | Event::More {
-            port,
-            serial,
-            value,
-        }
-        | Event::Hear {
-            port,
-            serial,
-            value,
-        } => three_room(*port, *serial, *value),
-        _ => BARE_LINE,
+fn event_room(event: NodeEvent) -> usize {
+    match event.deed() {
+        Deed::Begin(message)
+        | Deed::Call(message)
+        | Deed::Take(message)
+        | Deed::Give(message)
+        | Deed::End(message)
+        | Deed::More(message)
+        | Deed::Ask(message)
+        | Deed::Hear(message) => three_room(message.port, message.serial, message.value),
+        Deed::Miss { .. } => BARE_LINE,
     }
 }
 

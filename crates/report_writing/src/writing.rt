@@ -3,18 +3,17 @@
 ghost use Rattle.std.specs.Prelude.{◌≡◌, ◌==◌, ◌≤◌, ◌*◌, ◌++◌, false, All, IfSome, Some, find, option_copied, option_to_list, slice_get, length, filter, flat_map, map, codes, decimal, IfOk, OnOk};
 ghost use Rattle.std.specs.Fmt.{signed_decimal};
 ghost use Rattle.config_graph.specs.GraphText.{graph_text as drawn_text, kind_text};
-ghost use Rattle.quiesce_core.specs.Doers.{is_of_change};
 ghost use Rattle.quiesce_core.specs.declared.event.Event.TheVariants as events;
 ghost use Rattle.report_writing.specs.Writing.{from_words, spaced, with_one, with_three};
 ghost use Rattle.report_writing.specs.Reports.{LogsAreMade, args_text, ended, event_text, history_text, last_text, log_head, log_text, made_by, makes, path_in, report_text, second, unfinished_text, with_system, with_two};
 ghost use Rattle.report_writing.specs.MadeNodes.{slot_path_of};
 
-use crate::events::{LINES, PIECE, put_event, put_events};
+use crate::events::{LINES, PIECE, put_events};
 use crate::line_end::{LINE, LINE_END, put_number, put_three};
 use crate::room::text_room;
 use config_graph::{Graph, Kind, NoMemory, Node, graph_text, kind_text};
 use itoa::Buffer;
-use quiesce_core::Event;
+use node_events::NodeEvent;
 use report_types::{HistoryLine, Last, NodeLog, Report};
 use std::alloc::Global;
 
@@ -117,7 +116,7 @@ fn push_history(text: &mut Vec<u8>, lines: &[HistoryLine]) -> Result<(), NoMemor
 }
 
 /// A line of a history, and the graph's lines where it shows one.
-fn push_line(text: &mut Vec<u8>, line: &HistoryLine) -> Result<(), NoMemory>
+pub fn push_line(text: &mut Vec<u8>, line: &HistoryLine) -> Result<(), NoMemory>
     ensures { OnOk result (text.new.items ≡ text.old.items ++ history_text line.now) }
 {
     match line {
@@ -245,7 +244,7 @@ fn push_head(text: &mut Vec<u8>, slot: u32, path: &[u8]) -> Result<(), NoMemory>
 }
 
 /// The lines of what a node did, many of them at once.
-fn push_events(text: &mut Vec<u8>, events: &[Event]) -> Result<(), NoMemory>
+fn push_events(text: &mut Vec<u8>, events: &[NodeEvent]) -> Result<(), NoMemory>
     ensures { OnOk result (text.new.items ≡ text.old.items ++ flat_map event_text events.now) }
 {
     let mut piece = [b'\n'; PIECE];
@@ -258,64 +257,14 @@ fn push_events(text: &mut Vec<u8>, events: &[Event]) -> Result<(), NoMemory>
     Ok(())
 }
 
-/// The lines of these events, as one piece where all are of nodes.
-fn push_piece(text: &mut Vec<u8>, piece: &mut [u8], events: &[Event]) -> Result<(), NoMemory>
+/// The lines of these events, as one piece.
+fn push_piece(text: &mut Vec<u8>, piece: &mut [u8], events: &[NodeEvent]) -> Result<(), NoMemory>
     requires { length events.now * 72 ≤ length piece.old }
     ensures text { OnOk result (text.new.items ≡ text.old.items ++ flat_map event_text events.now) }
     ensures length { length piece.new ≡ length piece.old }
 {
-    match put_events(piece, events) {
-        Some(start) => text.extend_from_slice(&piece[start..]),
-        None => push_each(text, events),
-    }
-}
-
-fn push_each(text: &mut Vec<u8>, events: &[Event]) -> Result<(), NoMemory>
-    ensures { OnOk result (text.new.items ≡ text.old.items ++ flat_map event_text events.now) }
-{
-    for event in events {
-        push_event(text, event)?;
-    }
-    Ok(())
-}
-
-/// The line of an event.
-fn push_event(text: &mut Vec<u8>, event: &Event) -> Result<(), NoMemory>
-    ensures { OnOk result (text.new.items ≡ text.old.items ++ event_text event.now) }
-{
-    match event {
-        Event::Begin { .. }
-        | Event::Call { .. }
-        | Event::Take { .. }
-        | Event::Give { .. }
-        | Event::End { .. }
-        | Event::More { .. }
-        | Event::Ask { .. }
-        | Event::Hear { .. }
-        | Event::Miss { .. } => push_deed(text, event),
-        Event::Close { port } => push_one(text, b"close", u64::from(*port)),
-        Event::Reopen { port } => push_one(text, b"reopen", u64::from(*port)),
-        Event::Make { slot, node, from } => push_make(text, *slot, node, *from),
-        Event::Link {
-            port,
-            node,
-            provide,
-        } => push_link(text, *port, *node, *provide),
-        Event::Unlink { port } => push_one(text, b"unlink", u64::from(*port)),
-        Event::Remove { node } => push_one(text, b"remove", u64::from(*node)),
-    }
-}
-
-/// The line of an event of a node.
-fn push_deed(text: &mut Vec<u8>, event: &Event) -> Result<(), NoMemory>
-    requires { is_of_change event.now ≡ false }
-    ensures { OnOk result (text.new.items ≡ text.old.items ++ event_text event.now) }
-{
-    let mut line = [b'\n'; LINE];
-    match put_event(&mut line, LINE, event) {
-        Some(start) => text.extend_from_slice(&line[start..]),
-        None => Ok(()),
-    }
+    let start = put_events(piece, events);
+    text.extend_from_slice(&piece[start..])
 }
 
 /// `make SLOT PATH KIND(ARG)`, with `from SLOT` where the node takes over a state.

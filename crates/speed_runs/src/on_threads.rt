@@ -7,7 +7,7 @@ use crate::unmeasured::Unmeasured;
 use command_files::{Prepared, prepare};
 use live_board::Free;
 use live_run::{Observers, run_on_threads};
-use quiesce_core::Event;
+use node_events::Deed;
 use report_types::Report;
 use std::alloc::Global;
 use std::rt::Clock;
@@ -21,7 +21,7 @@ fn ended(report: &Report) -> u64 {
     let mut count = 0_u64;
     for log in report.logs.items() {
         for event in log.events.items() {
-            if matches!(event, Event::End { .. }) {
+            if matches!(event.deed(), Deed::End(_)) {
                 count = count.saturating_add(1);
             }
         }

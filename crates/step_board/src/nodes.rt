@@ -22,7 +22,7 @@ ghost use Rattle.node_turn_laws.specs.Round.{is_done};
 ghost use Rattle.node_turn_laws.specs.World.{World, state_of, with_event};
 
 use config_graph::{Made, NoMemory, Node};
-use quiesce_core::Event;
+use node_events::NodeEvent;
 use quiesce_word::Word;
 use std::alloc::Global;
 
@@ -77,7 +77,7 @@ pub trait Nodes {
         ensures { (w : World) → shows self.now w → result ≡ is_done w slot };
 
     /// What a node did so far.
-    fn log(&self, slot: u32) -> &[Event]
+    fn log(&self, slot: u32) -> &[NodeEvent]
         requires made { slot < length (machine self.now).config.slots }
         requires some { ShowsSome shows self.now }
         ensures { result.now ≡ slice_index_or (logs self.now) slot [] };

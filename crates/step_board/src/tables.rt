@@ -13,7 +13,7 @@ use config_graph::{Made, NoMemory, Node};
 use node_host::Turn;
 use node_table::NodeTable;
 use port_queue::{Hints, PlainHints};
-use quiesce_core::Event;
+use node_events::NodeEvent;
 use quiesce_word::Word;
 use state_handover::AnyNode;
 use std::alloc::Global;
@@ -78,7 +78,7 @@ impl Nodes for NodeTable {
         }
     }
 
-    fn log(&self, slot: u32) -> &[Event] {
+    fn log(&self, slot: u32) -> &[NodeEvent] {
         self.log(slot)
     }
 

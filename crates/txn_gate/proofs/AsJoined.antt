@@ -2,10 +2,11 @@
 use Rattle.std.proofs.Common.{◌≡◌, ◌∙◌, ℕ, ◌<◌, List, [], ◌∷◌, sym, ap, subst}
 use Rattle.atomic_table.specs.Table.{Allows, Joins, Splits, step}
 use Rattle.config_graph.specs.declared.TheConstants.{MAX_PORTS}
-use Rattle.txn_law.specs.Merging.{AreAllAmong, Learns, Meets, Merges}
+use Rattle.txn_law.specs.Merging.{AreAllAmong, Learns, Meets, Merges, MergesBy}
 use Rattle.txn_law.specs.Steps.{IsChange, IsNode, Seat}
 use Rattle.txn_law.specs.Views.{change_of, given_out, node_of, nobody, of_change, of_node, seat_again, with_seat, with_sight}
-use Rattle.txn_law.specs.Traces.{Holds}
+use Rattle.txn_law.specs.Traces.{Holds, port_place}
+use Rattle.txn_gate.proofs.AsSeats as seats
 use Rattle.txn_law.specs.declared.view.NodeView.{NodeView}
 use Rattle.txn_law.proofs.MergingLaws as merging
 use Rattle.txn_law.proofs.SeatStepLaws as seat_
@@ -37,9 +38,11 @@ module _ (id : ℕ) (me : Seat) (is : IsChange me) where
   pub learns : (slots i : ℕ) → Allows Holds slots id me i (λ x. x) (Learns (step slots i 0 0 none) me)
   learns slots i = subst (λ m. Allows Holds slots id m i (λ x. x) (Learns (step slots i 0 0 none) m)) (sym is) (merging.learns slots id i me.0.nodes (change_of me.0))
 
-  pub merges : (slots p : ℕ) → p < MAX_PORTS → AreAllAmong (change_of me.0).seats me.0.nodes → Allows Holds slots id me p (λ x. x) (Merges (step slots p 0 0 none) me)
-  merges slots p few all =
-      subst (λ m. Allows Holds slots id m p (λ x. x) (Merges (step slots p 0 0 none) m)) (sym is) (merging.merges slots id p me.0.nodes (change_of me.0) few all)
+  pub merges : (slots p i : ℕ) → i ≡ port_place p → p < MAX_PORTS → AreAllAmong (change_of me.0).seats me.0.nodes → Allows Holds slots id me i (λ x. x) (Merges (step slots i 0 0 none) me)
+  merges slots p i place few all =
+      subst (λ m. Allows Holds slots id m i (λ x. x) (Merges (step slots i 0 0 none) m)) (sym is)
+      (subst (λ (y : ℕ × ℕ). Allows Holds slots id (of_change me.0.nodes (change_of me.0), []) y.0 (λ x. x) (MergesBy y.1 (of_change me.0.nodes (change_of me.0), []))) (λ j. (sym place j, sym (seats.port_back p i place few) j))
+      (merging.merges slots id p me.0.nodes (change_of me.0) few all))
 
 -- a node's seat is given on to a new one
 pub leaves : (id : ℕ) (me : Seat) → IsNode me → Splits Holds id me.0 nobody me.0

@@ -12,27 +12,27 @@ use Rattle.quiesce_core.specs.declared.event.Event.{Event}
 use Rattle.quiesce_core.specs.declared.event.Event.TheVariants.{Link, Unlink, Remove}
 use Rattle.txn_law.specs.Steps.{IsChange, MarksScan, Seat, noted}
 use Rattle.txn_law.specs.Views.{change_of, of_change}
-use Rattle.txn_law.specs.Traces.{Holds}
+use Rattle.txn_law.specs.Traces.{Holds, port_place}
 use Rattle.txn_law.proofs.ChangeStepLaws as change_
 use mathlib.Core.Option.{none}
 
 module _ (slots id : ℕ) (me : Seat) (is : IsChange me) where
   -- an event that an operand of exclusive or makes
-  turns : (p k k' : ℕ) (e e' : Event) → e ≡ e' → k ≡ k'
-      → Allows Holds slots id (of_change me.0.nodes (change_of me.0), []) p (λ x. bit_xor x k') (λ found new. new ≡ noted (of_change me.0.nodes (change_of me.0), []) (Did e'))
-      → Allows Holds slots id me p (λ x. bit_xor x k) (λ found new. new ≡ noted me (Did e))
-  turns p k k' e e' event operand h =
-      subst (λ m. Allows Holds slots id m p (λ x. bit_xor x k) (λ found new. new ≡ noted m (Did e))) (sym is)
-      (subst (λ (y : ℕ × Event). Allows Holds slots id (of_change me.0.nodes (change_of me.0), []) p (λ x. bit_xor x y.0) (λ found new. new ≡ noted (of_change me.0.nodes (change_of me.0), []) (Did y.1)))
-      (λ j. (sym operand j, sym event j)) h)
+  turns : (p i : ℕ) → i ≡ port_place p → (k k' : ℕ) (e e' : Event) → e ≡ e' → k ≡ k'
+      → Allows Holds slots id (of_change me.0.nodes (change_of me.0), []) (port_place p) (λ x. bit_xor x k') (λ found new. new ≡ noted (of_change me.0.nodes (change_of me.0), []) (Did e'))
+      → Allows Holds slots id me i (λ x. bit_xor x k) (λ found new. new ≡ noted me (Did e))
+  turns p i place k k' e e' event operand h =
+      subst (λ m. Allows Holds slots id m i (λ x. bit_xor x k) (λ found new. new ≡ noted m (Did e))) (sym is)
+      (subst (λ (y : ℕ × ℕ × Event). Allows Holds slots id (of_change me.0.nodes (change_of me.0), []) y.0 (λ x. bit_xor x y.1) (λ found new. new ≡ noted (of_change me.0.nodes (change_of me.0), []) (Did y.2)))
+      (λ j. (sym place j, sym operand j, sym event j)) h)
 
-  pub links : (p k : ℕ) (to : Target) (e : Event) → e ≡ Link p to.node to.provide → k ≡ link_difference to → May (change_of me.0).entries (Link p to.node to.provide)
-      → Allows Holds slots id me p (λ x. bit_xor x k) (λ found new. new ≡ noted me (Did e))
-  links p k to e event operand may = turns p k _ e _ event operand (change_.links slots id me.0.nodes (change_of me.0) p to.node to.provide may)
+  pub links : (p i : ℕ) → i ≡ port_place p → (k : ℕ) (to : Target) (e : Event) → e ≡ Link p to.node to.provide → k ≡ link_difference to → May (change_of me.0).entries (Link p to.node to.provide)
+      → Allows Holds slots id me i (λ x. bit_xor x k) (λ found new. new ≡ noted me (Did e))
+  links p i place k to e event operand may = turns p i place k _ e _ event operand (change_.links slots id me.0.nodes (change_of me.0) p to.node to.provide may)
 
-  pub unlinks : (p k : ℕ) (was : Target) (e : Event) → e ≡ Unlink p → k ≡ link_difference was → target (config_of (change_of me.0).entries) p ≡ Some was → May (change_of me.0).entries (Unlink p)
-      → Allows Holds slots id me p (λ x. bit_xor x k) (λ found new. new ≡ noted me (Did e))
-  unlinks p k was e event operand leads may = turns p k _ e _ event operand (change_.unlinks slots id me.0.nodes (change_of me.0) p was leads may)
+  pub unlinks : (p i : ℕ) → i ≡ port_place p → (k : ℕ) (was : Target) (e : Event) → e ≡ Unlink p → k ≡ link_difference was → target (config_of (change_of me.0).entries) p ≡ Some was → May (change_of me.0).entries (Unlink p)
+      → Allows Holds slots id me i (λ x. bit_xor x k) (λ found new. new ≡ noted me (Did e))
+  unlinks p i place k was e event operand leads may = turns p i place k _ e _ event operand (change_.unlinks slots id me.0.nodes (change_of me.0) p was leads may)
 
   pub removes : (n i : ℕ) (e : Event) → e ≡ Remove n → May (change_of me.0).entries (Remove n) → Allows Holds slots id me i (λ x. x) (λ found new. new ≡ noted me (Did e))
   removes n i e event may =

@@ -13,7 +13,7 @@ ghost use Rattle.quiesce_core.specs.declared.event.Event.TheVariants as event;
 ghost use Rattle.txn_gate.specs.Places.{IsHere};
 
 use crate::plays::{Changing, Marking, Marks, Names};
-use crate::steps::{AnySeat, Words};
+use crate::steps::{AnySeat, Words, place_of_port};
 use config_graph::Target;
 use quiesce_word::link_operand;
 
@@ -30,7 +30,7 @@ pub fn link<E: Names>(words: &Words, seat: &mut AnySeat, port: u32, to: Target)
 {
     words
         .shared
-        .fetch_xor::<Changing<E>>(seat, port as usize, link_operand(to));
+        .fetch_xor::<Changing<E>>(seat, place_of_port(port), link_operand(to));
 }
 
 /// The change unlinks a port from what it is linked to.
@@ -47,7 +47,7 @@ pub fn unlink<E: Names>(words: &Words, seat: &mut AnySeat, port: u32, was: Targe
 {
     words
         .shared
-        .fetch_xor::<Changing<E>>(seat, port as usize, link_operand(was));
+        .fetch_xor::<Changing<E>>(seat, place_of_port(port), link_operand(was));
 }
 
 /// The change removes a node: a load, after which the record has it.

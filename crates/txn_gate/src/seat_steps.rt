@@ -11,7 +11,7 @@ ghost use Rattle.txn_law.specs.Views.{change_of, given_out, node_of, seat_again,
 ghost use Rattle.txn_law.specs.declared.view.NodeView.{NodeView};
 ghost use Rattle.txn_gate.specs.Places.{IsHere};
 
-use crate::steps::{AnySeat, Words};
+use crate::steps::{AnySeat, Words, place_of_port};
 use atomic_table::{Join, Play, Split};
 use txn_law::View;
 
@@ -158,7 +158,7 @@ pub fn merge(words: &Words, seat: &mut AnySeat, port: u32) -> u64
     ensures me { seat.new.me ≡ noted seat.old.me (Looked port result) }
     ensures merged { MergeIntoRun (change_of seat.new.me.0).entries seat.old.me.0.nodes }
 {
-    words.shared.load::<Merging>(seat, port as usize)
+    words.shared.load::<Merging>(seat, place_of_port(port))
 }
 
 /// A node's seat is given on to a new one, and nobody is left in its place.

@@ -15,6 +15,7 @@ ghost use Rattle.quiesce_core.specs.Rules.{last_serial};
 ghost use Rattle.quiesce_core.specs.declared.event.Event.TheVariants as event;
 ghost use Rattle.node_gate.specs.Seats.{MayAsk, MayBegin, MayCallAt, MayEnd, MayGive, MayHear, MaySee, MaySendMore, MayTake, port_known, serial_served, value_seen};
 ghost use Rattle.txn_law.specs.Steps.{IsChange, IsNode, WasShown, did, looks, noted, read, sees, value_served};
+ghost use Rattle.txn_law.specs.Traces.{port_place};
 ghost use Rattle.txn_law.specs.Views.{change_of, new_seat, node_at, node_of, of_node, without_seat};
 ghost use Rattle.txn_law.specs.declared.view.LoadKind.TheVariants as kinds;
 ghost use Rattle.txn_gate.specs.Places.{IsHere};
@@ -42,6 +43,16 @@ fn place_of(slot: u32) -> usize
     MAX_PORTS as usize + slot as usize
 }
 
+/// The index of the word of a port. Those of neighbours lie in cache lines of their own.
+#[tactic(auto, unfolding(txn_law::specs::Traces::port_place))]
+pub fn place_of_port(port: u32) -> usize
+    requires { port < MAX_PORTS }
+    ensures place { result ≡ port_place port }
+    ensures few { result < MAX_PORTS }
+{
+    ((port % 512) * 8 + port / 512) as usize
+}
+
 /// A node loads the word of a port of its own.
 pub fn load(words: &Words, seat: &mut AnySeat, port: u32) -> u64
     requires here { IsHere seat.old.table_id words.now.shared.table_id }
@@ -51,7 +62,7 @@ pub fn load(words: &Words, seat: &mut AnySeat, port: u32) -> u64
     ensures me { seat.new.me ≡ read seat.old.me kinds.Own port result }
     ensures shown { WasShown (node_of seat.old.me.0) port result }
 {
-    words.shared.load::<Loading>(seat, port as usize)
+    words.shared.load::<Loading>(seat, place_of_port(port))
 }
 
 /// A node begins a transaction of its own where the word is still the one that it loaded. Returns the word that is
@@ -81,7 +92,7 @@ pub fn begin<E: Names>(
 {
     words
         .shared
-        .compare_exchange::<Beginning<E>>(seat, port as usize, loaded, asked)
+        .compare_exchange::<Beginning<E>>(seat, place_of_port(port), loaded, asked)
 }
 
 /// A node takes up what is asked of it at a port.
@@ -97,7 +108,7 @@ pub fn take(words: &Words, seat: &mut AnySeat, port: u32) -> u64
         → seat.new.me ≡ read seat.old.me kinds.Take port result }
     ensures shown { WasShown (node_of seat.old.me.0) port result }
 {
-    words.shared.load::<Taking>(seat, port as usize)
+    words.shared.load::<Taking>(seat, place_of_port(port))
 }
 
 /// A node looks for a reply at a port of its own.
@@ -110,7 +121,7 @@ pub fn see(words: &Words, seat: &mut AnySeat, port: u32) -> u64
     ensures me { seat.new.me ≡ (of_node (sees (node_of seat.old.me.0) port result), []) }
     ensures shown { WasShown (node_of seat.old.me.0) port result }
 {
-    words.shared.load::<Seeing>(seat, port as usize)
+    words.shared.load::<Seeing>(seat, place_of_port(port))
 }
 
 /// A node answers the request that it services.
@@ -127,7 +138,7 @@ pub fn give<E: Names>(words: &Words, seat: &mut AnySeat, port: u32, value: u32, 
 {
     words
         .shared
-        .fetch_xor::<Acting<E>>(seat, port as usize, operand);
+        .fetch_xor::<Acting<E>>(seat, place_of_port(port), operand);
 }
 
 /// A node ends a transaction whose answer it saw.
@@ -147,7 +158,7 @@ pub fn end<E: Names>(words: &Words, seat: &mut AnySeat, port: u32, operand: u64)
 {
     words
         .shared
-        .fetch_xor::<Acting<E>>(seat, port as usize, operand);
+        .fetch_xor::<Acting<E>>(seat, place_of_port(port), operand);
 }
 
 /// A node sends an intermediate reply for the request that it services.
@@ -164,7 +175,7 @@ pub fn more<E: Names>(words: &Words, seat: &mut AnySeat, port: u32, value: u32, 
 {
     words
         .shared
-        .fetch_xor::<Acting<E>>(seat, port as usize, operand);
+        .fetch_xor::<Acting<E>>(seat, place_of_port(port), operand);
 }
 
 /// A node replies to an intermediate reply that it saw.
@@ -183,7 +194,7 @@ pub fn ask<E: Names>(words: &Words, seat: &mut AnySeat, port: u32, value: u32, o
 {
     words
         .shared
-        .fetch_xor::<Acting<E>>(seat, port as usize, operand);
+        .fetch_xor::<Acting<E>>(seat, place_of_port(port), operand);
 }
 
 /// A node listens for the further message for which its service waits.
@@ -199,7 +210,7 @@ pub fn hear(words: &Words, seat: &mut AnySeat, port: u32) -> u64
     ensures kept { is_asked (unpack result).phase ≡ false → seat.new.me ≡ read seat.old.me kinds.Hear port result }
     ensures shown { WasShown (node_of seat.old.me.0) port result }
 {
-    words.shared.load::<Hearing>(seat, port as usize)
+    words.shared.load::<Hearing>(seat, place_of_port(port))
 }
 
 /// A node loads the word of an idle port of its own before it calls there, by which the call may be missed.
@@ -216,7 +227,9 @@ pub fn look_to_call(words: &Words, seat: &mut AnySeat, port: u32, value: u32) ->
     ensures shown { WasShown (node_of seat.old.me.0) port result }
 {
     let _ = value;
-    words.shared.load::<LookingToCall>(seat, port as usize)
+    words
+        .shared
+        .load::<LookingToCall>(seat, place_of_port(port))
 }
 
 /// A node calls by the word that it loaded there.
@@ -243,7 +256,7 @@ pub fn call<E: Names>(
     let (_, _) = (value, loaded);
     words
         .shared
-        .fetch_xor::<Acting<E>>(seat, port as usize, operand);
+        .fetch_xor::<Acting<E>>(seat, place_of_port(port), operand);
 }
 
 /// The change closes a port.
@@ -258,7 +271,7 @@ pub fn close<E: Names>(words: &Words, seat: &mut AnySeat, port: u32)
 {
     words
         .shared
-        .fetch_or::<Changing<E>>(seat, port as usize, CLOSED);
+        .fetch_or::<Changing<E>>(seat, place_of_port(port), CLOSED);
 }
 
 /// The change opens a port again.
@@ -273,7 +286,7 @@ pub fn reopen<E: Names>(words: &Words, seat: &mut AnySeat, port: u32)
 {
     words
         .shared
-        .fetch_and::<Changing<E>>(seat, port as usize, ALL_BUT_CLOSED);
+        .fetch_and::<Changing<E>>(seat, place_of_port(port), ALL_BUT_CLOSED);
 }
 
 /// The change looks at a port.
@@ -285,7 +298,7 @@ pub fn look(words: &Words, seat: &mut AnySeat, port: u32) -> u64
     ensures me { seat.new.me ≡ noted seat.old.me (Looked port result) }
     ensures run { IsRecord (change_of seat.new.me.0).entries }
 {
-    words.shared.load::<Looking>(seat, port as usize)
+    words.shared.load::<Looking>(seat, place_of_port(port))
 }
 
 /// The change makes the node of the next slot, whose word this is.

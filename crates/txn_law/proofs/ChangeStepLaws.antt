@@ -32,7 +32,7 @@ use Rattle.quiesce_core.proofs.RunLaws.{runs_are_well_formed}
 use Rattle.txn_law.specs.Growth.{ChangeProlongs, GatesTable, NoteProlongs}
 use Rattle.txn_law.specs.Steps.{noted}
 use Rattle.txn_law.specs.Views.{change_of, notes, of_change}
-use Rattle.txn_law.specs.Traces.{Holds}
+use Rattle.txn_law.specs.Traces.{port_place, Holds}
 use Rattle.txn_law.specs.declared.view.ChangeView.{ChangeView}
 use Rattle.txn_law.specs.declared.view.NodeView.{NodeView}
 use Rattle.txn_law.proofs.GrowthLaws.{With, prolonged, straight}
@@ -66,9 +66,9 @@ module _ (nodes : List NodeView) (c : ChangeView) (t : GatesTable) (h : Holds t)
 
   -- an event that changes a port's word to this; a slot's; and none, by a load
   turns : (e : Event) (p v : ℕ) → is_of_change e ≡ true → May c.entries e → p < MAX_PORTS → changed_port e ≡ Some p → changed_slot e ≡ None → v ≡ word_of (effect s e) p
-      → With t h id (of_change nodes (notes c (Did e))) (set t.words p v) (entry (Did e) ∷ [])
+      → With t h id (of_change nodes (notes c (Did e))) (set t.words (port_place p) v) (entry (Did e) ∷ [])
   turns e p v change may few port slot is =
-      changes t h id t.homes nodes c e (set t.words p v) at change (allowed e may) (shows_port t.words s (effect s e) e w (then_ e may) h.shows p v few port slot is)
+      changes t h id t.homes nodes c e (set t.words (port_place p) v) at change (allowed e may) (shows_port t.words s (effect s e) e w (then_ e may) h.shows p v few port slot is)
 
   fills : (e : Event) (n v : ℕ) → is_of_change e ≡ true → May c.entries e → n < MAX_NODES → changed_port e ≡ None → changed_slot e ≡ Some n → v ≡ slot_word_of (effect s e).config n
       → With t h id (of_change nodes (notes c (Did e))) (set t.words (MAX_PORTS + n) v) (entry (Did e) ∷ [])
@@ -105,23 +105,23 @@ module _ (slots id : ℕ) (nodes : List NodeView) (c : ChangeView) where
     next : (e : Event) → May c.entries e → Step s' e (effect s' e)
     next = then_ nodes c t h id at
 
-    close_moves : (p : ℕ) → May c.entries (Close p) → By (Close p) p (bit_or (slice_index t.words p) CLOSED)
+    close_moves : (p : ℕ) → May c.entries (Close p) → By (Close p) (port_place p) (bit_or (slice_index t.words (port_place p)) CLOSED)
     close_moves p may =
         let few = port_few nodes c t h id at p (legal s' (Close p) (allowed nodes c t h id at (Close p) may)).live in
-        turns nodes c t h id at (Close p) p (bit_or (slice_index t.words p) CLOSED) refl may few refl refl
+        turns nodes c t h id at (Close p) p (bit_or (slice_index t.words (port_place p)) CLOSED) refl may few refl refl
         (ap (λ x. bit_or x CLOSED) (h.shows.ports p few) ∙ sym (close_by s' (effect s' (Close p)) p formed (next (Close p) may)))
 
-    reopen_moves : (p : ℕ) → May c.entries (Reopen p) → By (Reopen p) p (bit_and (slice_index t.words p) ALL_BUT_CLOSED)
+    reopen_moves : (p : ℕ) → May c.entries (Reopen p) → By (Reopen p) (port_place p) (bit_and (slice_index t.words (port_place p)) ALL_BUT_CLOSED)
     reopen_moves p may =
         let few = port_few nodes c t h id at p (legal s' (Reopen p) (allowed nodes c t h id at (Reopen p) may)).live in
-        turns nodes c t h id at (Reopen p) p (bit_and (slice_index t.words p) ALL_BUT_CLOSED) refl may few refl refl
+        turns nodes c t h id at (Reopen p) p (bit_and (slice_index t.words (port_place p)) ALL_BUT_CLOSED) refl may few refl refl
         (ap (λ x. bit_and x ALL_BUT_CLOSED) (h.shows.ports p few) ∙ sym (reopen_by s' (effect s' (Reopen p)) p formed (next (Reopen p) may)))
 
     pub look_moves : (p : ℕ) → p < MAX_PORTS
-        → With t h id (of_change nodes (notes c (Looked p (slice_index t.words p)))) (set t.words p (slice_index t.words p)) (entry (Looked p (slice_index t.words p)) ∷ [])
+        → With t h id (of_change nodes (notes c (Looked p (slice_index t.words (port_place p))))) (set t.words (port_place p) (slice_index t.words (port_place p))) (entry (Looked p (slice_index t.words (port_place p))) ∷ [])
     look_moves p few =
-        let x = Looked p (slice_index t.words p) in
-        subst (λ ws. With t h id (of_change nodes (notes c x)) ws (entry x ∷ [])) (sym (same_words t.words p)) (sees t h id t.homes nodes c x at refl (h.shows.ports p few))
+        let x = Looked p (slice_index t.words (port_place p)) in
+        subst (λ ws. With t h id (of_change nodes (notes c x)) ws (entry x ∷ [])) (sym (same_words t.words (port_place p))) (sees t h id t.homes nodes c x at refl (h.shows.ports p few))
 
     mark_moves : (begins moved : Bool) (i : ℕ)
         → With t h id (of_change nodes (notes c (Scanned begins moved))) (set t.words i (slice_index t.words i)) (entry (Scanned begins moved) ∷ [])
@@ -129,18 +129,18 @@ module _ (slots id : ℕ) (nodes : List NodeView) (c : ChangeView) where
         let x = Scanned begins moved in
         subst (λ ws. With t h id (of_change nodes (notes c x)) ws (entry x ∷ [])) (sym (same_words t.words i)) (sees t h id t.homes nodes c x at refl tt)
 
-    link_moves : (p n x : ℕ) → May c.entries (Link p n x) → By (Link p n x) p (bit_xor (slice_index t.words p) (link_difference (record { node = n; provide = x })))
+    link_moves : (p n x : ℕ) → May c.entries (Link p n x) → By (Link p n x) (port_place p) (bit_xor (slice_index t.words (port_place p)) (link_difference (record { node = n; provide = x })))
     link_moves p n x may =
         let few = port_few nodes c t h id at p (legal s' (Link p n x) (allowed nodes c t h id at (Link p n x) may)).live in
         let d = link_difference (record { node = n; provide = x }) in
-        turns nodes c t h id at (Link p n x) p (bit_xor (slice_index t.words p) d) refl may few refl refl
+        turns nodes c t h id at (Link p n x) p (bit_xor (slice_index t.words (port_place p)) d) refl may few refl refl
         (ap (λ k. bit_xor k d) (h.shows.ports p few) ∙ sym (link_by s' (effect s' (Link p n x)) p n x formed (next (Link p n x) may)))
 
-    unlink_moves : (p : ℕ) (to : Target) → target (config_of c.entries) p ≡ Some to → May c.entries (Unlink p) → By (Unlink p) p (bit_xor (slice_index t.words p) (link_difference to))
+    unlink_moves : (p : ℕ) (to : Target) → target (config_of c.entries) p ≡ Some to → May c.entries (Unlink p) → By (Unlink p) (port_place p) (bit_xor (slice_index t.words (port_place p)) (link_difference to))
     unlink_moves p to leads may =
         let few = port_few nodes c t h id at p (legal s' (Unlink p) (allowed nodes c t h id at (Unlink p) may)).live in
         let there : target s'.config p ≡ Some to = subst (λ k. target k p ≡ Some to) (config nodes c t h id at) leads in
-        turns nodes c t h id at (Unlink p) p (bit_xor (slice_index t.words p) (link_difference to)) refl may few refl refl
+        turns nodes c t h id at (Unlink p) p (bit_xor (slice_index t.words (port_place p)) (link_difference to)) refl may few refl refl
         (ap (λ k. bit_xor k (link_difference to)) (h.shows.ports p few) ∙ sym (unlink_by s' (effect s' (Unlink p)) p to formed there (next (Unlink p) may)))
 
     make_moves : (n : ℕ) (node : Node) (from : Option ℕ) → May c.entries (Make n node from)
@@ -156,24 +156,24 @@ module _ (slots id : ℕ) (nodes : List NodeView) (c : ChangeView) where
 
   -- ---- close and reopen
 
-  pub closes : (p : ℕ) → May c.entries (Close p) → Allows Holds slots id (of_change nodes c, []) p (λ x. bit_or x CLOSED) (λ found new. new ≡ noted (of_change nodes c, []) (Did (Close p)))
+  pub closes : (p : ℕ) → May c.entries (Close p) → Allows Holds slots id (of_change nodes c, []) (port_place p) (λ x. bit_or x CLOSED) (λ found new. new ≡ noted (of_change nodes c, []) (Did (Close p)))
   closes p may t h _ at _ = (of_change nodes (notes c (Did (Close p))), keeps, tt, (close_moves t h at p may).holds, refl)
 
-  pub reopens : (p : ℕ) → May c.entries (Reopen p) → Allows Holds slots id (of_change nodes c, []) p (λ x. bit_and x ALL_BUT_CLOSED) (λ found new. new ≡ noted (of_change nodes c, []) (Did (Reopen p)))
+  pub reopens : (p : ℕ) → May c.entries (Reopen p) → Allows Holds slots id (of_change nodes c, []) (port_place p) (λ x. bit_and x ALL_BUT_CLOSED) (λ found new. new ≡ noted (of_change nodes c, []) (Did (Reopen p)))
   reopens p may t h _ at _ = (of_change nodes (notes c (Did (Reopen p))), keeps, tt, (reopen_moves t h at p may).holds, refl)
 
-  pub close_prolongs : (p : ℕ) → May c.entries (Close p) → ChangeProlongs id nodes c p (λ x. bit_or x CLOSED) (Close p)
-  close_prolongs p may t h at v a is = prolonged t h id p _ _ _ (straight t h id _ _ _ (close_moves t h at p may)) v a is
+  pub close_prolongs : (p : ℕ) → May c.entries (Close p) → ChangeProlongs id nodes c (port_place p) (λ x. bit_or x CLOSED) (Close p)
+  close_prolongs p may t h at v a is = prolonged t h id (port_place p) _ _ _ (straight t h id _ _ _ (close_moves t h at p may)) v a is
 
-  pub reopen_prolongs : (p : ℕ) → May c.entries (Reopen p) → ChangeProlongs id nodes c p (λ x. bit_and x ALL_BUT_CLOSED) (Reopen p)
-  reopen_prolongs p may t h at v a is = prolonged t h id p _ _ _ (straight t h id _ _ _ (reopen_moves t h at p may)) v a is
+  pub reopen_prolongs : (p : ℕ) → May c.entries (Reopen p) → ChangeProlongs id nodes c (port_place p) (λ x. bit_and x ALL_BUT_CLOSED) (Reopen p)
+  reopen_prolongs p may t h at v a is = prolonged t h id (port_place p) _ _ _ (straight t h id _ _ _ (reopen_moves t h at p may)) v a is
 
   -- ---- look, and mark by a load
 
   pub looks : (p : ℕ) → p < MAX_PORTS
-      → Allows Holds slots id (of_change nodes c, []) p (λ x. x) (λ found new. (new ≡ noted (of_change nodes c, []) (Looked p found)) × IsRecord (change_of new.0).entries)
+      → Allows Holds slots id (of_change nodes c, []) (port_place p) (λ x. x) (λ found new. (new ≡ noted (of_change nodes c, []) (Looked p found)) × IsRecord (change_of new.0).entries)
   looks p few t h _ at _ =
-      let x = Looked p (slice_index t.words p) in
+      let x = Looked p (slice_index t.words (port_place p)) in
       (of_change nodes (notes c x), keeps, tt, (look_moves t h at p few).holds, (refl, seen_record nodes c t h id at x refl (h.shows.ports p few)))
 
   pub marks : (begins moved : Bool) (i : ℕ)
@@ -182,8 +182,8 @@ module _ (slots id : ℕ) (nodes : List NodeView) (c : ChangeView) where
       let x = Scanned begins moved in
       (of_change nodes (notes c x), keeps, tt, (mark_moves t h at begins moved i).holds, (refl, seen_record nodes c t h id at x refl tt))
 
-  pub look_prolongs : (p : ℕ) → p < MAX_PORTS → NoteProlongs id nodes c p (λ found. Looked p found)
-  look_prolongs p few t h at v a is = prolonged t h id p _ _ _ (straight t h id _ _ _ (look_moves t h at p few)) v a is
+  pub look_prolongs : (p : ℕ) → p < MAX_PORTS → NoteProlongs id nodes c (port_place p) (λ found. Looked p found)
+  look_prolongs p few t h at v a is = prolonged t h id (port_place p) _ _ _ (straight t h id _ _ _ (look_moves t h at p few)) v a is
 
   pub mark_prolongs : (i : ℕ) (begins moved : Bool) → NoteProlongs id nodes c i (λ found. Scanned begins moved)
   mark_prolongs i begins moved t h at v a is = prolonged t h id i _ _ _ (straight t h id _ _ _ (mark_moves t h at begins moved i)) v a is
@@ -191,19 +191,19 @@ module _ (slots id : ℕ) (nodes : List NodeView) (c : ChangeView) where
   -- ---- link and unlink
 
   pub links : (p n x : ℕ) → May c.entries (Link p n x)
-      → Allows Holds slots id (of_change nodes c, []) p (λ k. bit_xor k (link_difference (record { node = n; provide = x }))) (λ found new. new ≡ noted (of_change nodes c, []) (Did (Link p n x)))
+      → Allows Holds slots id (of_change nodes c, []) (port_place p) (λ k. bit_xor k (link_difference (record { node = n; provide = x }))) (λ found new. new ≡ noted (of_change nodes c, []) (Did (Link p n x)))
   links p n x may t h _ at _ = (of_change nodes (notes c (Did (Link p n x))), keeps, tt, (link_moves t h at p n x may).holds, refl)
 
   pub unlinks : (p : ℕ) (to : Target) → target (config_of c.entries) p ≡ Some to → May c.entries (Unlink p)
-      → Allows Holds slots id (of_change nodes c, []) p (λ k. bit_xor k (link_difference to)) (λ found new. new ≡ noted (of_change nodes c, []) (Did (Unlink p)))
+      → Allows Holds slots id (of_change nodes c, []) (port_place p) (λ k. bit_xor k (link_difference to)) (λ found new. new ≡ noted (of_change nodes c, []) (Did (Unlink p)))
   unlinks p to leads may t h _ at _ = (of_change nodes (notes c (Did (Unlink p))), keeps, tt, (unlink_moves t h at p to leads may).holds, refl)
 
-  pub link_prolongs : (p n x : ℕ) → May c.entries (Link p n x) → ChangeProlongs id nodes c p (λ k. bit_xor k (link_difference (record { node = n; provide = x }))) (Link p n x)
-  link_prolongs p n x may t h at v a is = prolonged t h id p _ _ _ (straight t h id _ _ _ (link_moves t h at p n x may)) v a is
+  pub link_prolongs : (p n x : ℕ) → May c.entries (Link p n x) → ChangeProlongs id nodes c (port_place p) (λ k. bit_xor k (link_difference (record { node = n; provide = x }))) (Link p n x)
+  link_prolongs p n x may t h at v a is = prolonged t h id (port_place p) _ _ _ (straight t h id _ _ _ (link_moves t h at p n x may)) v a is
 
   pub unlink_prolongs : (p : ℕ) (to : Target) → target (config_of c.entries) p ≡ Some to → May c.entries (Unlink p)
-      → ChangeProlongs id nodes c p (λ k. bit_xor k (link_difference to)) (Unlink p)
-  unlink_prolongs p to leads may t h at v a is = prolonged t h id p _ _ _ (straight t h id _ _ _ (unlink_moves t h at p to leads may)) v a is
+      → ChangeProlongs id nodes c (port_place p) (λ k. bit_xor k (link_difference to)) (Unlink p)
+  unlink_prolongs p to leads may t h at v a is = prolonged t h id (port_place p) _ _ _ (straight t h id _ _ _ (unlink_moves t h at p to leads may)) v a is
 
   -- ---- remove, by a load of word 0
 

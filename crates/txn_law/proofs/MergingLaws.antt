@@ -26,7 +26,7 @@ use Rattle.txn_law.specs.Growth.{QuietProlongs}
 use Rattle.txn_law.specs.Merging.{AreAllAmong, IsOfRecord, MergeIntoRun}
 use Rattle.txn_law.specs.Steps.{noted}
 use Rattle.txn_law.specs.Views.{is_among, log_in, notes, of_change}
-use Rattle.txn_law.specs.Traces.{FitsNode, HaveOwnSlots, Holds, KnowsNode}
+use Rattle.txn_law.specs.Traces.{port_place, FitsNode, HaveOwnSlots, Holds, KnowsNode}
 use Rattle.txn_law.specs.declared.view.ChangeView.{ChangeView}
 use Rattle.txn_law.specs.declared.view.NodeView.{NodeView}
 use Rattle.txn_law.proofs.GrowthLaws.{prolonged, stays, straight}
@@ -107,11 +107,11 @@ module _ (es : List Event) (n : ℕ) where
       (cases_Bool (is_among nodes n))
 
 -- by one more look the change, which took all seats in, learns that all that it has is of one run
-pub merges : (slots id p : ℕ) (nodes : List NodeView) (c : ChangeView) → p < MAX_PORTS → AreAllAmong c.seats nodes → Allows Holds slots id (of_change nodes c, []) p (λ x. x)
+pub merges : (slots id p : ℕ) (nodes : List NodeView) (c : ChangeView) → p < MAX_PORTS → AreAllAmong c.seats nodes → Allows Holds slots id (of_change nodes c, []) (port_place p) (λ x. x)
     (λ found new. (new ≡ noted (of_change nodes c, []) (Looked p found)) × MergeIntoRun (notes c (Looked p found)).entries nodes)
 merges slots id p nodes c few all t h _ at _ =
     let w = h.trace in
-    let found = slice_index t.words p in
+    let found = slice_index t.words (port_place p) in
     let x : Entry = Looked p found in
     let fit = h.views id (of_change nodes c) at in
     let mine = fit.change c refl in
@@ -120,7 +120,7 @@ merges slots id p nodes c few all t h _ at _ =
       of_change nodes (notes c x),
       keeps,
       tt,
-      subst (λ ws. Holds (record { words = ws; homes = t.homes; views = set t.views id (of_change nodes (notes c x)) })) (sym (same_words t.words p)) (sees t h id t.homes nodes c x at refl so).holds,
+      subst (λ ws. Holds (record { words = ws; homes = t.homes; views = set t.views id (of_change nodes (notes c x)) })) (sym (same_words t.words (port_place p))) (sees t h id t.homes nodes c x at refl so).holds,
       (
         refl,
         record {

@@ -36,7 +36,7 @@ use Rattle.node_gate.proofs.AllowedLaws.{ask_allowed, ask_doer, begin_by_word, b
 use Rattle.txn_law.specs.Growth.{ActProlongs, GatesTable, LoadProlongs, Prolongs, if_so}
 use Rattle.txn_law.specs.Steps.{ExchangesFor, Hears, LoadsWord, LooksToCall, Seat, Sees, Takes, WasShown, did, looks, read, seen_in, value_served, sees as sees'}
 use Rattle.txn_law.specs.Views.{does, node_at, of_node, reads}
-use Rattle.txn_law.specs.Traces.{Holds, IsLoadedOf, KnowsNode, ShowsExchange}
+use Rattle.txn_law.specs.Traces.{port_at, port_place, Holds, IsLoadedOf, KnowsNode, ShowsExchange}
 use Rattle.txn_law.specs.declared.view.LoadKind.{LoadKind}
 use Rattle.txn_law.specs.declared.view.LoadKind.TheVariants as kinds
 use Rattle.txn_law.specs.declared.view.LoadKind.TheVariants.{Own, Exchange}
@@ -44,7 +44,7 @@ use Rattle.txn_law.specs.declared.view.NodeView.{NodeView}
 use Rattle.txn_law.proofs.FittingLaws as fitting
 use Rattle.txn_law.proofs.GrowthLaws.{Leads, With, picks, prolonged, straight}
 use Rattle.txn_law.proofs.KnowingLaws.{read_known}
-use Rattle.txn_law.proofs.TraceLaws.{acts, learns, same_words, shows_none, shows_port}
+use Rattle.txn_law.proofs.TraceLaws.{acts, at_place, learns, same_words, shows_none, shows_port}
 use mathlib.Core.Option.{none, some}
 use lib.ListN.{get_elem?}
 use prog.Atomic.{either}
@@ -63,42 +63,42 @@ module _ (n : NodeView) (t : GatesTable) (h : Holds t) (id : ℕ) (at : get_elem
   mine = (h.views id (of_node n) at).nodes.0.knows
 
   -- what a load tells
-  shown : (p : ℕ) → p < MAX_PORTS → WasShown n p (slice_index t.words p)
+  shown : (p : ℕ) → p < MAX_PORTS → WasShown n p (slice_index t.words (port_place p))
   shown p few = record { run = es; runs = run; knows = mine; shown = h.shows.ports p few }
 
-  fields : (p : ℕ) → p < MAX_PORTS → unpack (slice_index t.words p) ≡ fields_of s p
+  fields : (p : ℕ) → p < MAX_PORTS → unpack (slice_index t.words (port_place p)) ≡ fields_of s p
   fields p few = ap unpack (h.shows.ports p few) ∙ port_words_decode s (fitting.w es run n mine) p
 
   -- what it knows once it has loaded a port's word
   abbrev reading : LoadKind → ℕ → NodeView
-  reading k p = reads n k p (slice_index t.words p)
+  reading k p = reads n k p (slice_index t.words (port_place p))
 
   has_read : (k : LoadKind) (p : ℕ) → p < MAX_PORTS → KnowsNode es n → KnowsNode es (reading k p)
-  has_read k p few = read_known es n k p (slice_index t.words p) (h.shows.ports p few)
+  has_read k p few = read_known es n k p (slice_index t.words (port_place p)) (h.shows.ports p few)
 
   -- by a load it learns something
-  learnt : (n' : NodeView) (p : ℕ) → n'.slot ≡ n.slot → (KnowsNode es n → KnowsNode es n') → With t h id (of_node n') (set t.words p (slice_index t.words p)) []
-  learnt n' p same knows = subst (λ ws. With t h id (of_node n') ws []) (sym (same_words t.words p)) (learns t h id t.homes n n' at same knows)
+  learnt : (n' : NodeView) (p : ℕ) → n'.slot ≡ n.slot → (KnowsNode es n → KnowsNode es n') → With t h id (of_node n') (set t.words (port_place p) (slice_index t.words (port_place p))) []
+  learnt n' p same knows = subst (λ ws. With t h id (of_node n') ws []) (sym (same_words t.words (port_place p))) (learns t h id t.homes n n' at same knows)
 
-  rests : (k : LoadKind) (p : ℕ) → p < MAX_PORTS → With t h id (of_node (reading k p)) (set t.words p (slice_index t.words p)) []
+  rests : (k : LoadKind) (p : ℕ) → p < MAX_PORTS → With t h id (of_node (reading k p)) (set t.words (port_place p) (slice_index t.words (port_place p))) []
   rests k p few = learnt (reading k p) p refl (has_read k p few)
 
   -- it learns something and does an event that changes the port's word to this
   moves_by : (n' : NodeView) → n'.slot ≡ n.slot → (KnowsNode es n → KnowsNode es n') → (e : Event) (p v : ℕ) → is_of_change e ≡ false → denial s e ≡ None → is_doer s n'.slot e ≡ true → p < MAX_PORTS
-      → changed_port e ≡ Some p → changed_slot e ≡ None → v ≡ word_of (effect s e) p → With t h id (of_node (does n' e)) (set t.words p v) (by_node e ∷ [])
+      → changed_port e ≡ Some p → changed_slot e ≡ None → v ≡ word_of (effect s e) p → With t h id (of_node (does n' e)) (set t.words (port_place p) v) (by_node e ∷ [])
   moves_by n' same knows e p v by_node_ may does_ few port slot is =
-      acts t h id t.homes n n' e (set t.words p v) at same knows by_node_ may does_
+      acts t h id t.homes n n' e (set t.words (port_place p) v) at same knows by_node_ may does_
       (shows_port t.words s (effect s e) e (fitting.w es run n mine) (record { allowed = may; changed = refl }) h.shows p v few port slot is)
 
   moves : (e : Event) (p v : ℕ) → is_of_change e ≡ false → denial s e ≡ None → is_doer s n.slot e ≡ true → p < MAX_PORTS → changed_port e ≡ Some p → changed_slot e ≡ None
-      → v ≡ word_of (effect s e) p → With t h id (of_node (does n e)) (set t.words p v) (by_node e ∷ [])
+      → v ≡ word_of (effect s e) p → With t h id (of_node (does n e)) (set t.words (port_place p) v) (by_node e ∷ [])
   moves = moves_by n refl (λ k. k)
 
   -- an event that changes no word, by a load
   takes_up : (k : LoadKind) (e : Event) (p : ℕ) → p < MAX_PORTS → is_of_change e ≡ false → denial s e ≡ None → is_doer s n.slot e ≡ true → changed_port e ≡ None → changed_slot e ≡ None
-      → With t h id (of_node (does (reading k p) e)) (set t.words p (slice_index t.words p)) (by_node e ∷ [])
+      → With t h id (of_node (does (reading k p) e)) (set t.words (port_place p) (slice_index t.words (port_place p))) (by_node e ∷ [])
   takes_up k e p few by_node_ may does_ port slot =
-      subst (λ ws. With t h id (of_node (does (reading k p) e)) ws (by_node e ∷ [])) (sym (same_words t.words p))
+      subst (λ ws. With t h id (of_node (does (reading k p) e)) ws (by_node e ∷ [])) (sym (same_words t.words (port_place p)))
       (acts t h id t.homes n (reading k p) e t.words at refl (has_read k p few) by_node_ may does_
       (shows_none t.words s (effect s e) e (fitting.w es run n mine) (record { allowed = may; changed = refl }) h.shows port slot))
 
@@ -108,22 +108,22 @@ some_if (Some t) h = (t, refl)
 
 -- ---- load
 
-pub loads : (slots id p : ℕ) (n : NodeView) → p < MAX_PORTS → Allows Holds slots id (of_node n, []) p (λ x. x) (λ found new. (new ≡ (of_node (reads n Own p found), [])) × WasShown n p found)
+pub loads : (slots id p : ℕ) (n : NodeView) → p < MAX_PORTS → Allows Holds slots id (of_node n, []) (port_place p) (λ x. x) (λ found new. (new ≡ (of_node (reads n Own p found), [])) × WasShown n p found)
 loads slots id p n few t h _ at _ = (of_node (reading n t h id at Own p), keeps, tt, (rests n t h id at Own p few).holds, (refl, shown n t h id at p few))
 
-pub load_prolongs : (slots id p : ℕ) (n : NodeView) → p < MAX_PORTS → LoadProlongs id n p (LoadsWord (step slots p 0 0 none) (of_node n, [])) (λ found. [])
-load_prolongs slots id p n few t h at v a then_ = prolonged t h id p _ _ _ (straight t h id _ _ _ (rests n t h id at Own p few)) v a then_.0
+pub load_prolongs : (slots id p : ℕ) (n : NodeView) → p < MAX_PORTS → LoadProlongs id n (port_place p) (LoadsWord (step slots (port_place p) 0 0 none) (of_node n, [])) (λ found. [])
+load_prolongs slots id p n few t h at v a then_ = prolonged t h id (port_place p) _ _ _ (straight t h id _ _ _ (rests n t h id at Own p few)) v a (subst (λ q. (v, []) ≡ read (of_node n, []) Own q (slice_index t.words (port_place p))) (at_place p (few)) then_.0)
 
 -- ---- take
 
 module _ (n : NodeView) (p : ℕ) (may : MayTake n.known p) (t : GatesTable) (h : Holds t) (id : ℕ) (at : get_elem? t.views id ≡ some (of_node n)) where
   abbrev asked_at : ℕ
-  asked_at = slice_index t.words p
+  asked_at = slice_index t.words (port_place p)
 
   abbrev take_event : Event
   take_event = Take p (unpack asked_at).serial (unpack asked_at).value
 
-  take_moves : is_message_to n.slot (unpack asked_at) ≡ true → With t h id (of_node (does (reads n kinds.Take p asked_at) take_event)) (set t.words p asked_at) (by_node take_event ∷ [])
+  take_moves : is_message_to n.slot (unpack asked_at) ≡ true → With t h id (of_node (does (reads n kinds.Take p asked_at) take_event)) (set t.words (port_place p) asked_at) (by_node take_event ∷ [])
   take_moves asked =
       let es' = events h.trace.moments in
       let s' = state_at h.trace.moments in
@@ -136,15 +136,15 @@ module _ (n : NodeView) (p : ℕ) (may : MayTake n.known p) (t : GatesTable) (h 
       (fitting.message_doer s' p n.slot (subst (λ x. is_message_to n.slot x ≡ true) (fields n t h id at p may.made) asked))
       refl refl
 
-  take_leads : Leads t h id (set t.words p asked_at) (if_so (is_message_to n.slot (unpack asked_at)) take_event)
+  take_leads : Leads t h id (set t.words (port_place p) asked_at) (if_so (is_message_to n.slot (unpack asked_at)) take_event)
       (cond (is_message_to n.slot (unpack asked_at)) (did (read (of_node n, []) kinds.Take p asked_at) take_event) (read (of_node n, []) kinds.Take p asked_at))
   take_leads =
       let after = reading n t h id at kinds.Take p in
-      picks t h id (of_node (does after take_event)) (of_node after) (λ b. set t.words p asked_at) (by_node take_event ∷ []) (is_message_to n.slot (unpack asked_at))
+      picks t h id (of_node (does after take_event)) (of_node after) (λ b. set t.words (port_place p) asked_at) (by_node take_event ∷ []) (is_message_to n.slot (unpack asked_at))
       take_moves (λ _. rests n t h id at kinds.Take p may.made)
 
 pub takes : (slots id p : ℕ) (n : NodeView) → MayTake n.known p
-    → Allows Holds slots id (of_node n, []) p (λ x. x)
+    → Allows Holds slots id (of_node n, []) (port_place p) (λ x. x)
     (λ found new.
     (new ≡ cond (is_message_to n.slot (unpack found)) (did (read (of_node n, []) kinds.Take p found) (Take p (unpack found).serial (unpack found).value)) (read (of_node n, []) kinds.Take p found))
     × WasShown n p found)
@@ -153,8 +153,8 @@ takes slots id p n may t h _ at _ =
     (it.view, keeps, tt, it.goes_on.holds, (it.is, shown n t h id at p may.made))
 
 pub take_prolongs : (slots id p : ℕ) (n : NodeView) → MayTake n.known p
-    → LoadProlongs id n p (Takes (step slots p 0 0 none) (of_node n, [])) (λ found. if_so (is_message_to n.slot (unpack found)) (Take p (unpack found).serial (unpack found).value))
-take_prolongs slots id p n may t h at v a then_ = prolonged t h id p _ _ _ (take_leads n p may t h id at) v a then_.0
+    → LoadProlongs id n (port_place p) (Takes (step slots (port_place p) 0 0 none) (of_node n, [])) (λ found. if_so (is_message_to n.slot (unpack found)) (Take p (unpack found).serial (unpack found).value))
+take_prolongs slots id p n may t h at v a then_ = prolonged t h id (port_place p) _ _ _ (take_leads n p may t h id at) v a (subst (λ q. (v, []) ≡ cond (is_message_to n.slot (unpack (slice_index t.words (port_place p)))) (did (read (of_node n, []) kinds.Take q (slice_index t.words (port_place p))) (Take q (unpack (slice_index t.words (port_place p))).serial (unpack (slice_index t.words (port_place p))).value)) (read (of_node n, []) kinds.Take q (slice_index t.words (port_place p)))) (at_place p (may.made)) then_.0)
 
 -- ---- begin
 
@@ -167,7 +167,7 @@ module _ (n : NodeView) (p v old : ℕ) (may : MayBegin (node_at n) n.known p v)
     abbrev event : Event
     event = Begin p ((unpack old).serial + 1) v
 
-    begin_moves : slice_index t.words p ≡ old → With t h id (of_node (does (reading n t h id at Exchange p) event)) (set t.words p (pack new_word)) (by_node event ∷ [])
+    begin_moves : slice_index t.words (port_place p) ≡ old → With t h id (of_node (does (reading n t h id at Exchange p) event)) (set t.words (port_place p) (pack new_word)) (by_node event ∷ [])
     begin_moves is =
         let es' = events h.trace.moments in
         let s' = state_at h.trace.moments in
@@ -191,29 +191,29 @@ module _ (n : NodeView) (p v old : ℕ) (may : MayBegin (node_at n) n.known p v)
     abbrev begun_or_not : ℕ → Seat
     begun_or_not found = cond (found == old) (did (read (of_node n, []) Exchange p found) event) (read (of_node n, []) Exchange p found)
 
-    begin_leads : Leads t h id (set t.words p (either (slice_index t.words p == old) (pack new_word) (slice_index t.words p))) (if_so (slice_index t.words p == old) event) (begun_or_not (slice_index t.words p))
+    begin_leads : Leads t h id (set t.words (port_place p) (either (slice_index t.words (port_place p) == old) (pack new_word) (slice_index t.words (port_place p)))) (if_so (slice_index t.words (port_place p) == old) event) (begun_or_not (slice_index t.words (port_place p)))
     begin_leads =
-        let found = slice_index t.words p in
+        let found = slice_index t.words (port_place p) in
         let after = reading n t h id at Exchange p in
-        picks t h id (of_node (does after event)) (of_node after) (λ b. set t.words p (either b (pack new_word) found)) (by_node event ∷ []) (found == old)
+        picks t h id (of_node (does after event)) (of_node after) (λ b. set t.words (port_place p) (either b (pack new_word) found)) (by_node event ∷ []) (found == old)
         (λ same. begin_moves (eqb-true found old same)) (λ _. rests n t h id at Exchange p few)
 
-  pub begins : (slots id : ℕ) → Allows Holds slots id (of_node n, []) p (λ x. either (x == old) (pack new_word) x)
+  pub begins : (slots id : ℕ) → Allows Holds slots id (of_node n, []) (port_place p) (λ x. either (x == old) (pack new_word) x)
       (λ found new.
       (new ≡ cond (found == old) (did (read (of_node n, []) Exchange p found) (Begin p ((unpack old).serial + 1) v)) (read (of_node n, []) Exchange p found)) × WasShown n p found)
   begins slots id t h _ at _ =
       let it = begin_leads t h id at in
       (it.view, keeps, tt, it.goes_on.holds, (it.is, shown n t h id at p (few t h id at)))
 
-  pub begin_prolongs : (slots id : ℕ) → Prolongs id (of_node n, []) p (λ x. either (x == old) (pack new_word) x) (ExchangesFor (Begin p ((unpack old).serial + 1) v) (step slots p old (pack new_word) none) (of_node n, []))
+  pub begin_prolongs : (slots id : ℕ) → Prolongs id (of_node n, []) (port_place p) (λ x. either (x == old) (pack new_word) x) (ExchangesFor (Begin p ((unpack old).serial + 1) v) (step slots (port_place p) old (pack new_word) none) (of_node n, []))
       (λ found. if_so (found == old) (Begin p ((unpack old).serial + 1) v))
-  begin_prolongs slots id t h at w a then_ = prolonged t h id p _ _ _ (begin_leads t h id at) w a then_.0
+  begin_prolongs slots id t h at w a then_ = prolonged t h id (port_place p) _ _ _ (begin_leads t h id at) w a (subst (λ q. (w, []) ≡ cond ((slice_index t.words (port_place p)) == old) (did (read (of_node n, []) Exchange q (slice_index t.words (port_place p))) (Begin p ((unpack old).serial + 1) v)) (read (of_node n, []) Exchange q (slice_index t.words (port_place p)))) (at_place p (few t h id at)) then_.0)
 
 -- ---- give
 
 module _ (n : NodeView) (p v : ℕ) (may : MayGive n.known p v) (t : GatesTable) (h : Holds t) (id : ℕ) (at : get_elem? t.views id ≡ some (of_node n)) where
   give_moves : p < MAX_PORTS
-      → With t h id (of_node (does n (Give p (serial_served n.known) v))) (set t.words p (bit_xor (slice_index t.words p) (message_difference phase.Asked (value_served n.known % 2 ^ 24) phase.Answered v)))
+      → With t h id (of_node (does n (Give p (serial_served n.known) v))) (set t.words (port_place p) (bit_xor (slice_index t.words (port_place p)) (message_difference phase.Asked (value_served n.known % 2 ^ 24) phase.Answered v)))
       (by_node (Give p (serial_served n.known) v) ∷ [])
   give_moves few =
       let es' = events h.trace.moments in
@@ -231,16 +231,16 @@ module _ (n : NodeView) (p v : ℕ) (may : MayGive n.known p v) (t : GatesTable)
       ∙ sym (give_by s' (effect s' e) p (serial_served n.known) v w c (record { allowed = allowed; changed = refl })))
 
 pub gives : (slots id p v : ℕ) (n : NodeView) → MayGive n.known p v
-    → Allows Holds slots id (of_node n, []) p (λ x. bit_xor x (message_difference phase.Asked (value_served n.known % 2 ^ 24) phase.Answered v))
+    → Allows Holds slots id (of_node n, []) (port_place p) (λ x. bit_xor x (message_difference phase.Asked (value_served n.known % 2 ^ 24) phase.Answered v))
     (λ found new. new ≡ did (of_node n, []) (Give p (serial_served n.known) v))
 gives slots id p v n may t h _ at _ =
     (of_node (does n (Give p (serial_served n.known) v)), keeps, tt, (give_moves n p v may t h id at (fitting.serving_below (events h.trace.moments) (run n t h id at) n (mine n t h id at) p may.serving)).holds, refl)
 
 pub give_prolongs : (id p v : ℕ) (n : NodeView) → MayGive n.known p v
-    → ActProlongs id n p (message_difference phase.Asked (value_served n.known % 2 ^ 24) phase.Answered v) (Give p (serial_served n.known) v)
+    → ActProlongs id n (port_place p) (message_difference phase.Asked (value_served n.known % 2 ^ 24) phase.Answered v) (Give p (serial_served n.known) v)
 give_prolongs id p v n may t h at w a is =
     let few = fitting.serving_below (events h.trace.moments) (run n t h id at) n (mine n t h id at) p may.serving in
-    prolonged t h id p _ _ _ (straight t h id _ _ _ (give_moves n p v may t h id at few)) w a is
+    prolonged t h id (port_place p) _ _ _ (straight t h id _ _ _ (give_moves n p v may t h id at few)) w a is
 
 -- ---- end
 
@@ -252,7 +252,7 @@ module _ (n : NodeView) (p : ℕ) (may : MayEnd (node_at n) n.known p) where
   end_event = End p port.serial (value_seen port)
 
   end_moves : (t : GatesTable) (h : Holds t) (id : ℕ) → get_elem? t.views id ≡ some (of_node n)
-      → With t h id (of_node (does n end_event)) (set t.words p (bit_xor (slice_index t.words p) (end_difference (value_seen port % 2 ^ 24) port.consequent))) (by_node end_event ∷ [])
+      → With t h id (of_node (does n end_event)) (set t.words (port_place p) (bit_xor (slice_index t.words (port_place p)) (end_difference (value_seen port % 2 ^ 24) port.consequent))) (by_node end_event ∷ [])
   end_moves t h id at =
       let es' = events h.trace.moments in
       let s' = state_at h.trace.moments in
@@ -270,11 +270,11 @@ module _ (n : NodeView) (p : ℕ) (may : MayEnd (node_at n) n.known p) where
       ((λ i. bit_xor (h.shows.ports p few i) (end_difference (fitting.low_seen_is es' runs n knows p may.own may.seen i) ((fitting.port_known_is es' runs n knows p may.own).consequent i)))
       ∙ sym (end_by s' (effect s' end_event) p port.serial (value_seen port) w (record { allowed = allowed; changed = refl })))
 
-  pub ends : (slots id : ℕ) → Allows Holds slots id (of_node n, []) p (λ x. bit_xor x (end_difference (value_seen port % 2 ^ 24) port.consequent)) (λ found new. new ≡ did (of_node n, []) end_event)
+  pub ends : (slots id : ℕ) → Allows Holds slots id (of_node n, []) (port_place p) (λ x. bit_xor x (end_difference (value_seen port % 2 ^ 24) port.consequent)) (λ found new. new ≡ did (of_node n, []) end_event)
   ends slots id t h _ at _ = (of_node (does n end_event), keeps, tt, (end_moves t h id at).holds, refl)
 
-  pub end_prolongs : (id : ℕ) → ActProlongs id n p (end_difference (value_seen port % 2 ^ 24) port.consequent) end_event
-  end_prolongs id t h at w a is = prolonged t h id p _ _ _ (straight t h id _ _ _ (end_moves t h id at)) w a is
+  pub end_prolongs : (id : ℕ) → ActProlongs id n (port_place p) (end_difference (value_seen port % 2 ^ 24) port.consequent) end_event
+  end_prolongs id t h at w a is = prolonged t h id (port_place p) _ _ _ (straight t h id _ _ _ (end_moves t h id at)) w a is
 
 -- ---- see
 
@@ -287,7 +287,7 @@ shows_of x k phase.More is packed busy = (ap is_in_more (sym is), refl)
 
 module _ (n : NodeView) (p : ℕ) (may : MaySee (node_at n) n.known p) (t : GatesTable) (h : Holds t) (id : ℕ) (at : get_elem? t.views id ≡ some (of_node n)) where
   abbrev seen_word : ℕ
-  seen_word = slice_index t.words p
+  seen_word = slice_index t.words (port_place p)
 
   abbrev seeing : NodeView
   seeing = sees' n p seen_word
@@ -316,7 +316,7 @@ module _ (n : NodeView) (p : ℕ) (may : MaySee (node_at n) n.known p) (t : Gate
         loaded = knows.loaded;
       }
 
-pub sees : (slots id p : ℕ) (n : NodeView) → MaySee (node_at n) n.known p → Allows Holds slots id (of_node n, []) p (λ x. x)
+pub sees : (slots id p : ℕ) (n : NodeView) → MaySee (node_at n) n.known p → Allows Holds slots id (of_node n, []) (port_place p) (λ x. x)
     (λ found new. (new ≡ (of_node (sees' n p found), [])) × WasShown n p found)
 sees slots id p n may t h _ at _ =
     let few = fitting.port_below (events h.trace.moments) (run n t h id at) n (mine n t h id at) p may.own in
@@ -328,15 +328,15 @@ sees slots id p n may t h _ at _ =
       (refl, shown n t h id at p few),
     )
 
-pub see_prolongs : (slots id p : ℕ) (n : NodeView) → MaySee (node_at n) n.known p → LoadProlongs id n p (Sees (step slots p 0 0 none) (of_node n, [])) (λ found. [])
+pub see_prolongs : (slots id p : ℕ) (n : NodeView) → MaySee (node_at n) n.known p → LoadProlongs id n (port_place p) (Sees (step slots (port_place p) 0 0 none) (of_node n, [])) (λ found. [])
 see_prolongs slots id p n may t h at v a then_ =
-    prolonged t h id p _ _ _ (straight t h id _ _ _ (learnt n t h id at (seeing n p may t h id at) p refl (see_knows n p may t h id at))) v a then_.0
+    prolonged t h id (port_place p) _ _ _ (straight t h id _ _ _ (learnt n t h id at (seeing n p may t h id at) p refl (see_knows n p may t h id at))) v a (subst (λ q. ◌≡◌ {A = Seat} (v, []) (of_node (sees' n q (slice_index t.words (port_place p))), [])) (at_place p (fitting.port_below (events h.trace.moments) (run n t h id at) n (mine n t h id at) p may.own)) then_.0)
 
 -- ---- more
 
 module _ (n : NodeView) (p v : ℕ) (may : MaySendMore (node_at n) n.known p v) (t : GatesTable) (h : Holds t) (id : ℕ) (at : get_elem? t.views id ≡ some (of_node n)) where
   more_moves : p < MAX_PORTS
-      → With t h id (of_node (does n (More p (serial_served n.known) v))) (set t.words p (bit_xor (slice_index t.words p) (message_difference phase.Asked (value_served n.known % 2 ^ 24) phase.More v)))
+      → With t h id (of_node (does n (More p (serial_served n.known) v))) (set t.words (port_place p) (bit_xor (slice_index t.words (port_place p)) (message_difference phase.Asked (value_served n.known % 2 ^ 24) phase.More v)))
       (by_node (More p (serial_served n.known) v) ∷ [])
   more_moves few =
       let es' = events h.trace.moments in
@@ -355,16 +355,16 @@ module _ (n : NodeView) (p v : ℕ) (may : MaySendMore (node_at n) n.known p v) 
       ∙ sym (more_by s' (effect s' e) p (serial_served n.known) v w c (record { allowed = allowed; changed = refl })))
 
 pub mores : (slots id p v : ℕ) (n : NodeView) → MaySendMore (node_at n) n.known p v
-    → Allows Holds slots id (of_node n, []) p (λ x. bit_xor x (message_difference phase.Asked (value_served n.known % 2 ^ 24) phase.More v))
+    → Allows Holds slots id (of_node n, []) (port_place p) (λ x. bit_xor x (message_difference phase.Asked (value_served n.known % 2 ^ 24) phase.More v))
     (λ found new. new ≡ did (of_node n, []) (More p (serial_served n.known) v))
 mores slots id p v n may t h _ at _ =
     (of_node (does n (More p (serial_served n.known) v)), keeps, tt, (more_moves n p v may t h id at (fitting.serving_below (events h.trace.moments) (run n t h id at) n (mine n t h id at) p may.give.serving)).holds, refl)
 
 pub more_prolongs : (id p v : ℕ) (n : NodeView) → MaySendMore (node_at n) n.known p v
-    → ActProlongs id n p (message_difference phase.Asked (value_served n.known % 2 ^ 24) phase.More v) (More p (serial_served n.known) v)
+    → ActProlongs id n (port_place p) (message_difference phase.Asked (value_served n.known % 2 ^ 24) phase.More v) (More p (serial_served n.known) v)
 more_prolongs id p v n may t h at w a is =
     let few = fitting.serving_below (events h.trace.moments) (run n t h id at) n (mine n t h id at) p may.give.serving in
-    prolonged t h id p _ _ _ (straight t h id _ _ _ (more_moves n p v may t h id at few)) w a is
+    prolonged t h id (port_place p) _ _ _ (straight t h id _ _ _ (more_moves n p v may t h id at few)) w a is
 
 -- ---- ask
 
@@ -376,7 +376,7 @@ module _ (n : NodeView) (p v : ℕ) (may : MayAsk (node_at n) n.known p v) where
   ask_event = Ask p asking.serial v
 
   ask_moves : (t : GatesTable) (h : Holds t) (id : ℕ) → get_elem? t.views id ≡ some (of_node n)
-      → With t h id (of_node (does n ask_event)) (set t.words p (bit_xor (slice_index t.words p) (message_difference phase.More (value_seen asking % 2 ^ 24) phase.Asked v)))
+      → With t h id (of_node (does n ask_event)) (set t.words (port_place p) (bit_xor (slice_index t.words (port_place p)) (message_difference phase.More (value_seen asking % 2 ^ 24) phase.Asked v)))
       (by_node ask_event ∷ [])
   ask_moves t h id at =
       let es' = events h.trace.moments in
@@ -395,22 +395,22 @@ module _ (n : NodeView) (p v : ℕ) (may : MayAsk (node_at n) n.known p v) where
       ((λ i. bit_xor (h.shows.ports p few i) (message_difference phase.More ((fitting.low_seen_is es' runs n knows p may.own may.seen ∙ fitting.seen_is es' runs n knows p may.own may.seen) i) phase.Asked v))
       ∙ sym (ask_by s' (effect s' ask_event) p asking.serial v w (record { allowed = allowed; changed = refl })))
 
-  pub asks : (slots id : ℕ) → Allows Holds slots id (of_node n, []) p (λ x. bit_xor x (message_difference phase.More (value_seen asking % 2 ^ 24) phase.Asked v)) (λ found new. new ≡ did (of_node n, []) ask_event)
+  pub asks : (slots id : ℕ) → Allows Holds slots id (of_node n, []) (port_place p) (λ x. bit_xor x (message_difference phase.More (value_seen asking % 2 ^ 24) phase.Asked v)) (λ found new. new ≡ did (of_node n, []) ask_event)
   asks slots id t h _ at _ = (of_node (does n ask_event), keeps, tt, (ask_moves t h id at).holds, refl)
 
-  pub ask_prolongs : (id : ℕ) → ActProlongs id n p (message_difference phase.More (value_seen asking % 2 ^ 24) phase.Asked v) ask_event
-  ask_prolongs id t h at w a is = prolonged t h id p _ _ _ (straight t h id _ _ _ (ask_moves t h id at)) w a is
+  pub ask_prolongs : (id : ℕ) → ActProlongs id n (port_place p) (message_difference phase.More (value_seen asking % 2 ^ 24) phase.Asked v) ask_event
+  ask_prolongs id t h at w a is = prolonged t h id (port_place p) _ _ _ (straight t h id _ _ _ (ask_moves t h id at)) w a is
 
 -- ---- hear
 
 module _ (n : NodeView) (p : ℕ) (may : MayHear n.known p) (t : GatesTable) (h : Holds t) (id : ℕ) (at : get_elem? t.views id ≡ some (of_node n)) where
   abbrev heard_word : ℕ
-  heard_word = slice_index t.words p
+  heard_word = slice_index t.words (port_place p)
 
   abbrev hear_event : Event
   hear_event = Hear p (serial_served n.known) (unpack heard_word).value
 
-  hear_moves : p < MAX_PORTS → is_asked (unpack heard_word).phase ≡ true → With t h id (of_node (does (reads n kinds.Hear p heard_word) hear_event)) (set t.words p heard_word) (by_node hear_event ∷ [])
+  hear_moves : p < MAX_PORTS → is_asked (unpack heard_word).phase ≡ true → With t h id (of_node (does (reads n kinds.Hear p heard_word) hear_event)) (set t.words (port_place p) heard_word) (by_node hear_event ∷ [])
   hear_moves few asked =
       let es' = events h.trace.moments in
       let s' = state_at h.trace.moments in
@@ -427,15 +427,15 @@ module _ (n : NodeView) (p : ℕ) (may : MayHear n.known p) (t : GatesTable) (h 
   heard_few : p < MAX_PORTS
   heard_few = fitting.serving_below (events h.trace.moments) (run n t h id at) n (mine n t h id at) p may.serving
 
-  hear_leads : Leads t h id (set t.words p heard_word) (if_so (is_asked (unpack heard_word).phase) hear_event)
+  hear_leads : Leads t h id (set t.words (port_place p) heard_word) (if_so (is_asked (unpack heard_word).phase) hear_event)
       (cond (is_asked (unpack heard_word).phase) (did (read (of_node n, []) kinds.Hear p heard_word) hear_event) (read (of_node n, []) kinds.Hear p heard_word))
   hear_leads =
       let after = reading n t h id at kinds.Hear p in
-      picks t h id (of_node (does after hear_event)) (of_node after) (λ b. set t.words p heard_word) (by_node hear_event ∷ []) (is_asked (unpack heard_word).phase)
+      picks t h id (of_node (does after hear_event)) (of_node after) (λ b. set t.words (port_place p) heard_word) (by_node hear_event ∷ []) (is_asked (unpack heard_word).phase)
       (hear_moves heard_few) (λ _. rests n t h id at kinds.Hear p heard_few)
 
 pub hears : (slots id p : ℕ) (n : NodeView) → MayHear n.known p
-    → Allows Holds slots id (of_node n, []) p (λ x. x)
+    → Allows Holds slots id (of_node n, []) (port_place p) (λ x. x)
     (λ found new.
     (new ≡ cond (is_asked (unpack found).phase) (did (read (of_node n, []) kinds.Hear p found) (Hear p (serial_served n.known) (unpack found).value)) (read (of_node n, []) kinds.Hear p found))
     × WasShown n p found)
@@ -444,20 +444,20 @@ hears slots id p n may t h _ at _ =
     (it.view, keeps, tt, it.goes_on.holds, (it.is, shown n t h id at p (heard_few n p may t h id at)))
 
 pub hear_prolongs : (slots id p : ℕ) (n : NodeView) → MayHear n.known p
-    → LoadProlongs id n p (Hears (step slots p 0 0 none) (of_node n, [])) (λ found. if_so (is_asked (unpack found).phase) (Hear p (serial_served n.known) (unpack found).value))
-hear_prolongs slots id p n may t h at v a then_ = prolonged t h id p _ _ _ (hear_leads n p may t h id at) v a then_.0
+    → LoadProlongs id n (port_place p) (Hears (step slots (port_place p) 0 0 none) (of_node n, [])) (λ found. if_so (is_asked (unpack found).phase) (Hear p (serial_served n.known) (unpack found).value))
+hear_prolongs slots id p n may t h at v a then_ = prolonged t h id (port_place p) _ _ _ (hear_leads n p may t h id at) v a (subst (λ q. (v, []) ≡ cond (is_asked (unpack (slice_index t.words (port_place p))).phase) (did (read (of_node n, []) kinds.Hear q (slice_index t.words (port_place p))) (Hear q (serial_served n.known) (unpack (slice_index t.words (port_place p))).value)) (read (of_node n, []) kinds.Hear q (slice_index t.words (port_place p)))) (at_place p (heard_few n p may t h id at)) then_.0)
 
 -- ---- call
 
 module _ (n : NodeView) (p v : ℕ) (may : MayCallAt (node_at n) n.known p v) where
   module _ (t : GatesTable) (h : Holds t) (id : ℕ) (at : get_elem? t.views id ≡ some (of_node n)) where
     abbrev call_word : ℕ
-    call_word = slice_index t.words p
+    call_word = slice_index t.words (port_place p)
 
     abbrev calling : NodeView
     calling = looks n p call_word
 
-    miss_moves : is_missing (unpack call_word) ≡ true → With t h id (of_node (does (reads n Own p call_word) (Miss p))) (set t.words p call_word) (by_node (Miss p) ∷ [])
+    miss_moves : is_missing (unpack call_word) ≡ true → With t h id (of_node (does (reads n Own p call_word) (Miss p))) (set t.words (port_place p) call_word) (by_node (Miss p) ∷ [])
     miss_moves missing =
         let es' = events h.trace.moments in
         let s' = state_at h.trace.moments in
@@ -500,20 +500,20 @@ module _ (n : NodeView) (p v : ℕ) (may : MayCallAt (node_at n) n.known p v) wh
     call_few : p < MAX_PORTS
     call_few = fitting.port_below (events h.trace.moments) (run n t h id at) n (mine n t h id at) p may.own
 
-    look_leads : Leads t h id (set t.words p call_word) (if_so (is_missing (unpack call_word)) (Miss p))
+    look_leads : Leads t h id (set t.words (port_place p) call_word) (if_so (is_missing (unpack call_word)) (Miss p))
         (cond (is_missing (unpack call_word)) (did (read (of_node n, []) Own p call_word) (Miss p)) (of_node calling, []))
     look_leads =
-        picks t h id (of_node (does (reading n t h id at Own p) (Miss p))) (of_node calling) (λ b. set t.words p call_word) (by_node (Miss p) ∷ []) (is_missing (unpack call_word))
+        picks t h id (of_node (does (reading n t h id at Own p) (Miss p))) (of_node calling) (λ b. set t.words (port_place p) call_word) (by_node (Miss p) ∷ []) (is_missing (unpack call_word))
         miss_moves (λ _. learnt n t h id at calling p refl loaded_knows)
 
-  pub looks_to_call : (slots id : ℕ) → Allows Holds slots id (of_node n, []) p (λ x. x)
+  pub looks_to_call : (slots id : ℕ) → Allows Holds slots id (of_node n, []) (port_place p) (λ x. x)
       (λ found new. (new ≡ cond (is_missing (unpack found)) (did (read (of_node n, []) Own p found) (Miss p)) (of_node (looks n p found), [])) × WasShown n p found)
   looks_to_call slots id t h _ at _ =
       let it = look_leads t h id at in
       (it.view, keeps, tt, it.goes_on.holds, (it.is, shown n t h id at p (call_few t h id at)))
 
-  pub look_prolongs : (slots id : ℕ) → LoadProlongs id n p (LooksToCall (step slots p 0 0 none) (of_node n, [])) (λ found. if_so (is_missing (unpack found)) (Miss p))
-  look_prolongs slots id t h at w a then_ = prolonged t h id p _ _ _ (look_leads t h id at) w a then_.0
+  pub look_prolongs : (slots id : ℕ) → LoadProlongs id n (port_place p) (LooksToCall (step slots (port_place p) 0 0 none) (of_node n, [])) (λ found. if_so (is_missing (unpack found)) (Miss p))
+  look_prolongs slots id t h at w a then_ = prolonged t h id (port_place p) _ _ _ (look_leads t h id at) w a (subst (λ q. (w, []) ≡ cond (is_missing (unpack (slice_index t.words (port_place p)))) (did (read (of_node n, []) Own q (slice_index t.words (port_place p))) (Miss q)) (of_node (looks n q (slice_index t.words (port_place p))), [])) (at_place p (call_few t h id at)) then_.0)
 
   -- the word that was loaded, by which it calls
   module _ (word : ℕ) (was : n.loaded ≡ Some (record { port = p; word = word })) (fit : FitsWord (unpack word)) (found_there : is_missing (unpack word) ≡ false) where
@@ -527,7 +527,7 @@ module _ (n : NodeView) (p v : ℕ) (may : MayCallAt (node_at n) n.known p v) wh
         (leads.0, leads.1, (let few = fit.serial in let apart = eqb-false (unpack word).serial last_serial parts.1 in omega (arith, few, apart)))
 
     call_moves : (t : GatesTable) (h : Holds t) (id : ℕ) → get_elem? t.views id ≡ some (of_node n)
-        → With t h id (of_node (does n call_event)) (set t.words p (bit_xor (slice_index t.words p) (call_difference (unpack word) v))) (by_node call_event ∷ [])
+        → With t h id (of_node (does n call_event)) (set t.words (port_place p) (bit_xor (slice_index t.words (port_place p)) (call_difference (unpack word) v))) (by_node call_event ∷ [])
     call_moves t h id at =
         let es' = events h.trace.moments in
         let s' = state_at h.trace.moments in
@@ -551,8 +551,8 @@ module _ (n : NodeView) (p v : ℕ) (may : MayCallAt (node_at n) n.known p v) wh
         (ap (λ (x : Word). x.phase) loaded.shown) (ap (λ (x : Word). x.consequent) loaded.shown) serial (ap (λ (x : Word). x.value) loaded.shown)
         ∙ sym (ap pack (port_word_follows s' (effect s' call_event) call_event w step p refl)))
 
-    pub calls : (slots id : ℕ) → Allows Holds slots id (of_node n, []) p (λ x. bit_xor x (call_difference (unpack word) v)) (λ found new. new ≡ did (of_node n, []) call_event)
+    pub calls : (slots id : ℕ) → Allows Holds slots id (of_node n, []) (port_place p) (λ x. bit_xor x (call_difference (unpack word) v)) (λ found new. new ≡ did (of_node n, []) call_event)
     calls slots id t h _ at _ = (of_node (does n call_event), keeps, tt, (call_moves t h id at).holds, refl)
 
-    pub call_prolongs : (id : ℕ) → ActProlongs id n p (call_difference (unpack word) v) call_event
-    call_prolongs id t h at w a is = prolonged t h id p _ _ _ (straight t h id _ _ _ (call_moves t h id at)) w a is
+    pub call_prolongs : (id : ℕ) → ActProlongs id n (port_place p) (call_difference (unpack word) v) call_event
+    call_prolongs id t h at w a is = prolonged t h id (port_place p) _ _ _ (straight t h id _ _ _ (call_moves t h id at)) w a is

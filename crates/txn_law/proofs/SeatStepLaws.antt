@@ -30,12 +30,12 @@ use Rattle.quiesce_core.proofs.WordLaws.{slot_words_of_runs}
 use Rattle.txn_law.specs.Views.{given_out, is_among, new_seat, newest, nobody, notes, nothing_done, of_change, of_node, seat_again, unknown, with_seat, with_sight, without_seat}
 use Rattle.txn_law.specs.Growth.{JoinProlongs, LoadProlongs, RunGoesOn, SplitProlongs}
 use Rattle.txn_law.specs.Steps.{Adopts}
-use Rattle.txn_law.specs.Traces.{first_words, AreSeated, FitsView, FitsChange, FitsNode, HasChange, HasSlot, Holds, IsTrace, IsThere, KnowsNode, Shows, Trace}
+use Rattle.txn_law.specs.Traces.{port_place, first_words, AreSeated, FitsView, FitsChange, FitsNode, HasChange, HasSlot, Holds, IsTrace, IsThere, KnowsNode, Shows, Trace}
 use Rattle.txn_law.specs.declared.view.ChangeView.{ChangeView}
 use Rattle.txn_law.specs.declared.view.NodeView.{NodeView}
 use Rattle.txn_law.specs.declared.view.View.{View}
 use Rattle.txn_law.proofs.GrowthLaws.{prolonged, stays, straight}
-use Rattle.txn_law.proofs.TraceLaws.{all_into, goes_on_joined, goes_on_parted, set_there, stays_there, there_before}
+use Rattle.txn_law.proofs.TraceLaws.{place_below, all_into, goes_on_joined, goes_on_parted, set_there, stays_there, there_before}
 use mathlib.Core.Option.{none, some, some-injective, some-ne-none}
 use lib.ListN.{get_elem?}
 
@@ -379,7 +379,7 @@ back_of a b x y n few =
 first_shows : Shows first_words empty
 first_shows = record {
   count = count_of MAX_PORTS MAX_NODES CLOSED 0;
-  ports = λ p few. front_of MAX_PORTS MAX_NODES CLOSED 0 p few ∙ sym (unmade_port empty well_formed_empty p (omega arith));
+  ports = λ p few. front_of MAX_PORTS MAX_NODES CLOSED 0 (port_place p) (place_below p few) ∙ sym (unmade_port empty well_formed_empty p (omega arith));
   slots = λ n few. back_of MAX_PORTS MAX_NODES CLOSED 0 n few;
 }
 

@@ -1,5 +1,5 @@
 -- What the words and the views show after a step: of a trace with one event, look or sight more, or of the same trace.
-use Rattle.std.proofs.Common.{◌≡◌, ◌≢◌, ◌∙◌, ℕ, zero, suc, ◌+◌, ◌<◌, ◌⊎◌, inl, inr, true, false, ◌||◌, List, [], ◌∷◌, ◌++◌, length, set, Some, None, refl, sym, ap, subst, ⊎_elim, arith}
+use Rattle.std.proofs.Common.{◌≡◌, ◌≢◌, ◌∙◌, ℕ, zero, suc, ◌+◌, ◌*◌, ◌%◌, ◌/◌, ◌<◌, ◌⊎◌, inl, inr, true, false, ◌||◌, List, [], ◌∷◌, ◌++◌, length, set, Some, None, refl, sym, ap, subst, ⊎_elim, arith}
 use Rattle.std.specs.List.{AllByRecursion}
 use Rattle.std.specs.Prelude.{◌==◌, slice_index}
 use Rattle.std.proofs.lemmas.Bool.{cases_eq}
@@ -27,7 +27,7 @@ use Rattle.quiesce_core.proofs.RunLaws.{changes_are_of_no_node, done_by_other, r
 use Rattle.quiesce_core.proofs.WordLaws.{port_word_stays, slot_word_stays}
 use Rattle.txn_law.specs.Views.{does, nobody, notes, of_change, of_node}
 use Rattle.txn_law.specs.Growth.{RunGoesOn}
-use Rattle.txn_law.specs.Traces.{AreSeated, FitsView, FitsChange, FitsNode, HasChange, HasSlot, Holds, IsTrace, IsThere, KnowsNode, Shows, Trace}
+use Rattle.txn_law.specs.Traces.{port_at, port_place, AreSeated, FitsView, FitsChange, FitsNode, HasChange, HasSlot, Holds, IsTrace, IsThere, KnowsNode, Shows, Trace}
 use Rattle.txn_law.specs.declared.view.ChangeView.{ChangeView}
 use Rattle.txn_law.specs.declared.view.NodeView.{NodeView}
 use Rattle.txn_law.specs.declared.view.View.{View}
@@ -36,6 +36,18 @@ use mathlib.Core.Option.{Option as Maybe, some, some-injective, some-ne-none}
 use lib.ListN.{get_elem?}
 
 -- ---- words
+
+-- where ports' words lie, by arithmetic
+pub place_below : (p : ℕ) → p < MAX_PORTS → port_place p < MAX_PORTS
+unfolding port_place
+place_below p few = omega (arith, few)
+
+pub at_place : (p : ℕ) → p < MAX_PORTS → port_at (port_place p) ≡ p
+unfolding port_place port_at
+at_place p few = omega (arith, few)
+
+pub places_differ : (p q : ℕ) → port_place p ≡ port_place q → p < MAX_PORTS → q < MAX_PORTS → p ≡ q
+places_differ p q same few below = sym (at_place p few) ∙ ap port_at same ∙ at_place q below
 
 module _ (words : List ℕ) (s t : State) (e : Event) (w : IsWellFormed s) (step : Step s e t) (h : Shows words s) where
   -- an event that changes no word
@@ -47,15 +59,15 @@ module _ (words : List ℕ) (s t : State) (e : Event) (w : IsWellFormed s) (step
   }
 
   -- one that changes a port's
-  pub shows_port : (p v : ℕ) → p < MAX_PORTS → changed_port e ≡ Some p → changed_slot e ≡ None → v ≡ word_of t p → Shows (set words p v) t
+  pub shows_port : (p v : ℕ) → p < MAX_PORTS → changed_port e ≡ Some p → changed_slot e ≡ None → v ≡ word_of t p → Shows (set words (port_place p) v) t
   shows_port p v few port slot is = record {
-    count = length-set words p v ∙ h.count;
+    count = length-set words (port_place p) v ∙ h.count;
     ports = λ q below. ⊎_elim
-        (λ (at : q ≡ p). subst (λ i. slice_index (set words p v) i ≡ word_of t i) (sym at) (get_or-set_same words p v 0 (omega (arith, few, h.count)) ∙ is))
-        (λ (apart : q ≡ p → ⊥). get_or-set_other words p q v 0 apart ∙ h.ports q below
+        (λ (at : q ≡ p). subst (λ i. slice_index (set words (port_place p) v) (port_place i) ≡ word_of t i) (sym at) (get_or-set_same words (port_place p) v 0 (let small = place_below p few in omega (arith, small, h.count)) ∙ is))
+        (λ (apart : q ≡ p → ⊥). get_or-set_other words (port_place p) (port_place q) v 0 (λ same. apart (places_differ q p same below few)) ∙ h.ports q below
         ∙ sym (ap pack (port_word_stays s t e w step q (λ at. apart (same_Some q p (sym at ∙ port))))))
         (cases_eq q p);
-    slots = λ n below. get_or-set_other words p (MAX_PORTS + n) v 0 (λ at. omega (arith, at, few)) ∙ h.slots n below
+    slots = λ n below. get_or-set_other words (port_place p) (MAX_PORTS + n) v 0 (λ at. let small = place_below p few in omega (arith, at, small)) ∙ h.slots n below
         ∙ sym (slot_word_stays s t e w step n (λ at. cc (slot, at)));
   }
 
@@ -63,7 +75,7 @@ module _ (words : List ℕ) (s t : State) (e : Event) (w : IsWellFormed s) (step
   pub shows_slot : (n v : ℕ) → n < MAX_NODES → changed_port e ≡ None → changed_slot e ≡ Some n → v ≡ slot_word_of t.config n → Shows (set words (MAX_PORTS + n) v) t
   shows_slot n v few port slot is = record {
     count = length-set words (MAX_PORTS + n) v ∙ h.count;
-    ports = λ p below. get_or-set_other words (MAX_PORTS + n) p v 0 (λ at. omega (arith, at, below)) ∙ h.ports p below
+    ports = λ p below. get_or-set_other words (MAX_PORTS + n) (port_place p) v 0 (λ at. let small = place_below p below in omega (arith, at, small)) ∙ h.ports p below
         ∙ sym (ap pack (port_word_stays s t e w step p (λ at. cc (port, at))));
     slots = λ m below. ⊎_elim
         (λ (at : m ≡ n). subst (λ i. slice_index (set words (MAX_PORTS + n) v) (MAX_PORTS + i) ≡ slot_word_of t.config i) (sym at) (get_or-set_same words (MAX_PORTS + n) v 0 (omega (arith, few, h.count)) ∙ is))

@@ -11,7 +11,7 @@ use Rattle.quiesce_core.specs.Runs.{done_by}
 use Rattle.quiesce_core.specs.State.{is_live, slot}
 use Rattle.quiesce_core.specs.Words.{slot_fields_of}
 use Rattle.txn_law.specs.Steps.{Seat, noted}
-use Rattle.txn_law.specs.Traces.{HaveOwnSlots}
+use Rattle.txn_law.specs.Traces.{port_at, HaveOwnSlots}
 use Rattle.txn_law.specs.Views.{change_of, is_among, log_in, node_of, notes}
 use Rattle.txn_law.specs.declared.view.NodeView.{NodeView}
 
@@ -40,6 +40,9 @@ abbrev pub Meets : Step (Unit {0}) → Seat → ℕ → Seat → Type 0
 Meets st me found new = (new ≡ me) × IsRecord (change_of me.0).entries × IsOfRecord (change_of me.0).entries (node_of me.0)
 
 -- a look of the change, which took all seats in
+abbrev pub MergesBy : ℕ → Seat → ℕ → Seat → Type 0
+MergesBy p me found new = (new ≡ noted me (Looked p found))
+    × MergeIntoRun (notes (change_of me.0) (Looked p found)).entries me.0.nodes
+
 abbrev pub Merges : Step (Unit {0}) → Seat → ℕ → Seat → Type 0
-Merges st me found new = (new ≡ noted me (Looked st.word found))
-    × MergeIntoRun (notes (change_of me.0) (Looked st.word found)).entries me.0.nodes
+Merges st = MergesBy (port_at st.word)

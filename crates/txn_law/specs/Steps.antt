@@ -19,7 +19,7 @@ use Rattle.node_gate.specs.Seats.{serial_served}
 use Rattle.node_gate.specs.declared.answers.SeeAnswer.{SeeAnswer}
 use Rattle.node_gate.specs.declared.answers.SeeAnswer.TheVariants as see
 use Rattle.txn_law.specs.Views.{change_of, does, node_at, node_of, notes, of_change, of_node, reads}
-use Rattle.txn_law.specs.Traces.{KnowsNode}
+use Rattle.txn_law.specs.Traces.{port_at, KnowsNode}
 use Rattle.txn_law.specs.declared.view.LoadKind.{LoadKind}
 use Rattle.txn_law.specs.declared.view.LoadKind.TheVariants as kinds
 use Rattle.txn_law.specs.declared.view.LoadKind.TheVariants.{Own, Exchange}
@@ -68,47 +68,65 @@ seen_in w =
 -- ---- a node's steps: each loads the word that is found, and what is done by it follows
 
 -- a load does nothing else
+abbrev pub LoadsWordBy : ℕ → Seat → ℕ → Seat → Type 0
+LoadsWordBy p me found new = (new ≡ read me Own p found) × WasShown (node_of me.0) p found
+
 abbrev pub LoadsWord : Step (Unit {0}) → Seat → ℕ → Seat → Type 0
-LoadsWord st me found new = (new ≡ read me Own st.word found) × WasShown (node_of me.0) st.word found
+LoadsWord st = LoadsWordBy (port_at st.word)
 
 -- an exchange is the event, where it found the word that it expects
+abbrev pub ExchangesBy : ℕ → ℕ → Event → Seat → ℕ → Seat → Type 0
+ExchangesBy p first e me found new =
+    (new ≡ (if found == first then did (read me Exchange p found) e else read me Exchange p found))
+    × WasShown (node_of me.0) p found
+
 abbrev pub ExchangesFor : Event → Step (Unit {0}) → Seat → ℕ → Seat → Type 0
-ExchangesFor e st me found new =
-    (new ≡ (if found == st.first then did (read me Exchange st.word found) e else read me Exchange st.word found))
-    × WasShown (node_of me.0) st.word found
+ExchangesFor e st = ExchangesBy (port_at st.word) st.first e
 
 -- a load takes what is asked of the node
-abbrev pub Takes : Step (Unit {0}) → Seat → ℕ → Seat → Type 0
-Takes st me found new =
+abbrev pub TakesBy : ℕ → Seat → ℕ → Seat → Type 0
+TakesBy p me found new =
     (new ≡ (if is_message_to (node_of me.0).slot (unpack found)
-    then did (read me kinds.Take st.word found) (Take st.word (unpack found).serial (unpack found).value)
-    else read me kinds.Take st.word found))
-    × WasShown (node_of me.0) st.word found
+    then did (read me kinds.Take p found) (Take p (unpack found).serial (unpack found).value)
+    else read me kinds.Take p found))
+    × WasShown (node_of me.0) p found
+
+abbrev pub Takes : Step (Unit {0}) → Seat → ℕ → Seat → Type 0
+Takes st = TakesBy (port_at st.word)
 
 -- a load sees what the word shows
 abbrev pub sees : NodeView → ℕ → ℕ → NodeView
 sees n p w = record (reads n Own p w) { known = with_seen (node_at n) p (seen_in w) n.known }
 
+abbrev pub SeesBy : ℕ → Seat → ℕ → Seat → Type 0
+SeesBy p me found new = (new ≡ (of_node (sees (node_of me.0) p found), [])) × WasShown (node_of me.0) p found
+
 abbrev pub Sees : Step (Unit {0}) → Seat → ℕ → Seat → Type 0
-Sees st me found new = (new ≡ (of_node (sees (node_of me.0) st.word found), [])) × WasShown (node_of me.0) st.word found
+Sees st = SeesBy (port_at st.word)
 
 -- a load that goes before a call, or tells that it is missed
 abbrev pub looks : NodeView → ℕ → ℕ → NodeView
 looks n p w = record (reads n Own p w) { loaded = Some (record { port = p; word = w }) }
 
+abbrev pub LooksToCallBy : ℕ → Seat → ℕ → Seat → Type 0
+LooksToCallBy p me found new =
+    (new ≡ (if is_missing (unpack found) then did (read me Own p found) (Miss p)
+    else (of_node (looks (node_of me.0) p found), [])))
+    × WasShown (node_of me.0) p found
+
 abbrev pub LooksToCall : Step (Unit {0}) → Seat → ℕ → Seat → Type 0
-LooksToCall st me found new =
-    (new ≡ (if is_missing (unpack found) then did (read me Own st.word found) (Miss st.word)
-    else (of_node (looks (node_of me.0) st.word found), [])))
-    × WasShown (node_of me.0) st.word found
+LooksToCall st = LooksToCallBy (port_at st.word)
 
 -- a load hears the further message
+abbrev pub HearsBy : ℕ → Seat → ℕ → Seat → Type 0
+HearsBy p me found new =
+    (new ≡ (if is_asked (unpack found).phase then did (read me kinds.Hear p found)
+    (Hear p (serial_served (node_of me.0).known) (unpack found).value)
+    else read me kinds.Hear p found))
+    × WasShown (node_of me.0) p found
+
 abbrev pub Hears : Step (Unit {0}) → Seat → ℕ → Seat → Type 0
-Hears st me found new =
-    (new ≡ (if is_asked (unpack found).phase then did (read me kinds.Hear st.word found)
-    (Hear st.word (serial_served (node_of me.0).known) (unpack found).value)
-    else read me kinds.Hear st.word found))
-    × WasShown (node_of me.0) st.word found
+Hears st = HearsBy (port_at st.word)
 
 -- a load of the slot's word by the new node's seat
 abbrev pub Adopts : Step (Unit {0}) → Seat → ℕ → Seat → Type 0
@@ -117,8 +135,11 @@ Adopts st me found new = (new ≡ me) × (unpack_slot found ≡ Some (node_of me
 -- ---- the change's steps
 
 -- a look; and the mark of a scan, by a load. By either the change learns that its record is one of a run.
+abbrev pub LooksAtBy : ℕ → Seat → ℕ → Seat → Type 0
+LooksAtBy p me found new = (new ≡ noted me (Looked p found)) × IsRecord (change_of new.0).entries
+
 abbrev pub LooksAt : Step (Unit {0}) → Seat → ℕ → Seat → Type 0
-LooksAt st me found new = (new ≡ noted me (Looked st.word found)) × IsRecord (change_of new.0).entries
+LooksAt st = LooksAtBy (port_at st.word)
 
 abbrev pub MarksScan : Bool → Bool → Step (Unit {0}) → Seat → ℕ → Seat → Type 0
 MarksScan begins moved st me found new = (new ≡ noted me (Scanned begins moved)) × IsRecord (change_of new.0).entries

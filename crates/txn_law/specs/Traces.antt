@@ -4,7 +4,7 @@
 -- its port had there, and each sight has the events that its node had done. The words of ports and slots are those of
 -- the state then; what a seat knows of its node are the node's own events, and what the state has of it; and the
 -- change knows the record.
-use Rattle.std.specs.Prelude.{◌≡◌, ◌≢◌, ⊤, ℕ, ◌+◌, ◌<◌, ◌≤◌, true, List, [], ◌∷◌, ◌++◌, replicate, length, slice_index, Some, is_some, option_map, IsTrue}
+use Rattle.std.specs.Prelude.{◌≡◌, ◌≢◌, ⊤, ℕ, ◌+◌, ◌<◌, ◌≤◌, true, List, [], ◌∷◌, ◌++◌, replicate, length, slice_index, Some, is_some, option_map, IsTrue, ◌*◌, ◌%◌, ◌/◌}
 use Rattle.std.specs.List.{AllByRecursion}
 use Rattle.atomic_table.specs.Table.{State as Table}
 use Rattle.config_graph.specs.declared.TheConstants.{MAX_NODES, MAX_PORTS}
@@ -44,10 +44,18 @@ pub record IsTrace (w : Trace) : Type 0 where
   pub is_record : IsRecordOf w.entries w.moments
   pub unseated : (n : ℕ) → w.seats ≤ n → done_by n (events w.moments) ≡ []
 
+-- the word of a port, whose neighbours are eight words apart, and so in other cache lines
+unfoldable pub port_place : ℕ → ℕ
+port_place p = (p % 512) * 8 + p / 512
+
+-- the port whose word lies there
+unfoldable pub port_at : ℕ → ℕ
+port_at i = (i % 8) * 512 + i / 8
+
 -- the words of all ports and then of all slots are those of the state
 pub record Shows (words : List ℕ) (s : State) : Type 0 where
   pub count : length words ≡ MAX_PORTS + MAX_NODES
-  pub ports : (p : ℕ) → p < MAX_PORTS → slice_index words p ≡ word_of s p
+  pub ports : (p : ℕ) → p < MAX_PORTS → slice_index words (port_place p) ≡ word_of s p
   pub slots : (n : ℕ) → n < MAX_NODES → slice_index words (MAX_PORTS + n) ≡ slot_word_of s.config n
 
 -- the word has this of the exchange

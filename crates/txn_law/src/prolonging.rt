@@ -20,7 +20,7 @@ ghost use Rattle.quiesce_core.specs.State as state;
 ghost use Rattle.quiesce_core.specs.declared.event.Event.TheVariants as event;
 ghost use Rattle.txn_law.specs.Growth.{ActProlongs, ChangeProlongs, GatesTable, JoinProlongs, LoadProlongs, NoteProlongs, Prolongs, QuietProlongs, RunGoesOn, SplitProlongs, asked_word, if_so};
 ghost use Rattle.txn_law.specs.Steps.{Adopts, ExchangesFor, Hears, LoadsWord, LooksToCall, Sees, Takes, value_served};
-ghost use Rattle.txn_law.specs.Traces.{Holds, first_words};
+ghost use Rattle.txn_law.specs.Traces.{Holds, first_words, port_place};
 ghost use Rattle.txn_law.specs.Views.{given_out, new_seat, nobody, node_at, nothing_done, of_change, of_node, seat_again, with_seat, with_sight, without_seat};
 ghost use Rattle.txn_law.specs.declared.view.ChangeView.{ChangeView};
 ghost use Rattle.txn_law.specs.declared.view.NodeView.{NodeView};
@@ -32,42 +32,42 @@ ghost use mathlib.Core.Option.{none};
 /// happens.
 pub fn node_steps_prolong_the_run()
     ensures loads { (slots id p : ℕ) (n : NodeView) → p < MAX_PORTS
-        → LoadProlongs id n p (LoadsWord (step slots p 0 0 none) (of_node n, [])) (λ found. []) }
+        → LoadProlongs id n (port_place p) (LoadsWord (step slots (port_place p) 0 0 none) (of_node n, [])) (λ found. []) }
     ensures begins { (slots id p v old : ℕ) (n : NodeView) (to : Target) → MayBegin (node_at n) n.known p v
         → (unpack old).closed ≡ false → (unpack old).target ≡ Some to
         → (unpack old).serial < last_serial
-        → Prolongs id (of_node n, []) p (λ x. either (x == old) (asked_word old v) x) (ExchangesFor
-        (event.Begin p ((unpack old).serial + 1) v) (step slots p old (asked_word old v) none) (of_node n, []))
+        → Prolongs id (of_node n, []) (port_place p) (λ x. either (x == old) (asked_word old v) x) (ExchangesFor
+        (event.Begin p ((unpack old).serial + 1) v) (step slots (port_place p) old (asked_word old v) none) (of_node n, []))
         (λ found. if_so (found == old) (event.Begin p ((unpack old).serial + 1) v)) }
     ensures takes { (slots id p : ℕ) (n : NodeView) → MayTake n.known p
-        → LoadProlongs id n p (Takes (step slots p 0 0 none) (of_node n, []))
+        → LoadProlongs id n (port_place p) (Takes (step slots (port_place p) 0 0 none) (of_node n, []))
         (λ found. if_so (is_message_to n.slot (unpack found))
         (event.Take p (unpack found).serial (unpack found).value)) }
     ensures gives { (id p v : ℕ) (n : NodeView) → MayGive n.known p v
-        → ActProlongs id n p (message_difference phases.Asked (value_served n.known % 2 ^ 24) phases.Answered v)
+        → ActProlongs id n (port_place p) (message_difference phases.Asked (value_served n.known % 2 ^ 24) phases.Answered v)
         (event.Give p (serial_served n.known) v) }
     ensures sees { (slots id p : ℕ) (n : NodeView) → MaySee (node_at n) n.known p
-        → LoadProlongs id n p (Sees (step slots p 0 0 none) (of_node n, [])) (λ found. []) }
+        → LoadProlongs id n (port_place p) (Sees (step slots (port_place p) 0 0 none) (of_node n, [])) (λ found. []) }
     ensures ends { (id p : ℕ) (n : NodeView) → MayEnd (node_at n) n.known p
-        → ActProlongs id n p (end_difference (value_seen (port_known (node_at n) n.known p) % 2 ^ 24)
+        → ActProlongs id n (port_place p) (end_difference (value_seen (port_known (node_at n) n.known p) % 2 ^ 24)
         (port_known (node_at n) n.known p).consequent)
         (event.End p (port_known (node_at n) n.known p).serial (value_seen (port_known (node_at n) n.known p))) }
     ensures mores { (id p v : ℕ) (n : NodeView) → MaySendMore (node_at n) n.known p v
-        → ActProlongs id n p (message_difference phases.Asked (value_served n.known % 2 ^ 24) phases.More v)
+        → ActProlongs id n (port_place p) (message_difference phases.Asked (value_served n.known % 2 ^ 24) phases.More v)
         (event.More p (serial_served n.known) v) }
     ensures asks { (id p v : ℕ) (n : NodeView) → MayAsk (node_at n) n.known p v
-        → ActProlongs id n p (message_difference phases.More (value_seen (port_known (node_at n) n.known p) % 2 ^ 24)
+        → ActProlongs id n (port_place p) (message_difference phases.More (value_seen (port_known (node_at n) n.known p) % 2 ^ 24)
         phases.Asked v) (event.Ask p (port_known (node_at n) n.known p).serial v) }
     ensures hears { (slots id p : ℕ) (n : NodeView) → MayHear n.known p
-        → LoadProlongs id n p (Hears (step slots p 0 0 none) (of_node n, []))
+        → LoadProlongs id n (port_place p) (Hears (step slots (port_place p) 0 0 none) (of_node n, []))
         (λ found. if_so (is_asked (unpack found).phase) (event.Hear p (serial_served n.known) (unpack found).value)) }
     ensures misses { (slots id p v : ℕ) (n : NodeView) → MayCallAt (node_at n) n.known p v
-        → LoadProlongs id n p (LooksToCall (step slots p 0 0 none) (of_node n, []))
+        → LoadProlongs id n (port_place p) (LooksToCall (step slots (port_place p) 0 0 none) (of_node n, []))
         (λ found. if_so (is_missing (unpack found)) (event.Miss p)) }
     ensures calls { (id p v word : ℕ) (n : NodeView) → MayCallAt (node_at n) n.known p v
         → n.loaded ≡ Some (record { port = p; word = word }) → FitsWord (unpack word)
         → is_missing (unpack word) ≡ false
-        → ActProlongs id n p (call_difference (unpack word) v) (event.Call p ((unpack word).serial + 1) v) }
+        → ActProlongs id n (port_place p) (call_difference (unpack word) v) (event.Call p ((unpack word).serial + 1) v) }
     ensures adopts { (slots id : ℕ) (n : NodeView) → LoadProlongs id n (MAX_PORTS + n.slot)
         (Adopts (step slots (MAX_PORTS + n.slot) 0 0 none) (of_node n, [])) (λ found. []) }
 {}
@@ -77,19 +77,19 @@ pub fn node_steps_prolong_the_run()
 /// node that it took in, leaves the run as it is.
 pub fn change_steps_prolong_the_run()
     ensures closes { (id p : ℕ) (nodes : List NodeView) (c : ChangeView) → May c.entries (event.Close p)
-        → ChangeProlongs id nodes c p (λ x. bit_or x CLOSED) (event.Close p) }
+        → ChangeProlongs id nodes c (port_place p) (λ x. bit_or x CLOSED) (event.Close p) }
     ensures reopens { (id p : ℕ) (nodes : List NodeView) (c : ChangeView) → May c.entries (event.Reopen p)
-        → ChangeProlongs id nodes c p (λ x. bit_and x ALL_BUT_CLOSED) (event.Reopen p) }
+        → ChangeProlongs id nodes c (port_place p) (λ x. bit_and x ALL_BUT_CLOSED) (event.Reopen p) }
     ensures looks { (id p : ℕ) (nodes : List NodeView) (c : ChangeView) → p < MAX_PORTS
-        → NoteProlongs id nodes c p (λ found. Looked p found) }
+        → NoteProlongs id nodes c (port_place p) (λ found. Looked p found) }
     ensures marks { (id i : ℕ) (begins moved : Bool) (nodes : List NodeView) (c : ChangeView)
         → NoteProlongs id nodes c i (λ found. Scanned begins moved) }
     ensures links { (id p : ℕ) (to : Target) (nodes : List NodeView) (c : ChangeView)
         → May c.entries (event.Link p to.node to.provide)
-        → ChangeProlongs id nodes c p (λ x. bit_xor x (link_difference to)) (event.Link p to.node to.provide) }
+        → ChangeProlongs id nodes c (port_place p) (λ x. bit_xor x (link_difference to)) (event.Link p to.node to.provide) }
     ensures unlinks { (id p : ℕ) (was : Target) (nodes : List NodeView) (c : ChangeView)
         → state.target (config_of c.entries) p ≡ Some was → May c.entries (event.Unlink p)
-        → ChangeProlongs id nodes c p (λ x. bit_xor x (link_difference was)) (event.Unlink p) }
+        → ChangeProlongs id nodes c (port_place p) (λ x. bit_xor x (link_difference was)) (event.Unlink p) }
     ensures removes { (id n i : ℕ) (nodes : List NodeView) (c : ChangeView) → May c.entries (event.Remove n)
         → ChangeProlongs id nodes c i (λ x. x) (event.Remove n) }
     ensures makes { (id n : ℕ) (node : Node) (from : Option ℕ) (nodes : List NodeView) (c : ChangeView)
