@@ -15,3 +15,4 @@ pub mod RangeLaws
 pub mod RisingLaws
 pub mod SumLaws
 pub mod TellLaws
+pub mod PairedLaws

@@ -2,3 +2,4 @@ pub mod Answers
 pub mod Count
 pub mod Each
 pub mod Telling
+pub mod Paired

@@ -3,10 +3,12 @@
 
 mod laws;
 mod list;
+mod pair_laws;
 mod text;
 
 pub use laws::places_keep_what_holds;
 pub use list::List;
+pub use pair_laws::pairs_stay_paired;
 pub use text::Text;
 
 /// Memory ran out. Nothing else is wrong: what was lent is as before, and what was handed over is gone, unless the

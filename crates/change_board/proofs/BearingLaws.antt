@@ -4,7 +4,7 @@ use Rattle.std.specs.Prelude.{filter_map, is_some, option_and_then}
 use Rattle.std.specs.List.{AllByRecursion, cons_option}
 use Rattle.std.proofs.lemmas.Bool.{both_ways}
 use Rattle.base.specs.Each.{EachAfter}
-use Rattle.change_law.specs.Members.{event_of, line_of}
+use Rattle.change_spec.specs.Members.{event_of, line_of}
 use Rattle.report_types.specs.declared.report.HistoryLine.{HistoryLine}
 use Rattle.report_types.specs.declared.report.HistoryLine.TheVariants as to
 use Rattle.quiesce_core.specs.declared.event.Event.{Event}

@@ -3,7 +3,7 @@ use Rattle.std.proofs.Common.{◌≡◌, ℕ, zero, suc, ◌<◌, List, length, 
 use Rattle.std.specs.Prelude.{option_map, option_and_then}
 use Rattle.std.specs.Option.{option_map_or}
 use Rattle.base.proofs.PlaceLaws.{slice_get-below}
-use Rattle.change_law.specs.Opening.{argument_of, fold_at, fold_of_node, fold_within}
+use Rattle.change_spec.specs.Opening.{argument_of, fold_at, fold_of_node, fold_within}
 use Rattle.component_trait.specs.States.{NodeState}
 use Rattle.component_trait.specs.Tables.{opening}
 use Rattle.quiesce_core.specs.declared.event.Event.{Event}

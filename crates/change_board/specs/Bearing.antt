@@ -3,7 +3,7 @@
 use Rattle.std.specs.Prelude.{◌≡◌, ◌≤◌, ℕ, ◌+◌, Bool, true, false, ◌&&◌, ◌==◌, List, [], ◌∷◌, ◌++◌, Some, None, IsTrue}
 use Rattle.std.specs.List.{count_by, list_all, list_any}
 use Rattle.base.specs.Each.{Each}
-use Rattle.change_law.specs.Members.{event_of, is_close, is_root}
+use Rattle.change_spec.specs.Members.{event_of, is_close, is_root}
 use Rattle.report_types.specs.declared.report.HistoryLine.{HistoryLine}
 use Rattle.report_types.specs.declared.report.HistoryLine.TheVariants as to
 use Rattle.quiesce_word.specs.Words.{has_root, unpack}

@@ -1,7 +1,7 @@
 -- Sights of nodes, and what a node has come to by the events that were seen.
 use Rattle.std.specs.Prelude.{ℕ, zero, suc, Bool, false, ◌==◌, List, find, Option, Some, None, option_map, option_and_then}
 use Rattle.std.specs.Option.{option_map_or}
-use Rattle.change_law.specs.Opening.{argument_of, fold_at}
+use Rattle.change_spec.specs.Opening.{argument_of, fold_at}
 use Rattle.component_trait.specs.Moves as moves
 use Rattle.component_trait.specs.States.{NodeState}
 use Rattle.component_trait.specs.Tables.{opening}

@@ -1,7 +1,7 @@
 -- To be believed (docs/definitions.md).
 -- Transcripts: entries of a board's record and lines of a history in one order, since some are both.
 use Rattle.std.specs.Prelude.{List, filter_map, Option, Some, None, if◌then◌else◌}
-use Rattle.change_law.specs.Members.{line_of}
+use Rattle.change_spec.specs.Members.{line_of}
 use Rattle.report_types.specs.declared.report.HistoryLine.{HistoryLine}
 use Rattle.report_types.specs.declared.report.HistoryLine.TheVariants as to
 use Rattle.txn_records.specs.declared.entry.Entry.{Entry}

@@ -2,10 +2,10 @@
 
 ghost use Rattle.std.specs.Prelude.{◌≡◌, ◌<◌, ℕ, Bool, List, Some, filter_map, length, IsTrue, Option};
 ghost use Rattle.std.specs.List.{AllByRecursion};
-ghost use Rattle.change_law.specs.Members.{event_of};
-ghost use Rattle.change_law.specs.Opening.{fold_of_node};
+ghost use Rattle.change_spec.specs.Members.{event_of};
+ghost use Rattle.change_spec.specs.Opening.{fold_of_node};
 ghost use Rattle.report_types.specs.declared.report.HistoryLine.{HistoryLine};
-ghost use Rattle.quiesce_commit_laws.specs.Steps.{MayStepAll};
+ghost use Rattle.quiesce_laws.specs.Steps.{MayStepAll};
 ghost use Rattle.quiesce_core.specs.declared.event.Event.{Event};
 ghost use Rattle.quiesce_core.specs.Runs.{done_by, state_after};
 ghost use Rattle.change_board.specs.Bearing.{Bears, IsToldSo};

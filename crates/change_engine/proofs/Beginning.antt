@@ -8,7 +8,7 @@ use Rattle.std.proofs.lemmas.List.Folds.{list_any-append}
 use Rattle.config_graph.specs.Graph.{Graph, ports, target_of}
 use Rattle.config_graph.specs.declared.node.Port.{Port}
 use Rattle.config_graph.specs.declared.node.Target.{Target}
-use Rattle.quiesce_commit_laws.specs.Steps.{IsNoted, MayStep, MayStepAll}
+use Rattle.quiesce_laws.specs.Steps.{IsNoted, MayStep, MayStepAll}
 use Rattle.quiesce_core.specs.declared.event.Event.{Event}
 use Rattle.quiesce_core.specs.declared.event.Event.TheVariants.{Begin, Call, Take, Give, End, More, Ask, Hear, Miss, Close, Reopen, Make, Link, Unlink, Remove}
 use Rattle.quiesce_core.specs.Doers.{is_of_change}

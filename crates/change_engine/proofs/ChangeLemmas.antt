@@ -11,12 +11,12 @@ use Rattle.change_plan.specs.declared.plan_data.Move.{Move}
 use Rattle.change_plan.specs.declared.plan_data.Plan.{Plan}
 use Rattle.report_types.specs.declared.report.HistoryLine.{HistoryLine}
 use Rattle.report_types.specs.declared.report.HistoryLine.TheVariants as to
-use Rattle.change_law.specs.Members.{lines_of_events}
-use Rattle.quiesce_commit_laws.specs.Commits.{Differ}
-use Rattle.quiesce_commit_laws.specs.Lists.{Apart, In}
-use Rattle.quiesce_commit_laws.specs.Steps.{change_all}
-use Rattle.quiesce_commit_laws.proofs.MemberLaws.{select, select_apart}
-use Rattle.quiesce_commit_laws.proofs.TurningLaws.{SameLinks, live_port, same_graph, same_turned}
+use Rattle.change_spec.specs.Members.{lines_of_events}
+use Rattle.quiesce_laws.specs.Commits.{Differ}
+use Rattle.quiesce_laws.specs.Lists.{Apart, In}
+use Rattle.quiesce_laws.specs.Steps.{change_all}
+use Rattle.quiesce_laws.proofs.MemberLaws.{select, select_apart}
+use Rattle.quiesce_laws.proofs.TurningLaws.{SameLinks, live_port, same_graph, same_turned}
 use Rattle.config_graph.specs.Graph.{Graph}
 use Rattle.config_graph.specs.declared.node.Port.{Port}
 use Rattle.change_plan_laws.specs.Commit.{commit_events, is_one_of, ports_to_close}
@@ -63,7 +63,7 @@ use Rattle.change_engine.proofs.Quieting.{passivation_events}
 use Rattle.change_engine.proofs.StartLemmas.{deeds_events}
 use Rattle.change_engine.proofs.StayingLemmas.{stays_closed}
 use Rattle.change_engine.proofs.ItemLaws.{entries_both, lines_both, carried_entries}
-use Rattle.change_law.proofs.PortLaws.{closed_links, closed_live, same_here}
+use Rattle.change_spec.proofs.PortLaws.{closed_links, closed_live, same_here}
 
 -- The roots that are left, as they are told: they are no entries.
 said_roots : (xs : List LeftRoot) → map said (map root_line xs) ≡ map root_item xs

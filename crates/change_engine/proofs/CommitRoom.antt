@@ -10,8 +10,8 @@ use Rattle.change_plan.specs.declared.plan_data.Move.{Move}
 use Rattle.change_plan.specs.declared.plan_data.Plan.{Plan}
 use Rattle.change_plan.specs.declared.plan_data.Shift.{Shift}
 use Rattle.change_plan.proofs.SelectsLaws.{Selects-one}
-use Rattle.quiesce_commit_laws.specs.Steps.{change_all}
-use Rattle.quiesce_commit_laws.specs.Work.{link_new, make_new, work_of}
+use Rattle.quiesce_laws.specs.Steps.{change_all}
+use Rattle.quiesce_laws.specs.Work.{link_new, make_new, work_of}
 use Rattle.config_graph.specs.Graph.{Graph}
 use Rattle.config_graph.specs.declared.TheConstants.{MAX_NODES}
 use Rattle.change_plan_laws.specs.Commit.{commit_events, is_at, makes_from, new_links, node_at, node_path, reopened_ports, slot_at, source_of, work}

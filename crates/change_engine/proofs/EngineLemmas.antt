@@ -2,13 +2,13 @@
 use Rattle.std.proofs.Common.{◌≡◌, ◌≤◌, ◌-◌, ◌^◌, ℕ, true, List, [], ◌∷◌, ◌++◌, length, map, refl, sym, ap, ◌∙◌, subst}
 use Rattle.std.specs.List.{AllByRecursion, range_with_len}
 use Rattle.base.specs.Each.{Each}
-use Rattle.change_law.specs.Endings.{status_of}
+use Rattle.change_spec.specs.Endings.{status_of}
 use Rattle.report_types.specs.declared.report.HistoryLine.TheVariants as to
 use Rattle.report_types.specs.declared.report.Report.{Report}
 use Rattle.std.proofs.lemmas.List.{append-nil, length-map}
 use Rattle.std.proofs.lemmas.List.Elements.{filter_map-append}
 use Rattle.report_types.specs.declared.report.HistoryLine.{HistoryLine}
-use Rattle.quiesce_commit_laws.specs.Steps.{live_ports}
+use Rattle.quiesce_laws.specs.Steps.{live_ports}
 use Rattle.config_graph.specs.Graph.{Graph, IsGraph}
 use Rattle.config_graph.specs.Sound.{Sound}
 use Rattle.config_graph.specs.declared.TheConstants.{MAX_PORTS}

@@ -9,7 +9,7 @@ use Rattle.std.proofs.lemmas.List.Folds.{list_all-append}
 use Rattle.config_graph.specs.Graph.{Graph, ports, target_of}
 use Rattle.config_graph.specs.declared.node.Port.{Port}
 use Rattle.config_graph.specs.declared.node.Target.{Target}
-use Rattle.change_law.specs.Members.{line_of, lines_of_events}
+use Rattle.change_spec.specs.Members.{line_of, lines_of_events}
 use Rattle.report_types.specs.declared.report.HistoryLine.{HistoryLine}
 use Rattle.report_types.specs.declared.report.HistoryLine.TheVariants as to
 use Rattle.txn_records.specs.declared.entry.Entry.{Entry}

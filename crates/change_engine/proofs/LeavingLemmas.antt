@@ -8,8 +8,8 @@ use Rattle.std.proofs.lemmas.List.Concat.{flat_map-cons}
 use Rattle.std.proofs.lemmas.List.Elements.{filter_map-append}
 use Rattle.std.proofs.lemmas.List.Sums.{fold-append, fold_push}
 use Rattle.base.specs.Each.{EachAfter}
-use Rattle.quiesce_commit_laws.specs.Commits.{Differ}
-use Rattle.quiesce_commit_laws.specs.Lists.{Apart, In}
+use Rattle.quiesce_laws.specs.Commits.{Differ}
+use Rattle.quiesce_laws.specs.Lists.{Apart, In}
 use Rattle.quiesce_laws.specs.Events.{reopens}
 use Rattle.txn_records.specs.Entries.{config_of, event_in, events_in}
 use Rattle.txn_records.specs.declared.entry.Entry.{Entry}

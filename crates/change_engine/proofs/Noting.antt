@@ -6,7 +6,7 @@ use Rattle.std.proofs.lemmas.Bool.{cases_Bool, eq-eqb, or_right}
 use Rattle.std.proofs.lemmas.List.Concat.{flat_map-cons}
 use Rattle.std.proofs.lemmas.List.Sums.{fold-append}
 use Rattle.base.specs.Each.{EachAfter}
-use Rattle.quiesce_commit_laws.specs.Lists.{In}
+use Rattle.quiesce_laws.specs.Lists.{In}
 use Rattle.txn_records.specs.declared.entry.Entry.{Entry}
 use Rattle.txn_records.specs.Looks.{is_drained_word}
 use Rattle.txn_records.specs.Notes.{found_next, is_found_drained, is_never_reopened, is_noted}

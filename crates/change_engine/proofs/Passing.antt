@@ -6,8 +6,8 @@ use Rattle.std.proofs.lemmas.List.{append-nil, map-append, length-append, take_m
 use Rattle.std.proofs.lemmas.List.Elements.{All-cons, All-head, All-tail, filter_map-append}
 use Rattle.std.proofs.lemmas.List.Sums.{fold-append}
 use Rattle.base.proofs.EachLaws.{each_pushed}
-use Rattle.quiesce_commit_laws.specs.Steps.{change_all}
-use Rattle.quiesce_commit_laws.proofs.TurningLaws.{SameLinks, live_port, live_still}
+use Rattle.quiesce_laws.specs.Steps.{change_all}
+use Rattle.quiesce_laws.proofs.TurningLaws.{SameLinks, live_port, live_still}
 use Rattle.quiesce_core.specs.declared.event.Event.TheVariants as event
 use Rattle.quiesce_core.specs.Effect.{change_next}
 use Rattle.quiesce_core.specs.Rules.{is_live_port}
@@ -30,7 +30,7 @@ use Rattle.change_engine.specs.Passivating.{AreLivePorts, AreMadePorts, IsPassiv
 use Rattle.change_engine.specs.declared.passivating.LeftRoot.{LeftRoot}
 use Rattle.change_engine.proofs.Growing.{grew_both}
 use Rattle.change_engine.proofs.ItemLaws.{entries_both, look_entries, silent_entries, silent_lines, close_lines}
-use Rattle.change_law.proofs.PortLaws.{closed_links, same_here}
+use Rattle.change_spec.proofs.PortLaws.{closed_links, same_here}
 
 abbrev pub closes : List ℕ → List Entry
 closes ps = map (λ p. Did (event.Close p)) ps

@@ -5,8 +5,8 @@ use Rattle.std.specs.List.{cons_option}
 use Rattle.std.proofs.lemmas.Bool.{both_ways}
 use Rattle.std.proofs.lemmas.List.{map-append}
 use Rattle.std.proofs.lemmas.List.Sums.{fold_push}
-use Rattle.change_law.specs.Changes.{drained_lines, seen_in_all}
-use Rattle.change_law.specs.Scene.{Seen, drained_line, root_line}
+use Rattle.change_spec.specs.Changes.{drained_lines, seen_in_all}
+use Rattle.change_spec.specs.Scene.{Seen, drained_line, root_line}
 use Rattle.report_types.specs.declared.report.HistoryLine.TheVariants as to
 use Rattle.txn_records.specs.declared.entry.Entry.TheVariants.{Looked}
 use Rattle.txn_records.specs.Looks.{is_drained_word, serial_of}

@@ -9,10 +9,10 @@ use Rattle.change_plan.specs.Refusals.{CanPlan}
 use Rattle.change_plan.specs.declared.plan_data.Move.{Move}
 use Rattle.change_plan.specs.declared.plan_data.Plan.{Plan}
 use Rattle.config_graph.specs.Graph.{Graph}
-use Rattle.quiesce_commit_laws.specs.Steps.{MayStepAll, change_all}
-use Rattle.quiesce_commit_laws.specs.Work.{link_new, make_new}
-use Rattle.quiesce_commit_laws.proofs.MeanwhileLaws.{front_is_of_change, now_is}
-use Rattle.quiesce_commit_laws.proofs.TurningLaws.{live_port}
+use Rattle.quiesce_laws.specs.Steps.{MayStepAll, change_all}
+use Rattle.quiesce_laws.specs.Work.{link_new, make_new}
+use Rattle.quiesce_laws.proofs.MeanwhileLaws.{front_is_of_change, now_is}
+use Rattle.quiesce_laws.proofs.TurningLaws.{live_port}
 use Rattle.change_plan_laws.specs.Commit.{commit_events, commit_steps, is_frozen_or_new, is_one_of, new_links, reopened_ports, work}
 use Rattle.change_plan_laws.specs.Committing.{MayCommit, made_in}
 use Rattle.quiesce_core.specs.declared.event.Event.{Event}

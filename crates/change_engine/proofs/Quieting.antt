@@ -7,11 +7,11 @@ use Rattle.std.proofs.lemmas.List.Concat.{flat_map-cons}
 use Rattle.std.proofs.lemmas.List.Elements.{All-from_recursion, filter_map-append}
 use Rattle.report_types.specs.declared.report.HistoryLine.{HistoryLine}
 use Rattle.report_types.specs.declared.report.HistoryLine.TheVariants as to
-use Rattle.quiesce_commit_laws.specs.Lists.{In}
-use Rattle.quiesce_commit_laws.specs.Steps.{change_all, live_ports}
-use Rattle.quiesce_commit_laws.proofs.GateLaws.{live_unlisted}
-use Rattle.quiesce_commit_laws.proofs.MemberLaws.{contains_in}
-use Rattle.quiesce_commit_laws.proofs.TurningLaws.{SameLinks, live_port}
+use Rattle.quiesce_laws.specs.Lists.{In}
+use Rattle.quiesce_laws.specs.Steps.{change_all, live_ports}
+use Rattle.quiesce_laws.proofs.GateLaws.{live_unlisted}
+use Rattle.quiesce_laws.proofs.MemberLaws.{contains_in}
+use Rattle.quiesce_laws.proofs.TurningLaws.{SameLinks, live_port}
 use Rattle.quiesce_core.specs.declared.event.Event.TheVariants as event
 use Rattle.quiesce_core.specs.Rules.{is_live_port}
 use Rattle.quiesce_core.specs.State.{Configuration}
@@ -27,7 +27,7 @@ use Rattle.change_engine.proofs.Breaking.{stop_told}
 use Rattle.change_engine.proofs.Noting.{passivated_noted}
 use Rattle.change_engine.proofs.Passing.{close_entries, closes_events, config_over, live_same, looks_quiet, round_quiet}
 use Rattle.change_engine.proofs.ItemLaws.{entries_both, look_entries}
-use Rattle.change_law.proofs.PortLaws.{closed_links, same_here}
+use Rattle.change_spec.proofs.PortLaws.{closed_links, same_here}
 
 -- the events of a passivation are its closes
 pub rounds_quiet : (rounds : List WaitingRound) → events_in (entries (flat_map round_items rounds)) ≡ []

@@ -7,9 +7,9 @@ use Rattle.std.proofs.lemmas.List.Elements.{All-head, All-tail, filter_map-appen
 use Rattle.base.specs.Each.{Each, EachAfter}
 use Rattle.base.proofs.EachLaws.{each_at, each_parts}
 use Rattle.base.proofs.PlaceLaws.{heads_are, tails_are}
-use Rattle.quiesce_commit_laws.specs.Lists.{In}
-use Rattle.quiesce_commit_laws.specs.Steps.{change_all}
-use Rattle.quiesce_commit_laws.proofs.TurningLaws.{IsLivePort, Turning, live_port, turn_next, turn_start}
+use Rattle.quiesce_laws.specs.Lists.{In}
+use Rattle.quiesce_laws.specs.Steps.{change_all}
+use Rattle.quiesce_laws.proofs.TurningLaws.{IsLivePort, Turning, live_port, turn_next, turn_start}
 use Rattle.quiesce_word.specs.Phases.{is_idle}
 use Rattle.quiesce_word.specs.Words.{has_root, is_drained, unpack}
 use Rattle.quiesce_core.specs.Effect.{with_closed}

@@ -8,8 +8,8 @@ use Rattle.std.proofs.lemmas.List.Concat.{flat_map-cons}
 use Rattle.std.proofs.lemmas.List.Elements.{filter_map-append}
 use Rattle.report_types.specs.declared.report.HistoryLine.{HistoryLine}
 use Rattle.report_types.specs.declared.report.HistoryLine.TheVariants as to
-use Rattle.quiesce_commit_laws.specs.Steps.{change_all}
-use Rattle.quiesce_commit_laws.proofs.MeanwhileLaws.{now_is}
+use Rattle.quiesce_laws.specs.Steps.{change_all}
+use Rattle.quiesce_laws.proofs.MeanwhileLaws.{now_is}
 use Rattle.config_graph.specs.Graph.{Graph, IsGraph, ports, target_of}
 use Rattle.config_graph.specs.Sound.{Sound}
 use Rattle.config_graph.specs.declared.TheConstants.{MAX_NODES, MAX_PORTS}

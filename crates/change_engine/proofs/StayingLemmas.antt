@@ -4,10 +4,10 @@ use Rattle.std.specs.Prelude.{filter}
 use Rattle.std.proofs.lemmas.Bool.{cases_eq}
 use Rattle.std.proofs.lemmas.List.{append-nil}
 use Rattle.std.proofs.lemmas.List.Elements.{All-head, All-tail, filter-append}
-use Rattle.quiesce_commit_laws.specs.Lists.{In}
-use Rattle.quiesce_commit_laws.specs.Steps.{change_all}
-use Rattle.quiesce_commit_laws.proofs.MeanwhileLaws.{config_after}
-use Rattle.quiesce_commit_laws.proofs.TurningLaws.{SameLinks, live_port, same_turned}
+use Rattle.quiesce_laws.specs.Lists.{In}
+use Rattle.quiesce_laws.specs.Steps.{change_all}
+use Rattle.quiesce_laws.proofs.MeanwhileLaws.{config_after}
+use Rattle.quiesce_laws.proofs.TurningLaws.{SameLinks, live_port, same_turned}
 use Rattle.quiesce_core.specs.declared.event.Event.{Event}
 use Rattle.quiesce_core.specs.declared.event.Event.TheVariants as event
 use Rattle.quiesce_core.specs.declared.state.Gate.{Gate}
@@ -26,7 +26,7 @@ use Rattle.change_engine.specs.Breaking.{IsClosedOr, IsClosedStill}
 use Rattle.change_engine.specs.Passivating.{AreLivePorts}
 use Rattle.change_engine.proofs.Passing.{closes, closes_events, config_over}
 use Rattle.change_engine.proofs.Rooting.{shut_behind}
-use Rattle.change_law.proofs.PortLaws.{same_here}
+use Rattle.change_spec.proofs.PortLaws.{same_here}
 
 none_of_change : (es : List Event) → All (λ e. is_of_change e ≡ false) es → filter is_of_change es ≡ []
 none_of_change [] h = refl

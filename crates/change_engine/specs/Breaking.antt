@@ -1,7 +1,7 @@
 -- How calls break off for want of memory: a run behind looks and scans alone; a wait in a scan, behind closes, looks
 -- and rounds that left roots. What was closed stays closed.
 use Rattle.std.specs.Prelude.{◌≡◌, ◌⊎◌, ◌<◌, ℕ, List, [], ◌++◌, length, IsTrue}
-use Rattle.quiesce_commit_laws.specs.Lists.{In}
+use Rattle.quiesce_laws.specs.Lists.{In}
 use Rattle.quiesce_core.specs.Runs.{state_after}
 use Rattle.quiesce_core.specs.State.{Configuration, gate}
 use Rattle.txn_records.specs.Entries.{events_in}

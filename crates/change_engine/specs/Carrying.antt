@@ -1,7 +1,7 @@
 -- Events of a change that are done on a board and told in the history.
 use Rattle.std.specs.Prelude.{◌≡◌, List, ◌∷◌, ◌++◌, map, flat_map}
 use Rattle.std.specs.Option.{option_map_or}
-use Rattle.change_law.specs.Members.{line_of}
+use Rattle.change_spec.specs.Members.{line_of}
 use Rattle.report_types.specs.declared.report.HistoryLine.{HistoryLine}
 use Rattle.quiesce_core.specs.declared.event.Event.{Event}
 use Rattle.txn_records.specs.declared.entry.Entry.TheVariants.{Did}

@@ -7,7 +7,7 @@ use Rattle.change_plan.specs.declared.plan_data.Move.{Move}
 use Rattle.change_plan.specs.declared.plan_data.Plan.{Plan}
 use Rattle.report_types.specs.declared.report.HistoryLine.{HistoryLine}
 use Rattle.report_types.specs.declared.report.HistoryLine.TheVariants as to
-use Rattle.quiesce_commit_laws.specs.Steps.{change_all}
+use Rattle.quiesce_laws.specs.Steps.{change_all}
 use Rattle.config_graph.specs.Graph.{Graph, IsGraph}
 use Rattle.config_graph.specs.Sound.{Sound}
 use Rattle.change_plan_laws.specs.Commit.{commit_events, ports_to_close}
@@ -16,7 +16,7 @@ use Rattle.quiesce_core.specs.Live.{IsGraphOf}
 use Rattle.quiesce_core.specs.State.{Configuration}
 use Rattle.quiesce_core.specs.WellFormed.{IsSound}
 use Rattle.quiesce_core.specs.declared.event.Event.TheVariants as event
-use Rattle.change_law.specs.Members.{lines_of_events}
+use Rattle.change_spec.specs.Members.{lines_of_events}
 use Rattle.txn_records.specs.Entries.{config_of}
 use Rattle.change_board.specs.declared.board.Board.{Ghosts as BoardWords}
 use Rattle.change_board.specs.Steps.{HasRoomForAll}

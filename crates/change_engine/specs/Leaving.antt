@@ -1,6 +1,6 @@
 -- What a wait leaves where it is given up: roots.
 use Rattle.std.specs.Prelude.{◌≡◌, ℕ, false, List, IsTrue}
-use Rattle.quiesce_commit_laws.specs.Lists.{In}
+use Rattle.quiesce_laws.specs.Lists.{In}
 use Rattle.quiesce_word.specs.Words.{has_root, unpack}
 use Rattle.txn_records.specs.declared.entry.Entry.{Entry}
 use Rattle.txn_records.specs.Looks.{serial_of}

@@ -1,7 +1,7 @@
 -- How a system is stopped: the ports of all live nodes are passivated, and all logs are collected.
 use Rattle.std.specs.Prelude.{◌≡◌, ℕ, List, [], ◌∷◌}
 use Rattle.report_types.specs.declared.report.HistoryLine.TheVariants as to
-use Rattle.quiesce_commit_laws.specs.Steps.{live_ports}
+use Rattle.quiesce_laws.specs.Steps.{live_ports}
 use Rattle.change_board.specs.declared.board.Board.{Ghosts as BoardWords}
 use Rattle.change_board.specs.declared.board.Collected.{Collected}
 use Rattle.change_board.specs.Collecting.{Collects}

@@ -4,7 +4,7 @@ ghost use Rattle.std.specs.Prelude.{◌≡◌, ◌+◌, ◌≤◌, ◌++◌, Lis
 ghost use Rattle.txn_records.specs.declared.entry.Entry.{Entry};
 ghost use Rattle.change_board.specs.Steps.{HasRoomForAll, MayDoAll};
 ghost use Rattle.change_engine.specs.Carrying.{CarriesOut};
-ghost use Rattle.change_law.specs.Members.{lines_of_events};
+ghost use Rattle.change_spec.specs.Members.{lines_of_events};
 ghost use Rattle.change_engine.specs.Growing.{telling};
 ghost use Rattle.report_types.specs.declared.report.HistoryLine.{HistoryLine};
 

@@ -2,8 +2,8 @@
 
 ghost use Rattle.std.specs.Prelude.{◌≡◌, ◌<◌, ◌^◌, ◌-◌, length, List, IfOk};
 ghost use Rattle.std.specs.List.{list_any};
-ghost use Rattle.change_law.specs.Endings as endings;
-ghost use Rattle.change_law.specs.Members as members;
+ghost use Rattle.change_spec.specs.Endings as endings;
+ghost use Rattle.change_spec.specs.Members as members;
 ghost use Rattle.txn_records.specs.declared.entry.Entry.{Entry};
 ghost use Rattle.change_engine.specs.Ending.{is_finish_line, unfinished_after};
 ghost use Rattle.change_lists.specs.Layouts.{live_at};

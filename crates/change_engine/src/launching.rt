@@ -5,7 +5,7 @@ ghost use Rattle.std.specs.List.{range_with_len};
 ghost use Rattle.config_graph.specs.Graph.{IsGraph, ports};
 ghost use Rattle.config_graph.specs.Sound.{Sound};
 ghost use Rattle.config_graph.specs.declared.TheConstants.{MAX_NODES, MAX_PORTS};
-ghost use Rattle.change_law.specs.Members.{lines_of_events};
+ghost use Rattle.change_spec.specs.Members.{lines_of_events};
 ghost use Rattle.report_types.specs.declared.report.HistoryLine.TheVariants as to;
 ghost use Rattle.change_engine.specs.Growing.{telling};
 ghost use Rattle.change_engine.specs.Beginning.{StartsSystem};

@@ -4,8 +4,8 @@ ghost use Rattle.std.specs.Prelude.{◌≡◌, ◌+◌, ℕ, true, false, List, 
 ghost use Rattle.change_plan.specs.Plans.{IsPlanOf};
 ghost use Rattle.change_plan.specs.declared.plan_data.Move.{Move};
 ghost use Rattle.change_plan.specs.declared.plan_data.Plan.{Plan};
-ghost use Rattle.quiesce_commit_laws.specs.Lists.{In};
-ghost use Rattle.quiesce_commit_laws.specs.Steps.{change_all};
+ghost use Rattle.quiesce_laws.specs.Lists.{In};
+ghost use Rattle.quiesce_laws.specs.Steps.{change_all};
 ghost use Rattle.config_graph.specs.Graph.{Graph, IsGraph, ports};
 ghost use Rattle.config_graph.specs.Sound.{Sound};
 ghost use Rattle.config_graph.specs.declared.TheConstants.{MAX_NODES, MAX_PORTS};
@@ -28,7 +28,7 @@ ghost use Rattle.change_engine.specs.Planning.{MayCarryOut};
 ghost use Rattle.change_engine.specs.Passivating.{AreLivePorts, IsPassivation, Passivation, WaitingRound, left_after, passivation_items};
 
 use change_plan_laws::{commits_can_not_fail, commits_leave_the_new_graph};
-use quiesce_commit_laws::starts_can_not_fail;
+use quiesce_laws::starts_can_not_fail;
 
 /// Where a passivation leaves no root, the record notes each port that it closed. So what is linked, unlinked or
 /// removed next may rest on these ports.

@@ -1,7 +1,7 @@
 //! What a change will do, listed before it begins.
 
 ghost use Rattle.std.specs.Prelude.{◌≡◌, ◌+◌, ◌*◌, ◌-◌, ◌^◌, ◌<◌, ◌++◌, ◌∷◌, [], List, map, IfOk, vec_len};
-ghost use Rattle.change_law.specs.Members.{lines_of_events};
+ghost use Rattle.change_spec.specs.Members.{lines_of_events};
 ghost use Rattle.change_plan.specs.declared.plan_data.Move.{Move};
 ghost use Rattle.change_engine.specs.Engines.{IsFor, IsPlanned, IsLaidOut};
 ghost use Rattle.change_engine.specs.Passivating.{HasPlaceFor};

@@ -17,7 +17,7 @@ use Rattle.config_graph.specs.declared.node.Node.{Node}
 use Rattle.config_graph.specs.declared.node.Port.{Port}
 use Rattle.config_graph.proofs.PathLaws.{irreflexive}
 use Rattle.change_plan.proofs.NodeLaws.{index_found, index_missing, path_missing}
-use Rattle.quiesce_commit_laws.specs.Steps.{live_ports}
+use Rattle.quiesce_laws.specs.Steps.{live_ports}
 use Rattle.quiesce_core.specs.Live.{IsGraphOf}
 use Rattle.quiesce_core.specs.Rules.{is_live_port}
 use Rattle.quiesce_core.specs.Start.{gate_of, slot_of, started}

@@ -22,8 +22,8 @@ use Rattle.config_graph.specs.declared.node.Node.{Node}
 use Rattle.config_graph.specs.declared.node.Link.{Link}
 use Rattle.config_graph.specs.declared.node.Port.{Port}
 use Rattle.change_plan_laws.specs.Commit.{commit_events, commit_steps, is_frozen_or_new, is_link_of, is_one_of, is_unlinked_by, makes_from, new_link, new_links, node_at, node_path, ports_to_close, ports_where, reopened_ports, slot_at, slots_where, source_of, stands_in, work}
-use Rattle.quiesce_commit_laws.specs.Steps.{change_all}
-use Rattle.quiesce_commit_laws.specs.Work.{NewLink, Work, link_new, make_new, work_of}
+use Rattle.quiesce_laws.specs.Steps.{change_all}
+use Rattle.quiesce_laws.specs.Work.{NewLink, Work, link_new, make_new, work_of}
 use Rattle.quiesce_core.specs.Effect.{change_next, new_gates}
 use Rattle.quiesce_core.specs.declared.event.Event.TheVariants as event
 use Rattle.quiesce_core.specs.declared.event.Event.TheVariants.{Make, Remove, Reopen, Unlink}

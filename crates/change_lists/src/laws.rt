@@ -8,7 +8,7 @@ ghost use Rattle.change_lists.specs.declared.layout.Layout.{Layout};
 ghost use Rattle.change_plan.specs.Plans.{IsPlanOf};
 ghost use Rattle.change_plan.specs.declared.plan_data.Move.{Move};
 ghost use Rattle.change_plan.specs.declared.plan_data.Plan.{Plan};
-ghost use Rattle.quiesce_commit_laws.specs.Steps.{change_all, live_ports};
+ghost use Rattle.quiesce_laws.specs.Steps.{change_all, live_ports};
 ghost use Rattle.config_graph.specs.Graph.{Graph, IsGraph, ports};
 ghost use Rattle.change_plan_laws.specs.Commit.{commit_events, ports_to_close};
 ghost use Rattle.quiesce_core.specs.Live.{IsGraphOf};

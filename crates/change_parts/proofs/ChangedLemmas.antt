@@ -20,7 +20,7 @@ use Rattle.change_plan.specs.Touched.{HasNewTarget, SameTarget}
 use Rattle.change_plan.specs.declared.plan_data.Plan.{Plan}
 use Rattle.change_plan.proofs.SelectsLaws.{Selects-has, Selects-only, Selects-part}
 use Rattle.change_plan.proofs.StepLaws.{gone_listed, kept, linked_touched, lost_touched, unlinked}
-use Rattle.change_parts_laws.specs.Ties.{IsChanged}
+use Rattle.change_parts.specs.Ties.{IsChanged}
 use Rattle.change_parts.specs.Listed.{begin_number, changed_numbers, owner_number}
 use Rattle.change_parts.specs.Members.{IsIndex}
 use Rattle.change_parts.specs.declared.members.Members.{Members}

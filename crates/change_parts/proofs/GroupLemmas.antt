@@ -17,11 +17,11 @@ use Rattle.change_plan.specs.Selects.{Selects}
 use Rattle.change_plan.specs.Selects.Selects.{ends, takes, skips}
 use Rattle.change_plan.specs.declared.plan_data.Move.{Move}
 use Rattle.change_plan.proofs.SelectsLaws.{Contains-places, Selects-has, Selects-only, Selects-part}
-use Rattle.change_parts_laws.specs.Groups.{AreGroups, IsBefore, IsIn, IsLeast}
-use Rattle.change_parts_laws.specs.Ties.{IsChanged, Joined, Tied}
-use Rattle.change_parts_laws.specs.Ties.Joined.{itself as alone, along as forth, against as back}
-use Rattle.change_parts_laws.specs.Ties.Tied.{replaced}
-use Rattle.change_parts_laws.proofs.TieLaws.{joined_back, joined_changed, one_group, tied_changed}
+use Rattle.change_parts.specs.Groups.{AreGroups, IsBefore, IsIn, IsLeast}
+use Rattle.change_parts.specs.Ties.{IsChanged, Joined, Tied}
+use Rattle.change_parts.specs.Ties.Joined.{itself as alone, along as forth, against as back}
+use Rattle.change_parts.specs.Ties.Tied.{replaced}
+use Rattle.change_parts.proofs.TieLaws.{joined_back, joined_changed, one_group, tied_changed}
 use Rattle.config_graph.specs.Marks.{IsMarked}
 use Rattle.change_parts.proofs.PairLemmas.{pairs_at, pairs_selected}
 use Rattle.std.proofs.lemmas.Bool.{le-leb, leb-true}

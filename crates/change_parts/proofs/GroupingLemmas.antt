@@ -9,7 +9,7 @@ use Rattle.change_plan.specs.Plans.{IsPlanOf}
 use Rattle.change_plan.specs.Selects.{Selects}
 use Rattle.change_plan.specs.declared.plan_data.Move.{Move}
 use Rattle.change_plan.specs.declared.plan_data.Plan.{Plan}
-use Rattle.change_parts_laws.proofs.StageLaws.{All-from}
+use Rattle.change_parts.proofs.StageLaws.{All-from}
 use Rattle.change_parts.specs.Classes.{AreClasses, IsTieBelow}
 use Rattle.change_parts.specs.Groupings.{IsGrouping, LeadsIn}
 use Rattle.change_parts.specs.Listed.{changed_numbers, ties_of}

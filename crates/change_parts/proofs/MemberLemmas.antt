@@ -29,8 +29,8 @@ use Rattle.change_plan.specs.Selects.{Selects}
 use Rattle.change_plan.proofs.SelectsLaws.{Selects-has, Selects-only, Selects-part}
 use Rattle.std.proofs.lemmas.List.Elements.{All-contains}
 use Rattle.std.proofs.lemmas.List.{get_or_append_left}
-use Rattle.change_parts_laws.specs.Groups.{IsBefore}
-use Rattle.change_parts_laws.specs.Ties.{IsCreated, IsRemoved}
+use Rattle.change_parts.specs.Groups.{IsBefore}
+use Rattle.change_parts.specs.Ties.{IsCreated, IsRemoved}
 use Rattle.change_parts.specs.Members.{AreMembers, AreNumbers, IsOnce, path_below}
 use Rattle.change_parts.proofs.PairLemmas.{pairs_append, pairs_at, pairs_from, pairs_selected}
 

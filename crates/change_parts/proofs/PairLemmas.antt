@@ -14,7 +14,7 @@ use Rattle.std.proofs.lemmas.Option.{get_or_from_slice_get, slice_get-get_or, sl
 use Rattle.base.proofs.ContainsLaws.{Contains-at, Contains-here, Contains-there, at_some_place}
 use Rattle.base.proofs.MapLaws.{All-filter_map}
 use Rattle.base.proofs.OrderedLaws.{before_all, rest_rises}
-use Rattle.change_parts_laws.proofs.StageLaws.{All-from}
+use Rattle.change_parts.proofs.StageLaws.{All-from}
 use Rattle.change_plan.specs.Selects.{Selects}
 use Rattle.change_plan.specs.Selects.Selects.{ends, takes, skips}
 use Rattle.change_plan.proofs.SelectsLaws.{Selects-part}

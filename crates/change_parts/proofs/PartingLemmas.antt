@@ -20,18 +20,18 @@ use Rattle.change_plan.specs.Plans.{IsPlanOf}
 use Rattle.change_plan.specs.Refusals.{CanPlan}
 use Rattle.change_plan.specs.Selects.{Selects}
 use Rattle.change_plan.specs.declared.plan_data.Move.{Move}
-use Rattle.change_parts_laws.specs.Groups.{AreGroups, IsBefore, IsIn}
-use Rattle.change_parts_laws.specs.Parts.{AreParts, ArePartsFrom, ArePlansWithin, HasEndsIn, IsPart, stage_after}
-use Rattle.change_parts_laws.specs.Parts.ArePartsFrom.{none_left}
-use Rattle.change_parts_laws.specs.Stages.{AreLinkedAfter, IsAfter, IsNodeAfter}
-use Rattle.change_parts_laws.specs.Ties.{IsChanged, IsCreated, IsRemoved}
-use Rattle.change_parts_laws.specs.Ties.Tied.{moved}
-use Rattle.change_parts_laws.specs.declared.part.Part.{Part}
-use Rattle.change_parts_laws.proofs.LinkedLaws.{removed_touched}
-use Rattle.change_parts_laws.proofs.PartLaws.{apart_groups, front_rises, last_pushed, none_pushed, parts_more, plans_within_more}
-use Rattle.change_parts_laws.proofs.RoomLaws.{part_can_plan}
-use Rattle.change_parts_laws.proofs.StageLaws.{first_stage, in_both, in_left, in_right, new_stage, stage_next, stage_split}
-use Rattle.change_parts_laws.proofs.TieLaws.{in_along}
+use Rattle.change_parts.specs.Groups.{AreGroups, IsBefore, IsIn}
+use Rattle.change_parts.specs.Parts.{AreParts, ArePartsFrom, ArePlansWithin, HasEndsIn, IsPart, stage_after}
+use Rattle.change_parts.specs.Parts.ArePartsFrom.{none_left}
+use Rattle.change_parts.specs.Stages.{AreLinkedAfter, IsAfter, IsNodeAfter}
+use Rattle.change_parts.specs.Ties.{IsChanged, IsCreated, IsRemoved}
+use Rattle.change_parts.specs.Ties.Tied.{moved}
+use Rattle.change_parts.specs.declared.part.Part.{Part}
+use Rattle.change_parts.proofs.LinkedLaws.{removed_touched}
+use Rattle.change_parts.proofs.PartLaws.{apart_groups, front_rises, last_pushed, none_pushed, parts_more, plans_within_more}
+use Rattle.change_parts.proofs.RoomLaws.{part_can_plan}
+use Rattle.change_parts.proofs.StageLaws.{first_stage, in_both, in_left, in_right, new_stage, stage_next, stage_split}
+use Rattle.change_parts.proofs.TieLaws.{in_along}
 use Rattle.change_parts.specs.Groupings.{IsGrouping}
 use Rattle.change_parts.specs.Members.{AreNumbers}
 use Rattle.change_parts.specs.Owning.{IsOwn, number_of}

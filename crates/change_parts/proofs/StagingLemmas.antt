@@ -24,13 +24,13 @@ use Rattle.config_graph.proofs.OrderLaws.{IsGraph-graph_of, one_link-in_order}
 use Rattle.config_graph.proofs.PathLaws.{one_place}
 use Rattle.config_graph.proofs.TellLaws.{tell_contained}
 use Rattle.change_plan.specs.declared.plan_data.Move.{Move}
-use Rattle.change_parts_laws.specs.Groups.{IsBefore, IsIn}
-use Rattle.change_parts_laws.specs.Stages.{AreLinkedAfter, IsAfter, IsNodeAfter}
-use Rattle.change_parts_laws.specs.Ties.{AreConnected, IsChanged, IsCreated, IsRemoved, IsTouchedNode}
-use Rattle.change_parts_laws.specs.Ties.Tied.{replaced}
-use Rattle.change_parts_laws.proofs.LinkedLaws.{from_contained, removed_touched, tell_touched, untouched_alike}
-use Rattle.change_parts_laws.proofs.StageLaws.{All-from, end_stands, ends_within}
-use Rattle.change_parts_laws.proofs.TieLaws.{in_against, in_changed}
+use Rattle.change_parts.specs.Groups.{IsBefore, IsIn}
+use Rattle.change_parts.specs.Stages.{AreLinkedAfter, IsAfter, IsNodeAfter}
+use Rattle.change_parts.specs.Ties.{AreConnected, IsChanged, IsCreated, IsRemoved, IsTouchedNode}
+use Rattle.change_parts.specs.Ties.Tied.{replaced}
+use Rattle.change_parts.proofs.LinkedLaws.{from_contained, removed_touched, tell_touched, untouched_alike}
+use Rattle.change_parts.proofs.StageLaws.{All-from, end_stands, ends_within}
+use Rattle.change_parts.proofs.TieLaws.{in_against, in_changed}
 use Rattle.change_parts.specs.Members.{AreNumbers, IsIndex}
 use Rattle.change_parts.specs.Staging.{AreLaid, IsApplied, link_in, stands}
 use Rattle.change_parts.specs.declared.members.Members.{Members}

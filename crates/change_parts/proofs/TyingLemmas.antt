@@ -19,8 +19,8 @@ use Rattle.change_plan.specs.declared.plan_data.Shift.{Shift}
 use Rattle.change_plan.proofs.NodeLaws.{index_found, one_path}
 use Rattle.change_plan.proofs.SelectsLaws.{Selects-only}
 use Rattle.change_plan.proofs.StepLaws.{gone_listed}
-use Rattle.change_parts_laws.specs.Ties.{AreConnected, IsCreated, IsRemoved, Tied}
-use Rattle.change_parts_laws.specs.Ties.Tied.{replaced, moved, unlinked, linked}
+use Rattle.change_parts.specs.Ties.{AreConnected, IsCreated, IsRemoved, Tied}
+use Rattle.change_parts.specs.Ties.Tied.{replaced, moved, unlinked, linked}
 use Rattle.change_parts.specs.Listed.{link_tie, move_tie, pair_at, path_tie, ties_of}
 use Rattle.change_parts.specs.Members.{AreNumbers, IsIndex, MarksNodes}
 use Rattle.change_parts.specs.declared.members.Members.{Members}

@@ -4,7 +4,7 @@ use Rattle.std.specs.Option.{option_map_or}
 use Rattle.std.specs.Prelude.{◌≡◌, ◌<◌, ◌+◌, ◌^◌, ◌==◌, ◌&&◌, ℕ, Bool, false, slice_get, slice_index_or, List, length, leb, map, take, slice_index, Contains}
 use Rattle.config_graph.specs.Graph.{Graph}
 use Rattle.change_plan.specs.declared.plan_data.Move.{Move}
-use Rattle.change_parts_laws.specs.Groups.{AreGroups}
+use Rattle.change_parts.specs.Groups.{AreGroups}
 use Rattle.change_parts.specs.Members.{IsIndex}
 use Rattle.change_parts.specs.Staging.{IsApplied}
 use Rattle.change_parts.specs.declared.groups.Grouping.{Grouping}

@@ -4,3 +4,10 @@ pub mod Listed
 pub mod Staging
 pub mod Groupings
 pub mod Owning
+pub mod Ties
+pub mod Groups
+pub mod Stages
+pub mod Parts
+pub mod Freezing
+pub mod Carrying
+pub mod Rolls

@@ -5,7 +5,7 @@ use Rattle.std.specs.Cmp.Lexicographic.{slice_cmp}
 use Rattle.config_graph.specs.Graph.{Graph, IsGraph}
 use Rattle.config_graph.specs.Marks.{IsMarked}
 use Rattle.config_graph.specs.declared.node.Node.{Node}
-use Rattle.change_parts_laws.specs.Groups.{IsBefore}
+use Rattle.change_parts.specs.Groups.{IsBefore}
 use Rattle.change_parts.specs.declared.members.Members.{Members}
 
 -- whether a node's path stands before that of another

@@ -5,8 +5,8 @@ use Rattle.config_graph.specs.Marks.{IsMarked}
 use Rattle.config_graph.specs.declared.node.Link.{Link}
 use Rattle.config_graph.specs.declared.node.Node.{Node}
 use Rattle.change_plan.specs.declared.plan_data.Move.{Move}
-use Rattle.change_parts_laws.specs.Groups.{IsIn}
-use Rattle.change_parts_laws.specs.Ties.{IsChanged}
+use Rattle.change_parts.specs.Groups.{IsIn}
+use Rattle.change_parts.specs.Ties.{IsChanged}
 use Rattle.change_parts.specs.declared.members.Members.{Members}
 
 -- of the changed nodes those are marked that are in these groups

@@ -11,13 +11,13 @@ ghost use Rattle.change_plan.specs.Selects.{Selects};
 ghost use Rattle.change_plan.specs.declared.error.PlanError.{PlanError};
 ghost use Rattle.change_plan.specs.declared.error.PlanError.TheVariants.{NoMemory};
 ghost use Rattle.change_plan.specs.declared.plan_data.Move.{Move};
-ghost use Rattle.change_parts_laws.specs.Parts.{ArePlansWithin, AreParts, stage_after};
+ghost use Rattle.change_parts.specs.Parts.{ArePlansWithin, AreParts, stage_after};
 ghost use Rattle.change_parts.specs.Groupings.{IsGrouping};
 ghost use Rattle.change_parts.specs.Owning.{IsOwn, is_own, number_of};
 
+use crate::Part;
 use crate::groups::{Grouping, mark_applied};
 use crate::staging::{is_marked, stage};
-use change_parts_laws::Part;
 use change_plan::{Move, PlanError, plan};
 use config_graph::{Graph, List, Made, NoMemory, has_cycle};
 use std::alloc::Global;

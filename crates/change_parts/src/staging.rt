@@ -3,7 +3,7 @@
 ghost use Rattle.std.specs.Prelude.{◌≡◌, ◌<◌, ◌^◌, ℕ, List, IfOk, filter_map, length, map, not, slice_index_or, false};
 ghost use Rattle.config_graph.specs.Graph.{IsGraph};
 ghost use Rattle.change_plan.specs.declared.plan_data.Move.{Move};
-ghost use Rattle.change_parts_laws.specs.Stages.{IsAfter};
+ghost use Rattle.change_parts.specs.Stages.{IsAfter};
 ghost use Rattle.change_parts.specs.Members.{IsIndex};
 ghost use Rattle.change_parts.specs.Staging.{AreLaid, IsApplied, link_in, links_in, stands};
 

@@ -34,8 +34,8 @@ use Rattle.quiesce_laws.specs.Drained.{is_drained}
 use Rattle.quiesce_laws.specs.Starts.{start_of}
 use Rattle.quiesce_core.proofs.RunLaws.{run_if}
 use Rattle.base.proofs.ContainsLaws.{Contains-at}
-use Rattle.quiesce_commit_laws.specs.Fitting.{IsPart}
-use Rattle.quiesce_commit_laws.proofs.EndingLaws.{graph_stays}
+use Rattle.quiesce_laws.specs.Fitting.{IsPart}
+use Rattle.quiesce_laws.proofs.EndingLaws.{graph_stays}
 use Rattle.change_plan_laws.proofs.PlannedLemmas.{link_if}
 use Rattle.change_plan_laws.specs.Commit.{is_one_of}
 use Rattle.change_plan_laws.specs.Committing.{MayCommit, made_in}

@@ -19,15 +19,15 @@ use Rattle.quiesce_core.specs.Settled.{Settled}
 use Rattle.quiesce_core.specs.State.{exchange, fresh_exchange, fresh_gate, gate, is_live, owner, target}
 use Rattle.quiesce_core.proofs.RunLaws.{runs_are_well_formed}
 use Rattle.quiesce_laws.specs.Drained.{is_drained}
-use Rattle.quiesce_commit_laws.specs.Fitting.{IsPart}
-use Rattle.quiesce_commit_laws.specs.Lists.{In}
-use Rattle.quiesce_commit_laws.specs.Steps.{MayStepAll, change_all}
-use Rattle.quiesce_commit_laws.specs.Work.{work_of}
-use Rattle.quiesce_commit_laws.proofs.CarryingLaws as carrying
-use Rattle.quiesce_commit_laws.specs.Commits.{IsCommit}
-use Rattle.quiesce_commit_laws.proofs.MeanwhileLaws.{front_is_of_change, runs_on}
-use Rattle.quiesce_commit_laws.proofs.PartLaws.{part_of_one}
-use Rattle.quiesce_commit_laws.proofs.TurningLaws.{IsLivePort, SameLinks}
+use Rattle.quiesce_laws.specs.Fitting.{IsPart}
+use Rattle.quiesce_laws.specs.Lists.{In}
+use Rattle.quiesce_laws.specs.Steps.{MayStepAll, change_all}
+use Rattle.quiesce_laws.specs.Work.{work_of}
+use Rattle.quiesce_laws.proofs.CarryingLaws as carrying
+use Rattle.quiesce_laws.specs.Commits.{IsCommit}
+use Rattle.quiesce_laws.proofs.MeanwhileLaws.{front_is_of_change, runs_on}
+use Rattle.quiesce_laws.proofs.PartLaws.{part_of_one}
+use Rattle.quiesce_laws.proofs.TurningLaws.{IsLivePort, SameLinks}
 use Rattle.change_plan_laws.specs.Commit.{commit_events, commit_steps, is_frozen_or_new, is_one_of, new_links, ports_to_reopen, work}
 use Rattle.change_plan_laws.specs.Committing.{IsTouchedSlot, MayCommit}
 use Rattle.change_plan_laws.proofs.ReadyLemmas.{IsReady, ready}

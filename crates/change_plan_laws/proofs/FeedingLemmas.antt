@@ -29,7 +29,7 @@ use Rattle.quiesce_core.specs.Runs.{IsRun, state_after}
 use Rattle.quiesce_core.proofs.GraphLaws.{graph_started}
 use Rattle.quiesce_core.proofs.RunLaws.{run_if}
 use Rattle.quiesce_laws.specs.Starts.{start_of}
-use Rattle.quiesce_commit_laws.proofs.EndingLaws.{graph_stays}
+use Rattle.quiesce_laws.proofs.EndingLaws.{graph_stays}
 use Rattle.change_plan_laws.specs.Committing.{MayCommit, made_in}
 use Rattle.change_plan_laws.specs.Rows.{adding, feeding, feeding_busy, s_to_t, source}
 use Rattle.change_plan_laws.specs.Systems.{sink_t, sink_u}

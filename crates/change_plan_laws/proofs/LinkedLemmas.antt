@@ -26,7 +26,7 @@ use Rattle.config_graph.proofs.NumberingLaws.{within_list}
 use Rattle.config_graph.proofs.OrderLaws.{one_link-in_order}
 use Rattle.quiesce_core.specs.declared.state.Slot.{Slot}
 use Rattle.quiesce_core.specs.Live.{AreLinked, IsLiveAt, IsLiveNode, StandsAt}
-use Rattle.quiesce_commit_laws.specs.Fitting.{Fits, KeptLink, Stands}
+use Rattle.quiesce_laws.specs.Fitting.{Fits, KeptLink, Stands}
 use Rattle.quiesce_core.specs.State.{Configuration, gate, owner, slot, target}
 use Rattle.quiesce_core.specs.WellFormed.{LeadsToProvision}
 use Rattle.base.proofs.ContainsLaws.{Contains-at}
@@ -34,16 +34,16 @@ use Rattle.change_plan_laws.specs.Commit.{is_at, is_link_of, new_link, new_link_
 use Rattle.change_plan_laws.specs.Commit as commit
 use Rattle.change_plan_laws.specs.Committing.{IsTouchedSlot}
 use Rattle.change_plan_laws.proofs.ReadyLemmas.{IsReady}
-use Rattle.quiesce_commit_laws.specs.Lists.{In}
-use Rattle.quiesce_commit_laws.specs.Work.{NewLink, NewNode, end_of}
-use Rattle.quiesce_commit_laws.proofs.AcyclicLaws.{one_place}
+use Rattle.quiesce_laws.specs.Lists.{In}
+use Rattle.quiesce_laws.specs.Work.{NewLink, NewNode, end_of}
+use Rattle.quiesce_laws.proofs.AcyclicLaws.{one_place}
 use Rattle.quiesce_core.proofs.ConfigurationLaws.{linked_made}
 use Rattle.quiesce_core.proofs.LiveLinkLaws.{IsLiveLink, linked_at}
-use Rattle.quiesce_commit_laws.proofs.MakingLaws.{Making}
+use Rattle.quiesce_laws.proofs.MakingLaws.{Making}
 use Rattle.change_plan_laws.proofs.PlannedLemmas.{PortOf, kept_if, link_if, linked_if, old_link, port_of_link}
-use Rattle.quiesce_commit_laws.proofs.MemberLaws.{apart_pairs, contains_in, in_contains, map_apart, map_in, mapped}
+use Rattle.quiesce_laws.proofs.MemberLaws.{apart_pairs, contains_in, in_contains, map_apart, map_in, mapped}
 use Rattle.change_plan_laws.proofs.StandingLaws.{in_if_stands, one_slot, stands_if_in, stands_if_slot}
-use Rattle.quiesce_commit_laws.specs.Commits.{AreLinks, Changed, IsToLink, OtherPort}
+use Rattle.quiesce_laws.specs.Commits.{AreLinks, Changed, IsToLink, OtherPort}
 
 position_some : {A : Type 0} (f : A → Bool) (xs : List A) (i : ℕ) (x : A) → slice_get xs i ≡ Some x → f x ≡ true → (k : ℕ) × (position f xs ≡ Some k)
 position_some f xs i x e h = ⊎_elim

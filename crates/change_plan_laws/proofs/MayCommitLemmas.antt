@@ -21,11 +21,11 @@ use Rattle.quiesce_core.specs.Effect.{effect}
 use Rattle.quiesce_core.specs.Live.{IsGraphOf}
 use Rattle.quiesce_core.specs.Runs.{IsRun, state_after}
 use Rattle.quiesce_core.specs.State.{State, empty, exchange, fresh_exchange, gate, owner}
-use Rattle.quiesce_commit_laws.specs.Lists.{In}
-use Rattle.quiesce_commit_laws.proofs.GateLaws.{all_closed, closes_are_of_change, closes_run}
-use Rattle.quiesce_commit_laws.proofs.MeanwhileLaws.{after_more}
-use Rattle.quiesce_commit_laws.proofs.MemberLaws.{select}
-use Rattle.quiesce_commit_laws.proofs.TurningLaws.{Turning, same_graph}
+use Rattle.quiesce_laws.specs.Lists.{In}
+use Rattle.quiesce_laws.proofs.GateLaws.{all_closed, closes_are_of_change, closes_run}
+use Rattle.quiesce_laws.proofs.MeanwhileLaws.{after_more}
+use Rattle.quiesce_laws.proofs.MemberLaws.{select}
+use Rattle.quiesce_laws.proofs.TurningLaws.{Turning, same_graph}
 use Rattle.change_plan_laws.specs.Commit.{is_one_of, ports_to_close}
 use Rattle.change_plan_laws.specs.Committing.{MayCommit, made_in}
 use Rattle.change_plan_laws.proofs.GateLemmas.{closes_live}

@@ -38,15 +38,15 @@ use Rattle.change_plan_laws.specs.Commit.{is_at, is_one_of, is_unlinked_by, make
 use Rattle.change_plan_laws.specs.Commit as commit
 use Rattle.change_plan_laws.specs.Committing.{IsTouchedSlot}
 use Rattle.change_plan_laws.proofs.ReadyLemmas.{IsReady}
-use Rattle.quiesce_commit_laws.specs.Fitting.{Fits, KeptLink}
-use Rattle.quiesce_commit_laws.specs.Lists.{Apart, In}
-use Rattle.quiesce_commit_laws.specs.Work.{AreNumbered, NewNode}
+use Rattle.quiesce_laws.specs.Fitting.{Fits, KeptLink}
+use Rattle.quiesce_laws.specs.Lists.{Apart, In}
+use Rattle.quiesce_laws.specs.Work.{AreNumbered, NewNode}
 use Rattle.quiesce_core.proofs.ConfigurationLaws.{linked_made}
-use Rattle.quiesce_commit_laws.proofs.MakingLaws.{argument_test}
-use Rattle.quiesce_commit_laws.proofs.MemberLaws.{apart_pairs, contains_in, in_contains, any_if, any_of, select, select_apart, selected}
+use Rattle.quiesce_laws.proofs.MakingLaws.{argument_test}
+use Rattle.quiesce_laws.proofs.MemberLaws.{apart_pairs, contains_in, in_contains, any_if, any_of, select, select_apart, selected}
 use Rattle.change_plan_laws.proofs.RisingLaws.{selects_apart}
 use Rattle.change_plan_laws.proofs.StandingLaws.{in_if_stands, one_port, one_slot, stands_if_in, stands_if_live, stands_if_slot, stands_live_at}
-use Rattle.quiesce_commit_laws.specs.Commits.{Differ, IsToRemove, IsToUnlink, IsWork, OtherPath, OtherSource}
+use Rattle.quiesce_laws.specs.Commits.{Differ, IsToRemove, IsToUnlink, IsWork, OtherPath, OtherSource}
 
 -- a link of a graph, as what it says
 pub linked_if : (g : Graph) → IsGraph g → (l : Link) → Contains g.links l → IsLinked g l.from l.require l.to l.provide

@@ -26,8 +26,8 @@ use Rattle.quiesce_core.specs.SameWiring.{IsPortAt}
 use Rattle.quiesce_core.specs.State.{Configuration}
 use Rattle.quiesce_core.proofs.RunLaws.{nodes_are_named, runs_are_consistent, runs_are_well_formed}
 use Rattle.quiesce_core.proofs.SameWiringLaws.{reaches_in_both}
-use Rattle.quiesce_commit_laws.specs.Work.{ports_wanted}
-use Rattle.quiesce_commit_laws.proofs.AfterRunLaws.{IsAfterRun, after_run}
+use Rattle.quiesce_laws.specs.Work.{ports_wanted}
+use Rattle.quiesce_laws.proofs.AfterRunLaws.{IsAfterRun, after_run}
 use Rattle.change_plan_laws.specs.Commit.{makes_from, work}
 use Rattle.change_plan_laws.specs.Committing.{MayCommit}
 use Rattle.config_graph.proofs.KindLaws.{ports_wanted_at}

@@ -3,8 +3,8 @@ use Rattle.std.proofs.Common.{◌≡◌, ℕ, zero, suc, ◌+◌, ◌≤◌, Lis
 use Rattle.std.specs.List.{range_with_len}
 use Rattle.change_plan.specs.Selects.{Selects}
 use Rattle.change_plan.specs.Selects.Selects.{ends, takes, skips}
-use Rattle.quiesce_commit_laws.specs.Commits.{Differ}
-use Rattle.quiesce_commit_laws.specs.Lists.{Apart, In}
+use Rattle.quiesce_laws.specs.Commits.{Differ}
+use Rattle.quiesce_laws.specs.Lists.{Apart, In}
 
 abbrev Rising : ℕ → List ℕ → Type 0
 Rising a [] = Unit {0}

@@ -17,7 +17,7 @@ use Rattle.base.proofs.OptionLaws.{map_or_at, map_or_true}
 use Rattle.base.proofs.ContainsLaws.{at_some_place}
 use Rattle.change_plan_laws.specs.Commit.{is_at, node_path, slot_at, is_one_of}
 use Rattle.change_plan_laws.specs.Commit as commit
-use Rattle.quiesce_commit_laws.specs.Fitting.{PathsApart}
+use Rattle.quiesce_laws.specs.Fitting.{PathsApart}
 use Rattle.std.specs.Option.{option_map_or}
 
 -- a node is live that is one of those at some places of a graph

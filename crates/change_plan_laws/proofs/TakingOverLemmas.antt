@@ -18,8 +18,8 @@ use Rattle.quiesce_core.specs.declared.event.Event.{Event}
 use Rattle.quiesce_core.specs.Live.{StandsAt}
 use Rattle.quiesce_core.specs.Runs.{state_after}
 use Rattle.quiesce_core.specs.State.{Configuration}
-use Rattle.quiesce_commit_laws.specs.Lists.{In}
-use Rattle.quiesce_commit_laws.specs.Work.{NewNode}
+use Rattle.quiesce_laws.specs.Lists.{In}
+use Rattle.quiesce_laws.specs.Work.{NewNode}
 use Rattle.change_plan_laws.specs.Commit.{is_at, node_path, slot_at, source_of, work}
 use Rattle.change_plan_laws.specs.Committing.{MayCommit, TakesOver}
 use Rattle.change_plan_laws.proofs.PlannedLemmas.{makes_are, source_is}

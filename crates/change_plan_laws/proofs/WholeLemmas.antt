@@ -6,21 +6,21 @@ use Rattle.change_plan.specs.declared.plan_data.Plan.{Plan}
 use Rattle.config_graph.specs.Graph.{Graph}
 use Rattle.quiesce_core.specs.Live.{StandsAt}
 use Rattle.quiesce_core.specs.State.{Configuration, is_live, owner}
-use Rattle.quiesce_commit_laws.specs.Lists.{In}
-use Rattle.quiesce_commit_laws.specs.Steps.{change_all}
-use Rattle.quiesce_commit_laws.specs.Work.{work_of}
-use Rattle.quiesce_commit_laws.proofs.BetweenLaws.{Ground}
-use Rattle.quiesce_commit_laws.proofs.CommitLaws.{all_made, made_is}
-use Rattle.quiesce_commit_laws.proofs.MakingLaws.{Making}
-use Rattle.quiesce_commit_laws.proofs.TurningLaws.{IsLivePort}
+use Rattle.quiesce_laws.specs.Lists.{In}
+use Rattle.quiesce_laws.specs.Steps.{change_all}
+use Rattle.quiesce_laws.specs.Work.{work_of}
+use Rattle.quiesce_laws.proofs.BetweenLaws.{Ground}
+use Rattle.quiesce_laws.proofs.CommitLaws.{all_made, made_is}
+use Rattle.quiesce_laws.proofs.MakingLaws.{Making}
+use Rattle.quiesce_laws.proofs.TurningLaws.{IsLivePort}
 use Rattle.change_plan_laws.specs.Commit.{is_frozen_or_new, is_one_of, new_links, ports_to_reopen, stands_in, work}
 use Rattle.change_plan_laws.specs.Committing.{IsTouchedSlot}
 use Rattle.change_plan_laws.proofs.ReadyLemmas.{IsReady}
 use Rattle.change_plan_laws.proofs.LinkedLemmas.{are_links}
 use Rattle.change_plan_laws.proofs.PlannedLemmas.{is_work}
-use Rattle.quiesce_commit_laws.proofs.MemberLaws.{any_if, selected}
+use Rattle.quiesce_laws.proofs.MemberLaws.{any_if, selected}
 use Rattle.change_plan_laws.proofs.StandingLaws.{in_if_stands}
-use Rattle.quiesce_commit_laws.specs.Commits.{AreNoted, IsCommit, AreLinks, IsWork}
+use Rattle.quiesce_laws.specs.Commits.{AreNoted, IsCommit, AreLinks, IsWork}
 
 module _ (old new : Graph) (plan : Plan) (c : Configuration) (ready : IsReady old new plan c) where
   is_frozen : (n i : ℕ) → Contains plan.freeze i → StandsAt c old.nodes n i → is_one_of old plan.freeze c n ≡ true

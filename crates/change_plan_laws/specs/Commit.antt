@@ -17,8 +17,8 @@ use Rattle.quiesce_core.specs.declared.event.Event.{Event}
 use Rattle.quiesce_core.specs.declared.event.Event.TheVariants.{Reopen}
 use Rattle.quiesce_core.specs.declared.state.Slot.{Slot}
 use Rattle.quiesce_core.specs.State.{Configuration, gate, is_live, owner, slot}
-use Rattle.quiesce_commit_laws.specs.Steps.{change_all}
-use Rattle.quiesce_commit_laws.specs.Work.{NewLink, NewNode, Work, link_new, work_of}
+use Rattle.quiesce_laws.specs.Steps.{change_all}
+use Rattle.quiesce_laws.specs.Work.{NewLink, NewNode, Work, link_new, work_of}
 
 -- the path of a node of a graph
 abbrev pub node_path : Graph → ℕ → List ℕ

@@ -15,7 +15,7 @@ use Rattle.quiesce_core.specs.Live.{IsGraphOf, StandsAt}
 use Rattle.quiesce_core.specs.Runs.{IsRun, state_after}
 use Rattle.quiesce_core.specs.State.{Configuration, owner}
 use Rattle.quiesce_laws.specs.Drained.{is_drained}
-use Rattle.quiesce_commit_laws.specs.Work.{NewNode}
+use Rattle.quiesce_laws.specs.Work.{NewNode}
 use Rattle.change_plan_laws.specs.Commit.{is_one_of}
 
 -- how much was made

@@ -18,10 +18,10 @@ ghost use Rattle.quiesce_core.specs.Rules.{denial};
 ghost use Rattle.quiesce_core.specs.Runs.{IsRun, state_after};
 ghost use Rattle.quiesce_core.specs.Settled.{Quiescent, Settled};
 ghost use Rattle.quiesce_core.specs.State.{Configuration, gate, is_live, owner, target};
-ghost use Rattle.quiesce_commit_laws.specs.Commits.{IsCommit};
-ghost use Rattle.quiesce_commit_laws.specs.Fitting.{IsPart};
-ghost use Rattle.quiesce_commit_laws.specs.Steps.{MayStepAll, change_all};
-ghost use Rattle.quiesce_commit_laws.specs.Work.{NewNode, work_of};
+ghost use Rattle.quiesce_laws.specs.Commits.{IsCommit};
+ghost use Rattle.quiesce_laws.specs.Fitting.{IsPart};
+ghost use Rattle.quiesce_laws.specs.Steps.{MayStepAll, change_all};
+ghost use Rattle.quiesce_laws.specs.Work.{NewNode, work_of};
 ghost use Rattle.change_plan_laws.specs.Commit.{commit_events, commit_steps, is_frozen_or_new, is_one_of, new_links, ports_to_close, ports_to_reopen, reopened_ports, work};
 ghost use Rattle.change_plan_laws.specs.Committing.{IsTouchedSlot, MayCommit, TakesOver, made_in};
 

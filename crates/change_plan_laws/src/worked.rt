@@ -11,7 +11,7 @@ ghost use Rattle.quiesce_core.specs.Runs.{IsRun, state_after};
 ghost use Rattle.quiesce_core.specs.State.{exchange, gate, owner};
 ghost use Rattle.quiesce_laws.specs.Drained.{is_drained};
 ghost use Rattle.quiesce_laws.specs.Starts.{start_of};
-ghost use Rattle.quiesce_commit_laws.specs.Fitting.{IsPart};
+ghost use Rattle.quiesce_laws.specs.Fitting.{IsPart};
 ghost use Rattle.change_plan_laws.specs.Commit.{commit_events, commit_steps};
 ghost use Rattle.change_plan_laws.specs.Committing.{MayCommit};
 ghost use Rattle.change_plan_laws.specs.Rows.{a_goes_on, all_closed, another_map, adding, bank_closed, chain, crosswise, direct_closed, feeding, feeding_busy, first_accounts, line_closed, linking, n_to_t, next_accounts, replacing};

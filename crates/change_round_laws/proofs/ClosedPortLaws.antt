@@ -12,11 +12,11 @@ use Rattle.quiesce_core.specs.declared.state.Slot.{Slot}
 use Rattle.quiesce_core.specs.State.{Configuration, State, exchange, gate, owner}
 use Rattle.quiesce_laws.specs.Drained.{is_drained}
 use Rattle.quiesce_laws.specs.Roots.{has_root}
-use Rattle.quiesce_commit_laws.specs.Lists.{In}
-use Rattle.quiesce_commit_laws.proofs.MemberLaws.{select, selected}
-use Rattle.quiesce_commit_laws.proofs.TurningLaws.{IsLivePort, SameLinks}
+use Rattle.quiesce_laws.specs.Lists.{In}
+use Rattle.quiesce_laws.proofs.MemberLaws.{select, selected}
+use Rattle.quiesce_laws.proofs.TurningLaws.{IsLivePort, SameLinks}
 use Rattle.change_plan_laws.specs.Commit.{is_one_of, ports_to_close, ports_where}
-use Rattle.change_law.proofs.TestLaws.{range_rises}
+use Rattle.change_spec.proofs.TestLaws.{range_rises}
 use Rattle.change_plan_laws.proofs.StandingLaws.{one_live}
 
 pub frozen_live : (old : Graph) (plan : Plan) (c : Configuration) (p : ℕ) → In (ports_to_close old plan c) p → IsLivePort c p

@@ -3,10 +3,10 @@
 use Rattle.std.proofs.Common.{◌≡◌, ◌∙◌, ℕ, true, false, List, [], ◌∷◌, ◌++◌, append_assoc, map, refl, sym, ap, subst, inl, inr, arith}
 use Rattle.std.specs.Prelude.{filter}
 use Rattle.std.proofs.lemmas.List.{append-nil}
-use Rattle.quiesce_commit_laws.specs.Lists.{In}
-use Rattle.quiesce_commit_laws.proofs.GateLaws.{all_closed, closed_at, closes_are_of_change, closes_run, reopen_allowed}
-use Rattle.quiesce_commit_laws.proofs.MeanwhileLaws.{runs_on}
-use Rattle.quiesce_commit_laws.proofs.TurningLaws.{IsLivePort, SameLinks, live_still}
+use Rattle.quiesce_laws.specs.Lists.{In}
+use Rattle.quiesce_laws.proofs.GateLaws.{all_closed, closed_at, closes_are_of_change, closes_run, reopen_allowed}
+use Rattle.quiesce_laws.proofs.MeanwhileLaws.{runs_on}
+use Rattle.quiesce_laws.proofs.TurningLaws.{IsLivePort, SameLinks, live_still}
 use Rattle.quiesce_core.specs.declared.event.Event.{Event}
 use Rattle.quiesce_core.specs.declared.event.Event.TheVariants as event
 use Rattle.quiesce_core.specs.Doers.{is_of_change}
@@ -18,11 +18,11 @@ use Rattle.node_turn_laws.specs.World.{World}
 use Rattle.node_turn_laws.proofs.ReachedLaws.{holds_where_reached}
 use Rattle.report_types.specs.declared.report.HistoryLine.{HistoryLine}
 use Rattle.report_types.specs.declared.report.HistoryLine.TheVariants as to
-use Rattle.change_law.specs.Lawful.{StoodOpen}
-use Rattle.change_law.specs.Members.{Member, of_history, events, lines, lines_of_events, state_at}
-use Rattle.change_law.specs.Scene.{root_line}
-use Rattle.change_law.specs.Serial.{after_changes, seen_at}
-use Rattle.change_law.proofs.MemberLaws.{events_parts}
+use Rattle.change_spec.specs.Lawful.{StoodOpen}
+use Rattle.change_spec.specs.Members.{Member, of_history, events, lines, lines_of_events, state_at}
+use Rattle.change_spec.specs.Scene.{root_line}
+use Rattle.change_spec.specs.Serial.{after_changes, seen_at}
+use Rattle.change_spec.proofs.MemberLaws.{events_parts}
 use Rattle.change_round_laws.specs.Courses.{Course}
 use Rattle.change_round_laws.proofs.ClosedPortLaws.{root_there}
 use Rattle.change_round_laws.proofs.CourseLaws.{course_machine, course_run, with_changes, with_root}

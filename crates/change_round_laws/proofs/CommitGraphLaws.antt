@@ -23,8 +23,8 @@ use Rattle.change_plan.specs.Refusals.{CanPlan}
 use Rattle.change_plan.specs.declared.plan_data.Move.{Move}
 use Rattle.change_plan.specs.declared.plan_data.Plan.{Plan}
 use Rattle.change_plan.proofs.SelectsLaws.{Selects-one}
-use Rattle.quiesce_commit_laws.specs.Steps.{MayStepAll, change_all, live_ports}
-use Rattle.quiesce_commit_laws.proofs.MeanwhileLaws.{front_is_of_change}
+use Rattle.quiesce_laws.specs.Steps.{MayStepAll, change_all, live_ports}
+use Rattle.quiesce_laws.proofs.MeanwhileLaws.{front_is_of_change}
 use Rattle.change_plan_laws.specs.Commit.{commit_events, commit_steps, is_frozen_or_new, ports_to_close, reopened_ports}
 use Rattle.change_plan_laws.specs.Committing.{MayCommit, made_in}
 use Rattle.quiesce_laws.specs.Starts.{start_of}
@@ -42,15 +42,15 @@ use Rattle.quiesce_core.proofs.StepsLaws.{end_is}
 use Rattle.report_types.specs.declared.report.HistoryLine.{HistoryLine}
 use Rattle.report_types.specs.declared.report.HistoryLine.TheVariants as to
 use Rattle.report_types.specs.declared.report.Report.{Report}
-use Rattle.change_law.specs.Changes.{IsChange, IsCommitted, IsGivenUp, drained_lines, opening_lines, pending_lines, seen_in_all}
-use Rattle.change_law.specs.Follows.{Follows, IsRight, Part, lines_of, start_lines}
-use Rattle.change_law.specs.Lawful.{IsGraphDescribed, IsOfItsKind, Merge, described, is_head}
-use Rattle.change_law.specs.Members.{Member, of_history, events, is_commit, is_pending, is_root, line_of, lines, lines_of_events, without_roots}
-use Rattle.change_law.specs.Scene.{Seen, config_after, drained_line, root_line}
-use Rattle.change_law.specs.Scripts.{more_made}
-use Rattle.change_law.specs.Statements.{Statement, start, change, run, finish, show, graph_of}
-use Rattle.change_law.proofs.MemberLaws.{all_parts, changes_are_lines, config_of_lines, events_without_roots, lines_parts}
-use Rattle.change_law.proofs.TestLaws.{none_both, none_mapped}
+use Rattle.change_spec.specs.Changes.{IsChange, IsCommitted, IsGivenUp, drained_lines, opening_lines, pending_lines, seen_in_all}
+use Rattle.change_spec.specs.Follows.{Follows, IsRight, Part, lines_of, start_lines}
+use Rattle.change_spec.specs.Lawful.{IsGraphDescribed, IsOfItsKind, Merge, described, is_head}
+use Rattle.change_spec.specs.Members.{Member, of_history, events, is_commit, is_pending, is_root, line_of, lines, lines_of_events, without_roots}
+use Rattle.change_spec.specs.Scene.{Seen, config_after, drained_line, root_line}
+use Rattle.change_spec.specs.Scripts.{more_made}
+use Rattle.change_spec.specs.Statements.{Statement, start, change, run, finish, show, graph_of}
+use Rattle.change_spec.proofs.MemberLaws.{all_parts, changes_are_lines, config_of_lines, events_without_roots, lines_parts}
+use Rattle.change_spec.proofs.TestLaws.{none_both, none_mapped}
 use Rattle.base.proofs.ListLaws.{count_by-none}
 use Rattle.change_round_laws.specs.Described.{IsLeftAt, LeavesDescribed}
 use Rattle.change_round_laws.specs.SoundStatements.{named_by, AreSound, ChangesSoundly, GoOnSoundly, IsSoundGraph, StartsSoundly, made_of_graph}

@@ -8,9 +8,9 @@ use Rattle.std.proofs.lemmas.List.Elements.{All-append, All-cons, All-nil, filte
 use Rattle.base.specs.Each.{Each}
 use Rattle.base.proofs.EachLaws.{each_pushed, each_weaker}
 use Rattle.base.proofs.PlaceLaws.{tails_are}
-use Rattle.quiesce_commit_laws.specs.Steps.{change_all}
-use Rattle.quiesce_commit_laws.specs.Lists.{In}
-use Rattle.quiesce_commit_laws.proofs.MemberLaws.{selected}
+use Rattle.quiesce_laws.specs.Steps.{change_all}
+use Rattle.quiesce_laws.specs.Lists.{In}
+use Rattle.quiesce_laws.proofs.MemberLaws.{selected}
 use Rattle.quiesce_core.specs.declared.event.Event.{Event}
 use Rattle.quiesce_core.specs.declared.event.Event.TheVariants as event
 use Rattle.quiesce_core.specs.Doers.{is_of_change}
@@ -29,11 +29,11 @@ use Rattle.node_turn_laws.specs.Reached.{IsReached}
 use Rattle.node_turn_laws.proofs.ReachedLaws.{holds_where_reached, turn_goes_on}
 use Rattle.report_types.specs.declared.report.HistoryLine.{HistoryLine}
 use Rattle.report_types.specs.declared.report.HistoryLine.TheVariants as to
-use Rattle.change_law.specs.Lawful.{IsDrainedAt, IsOfItsKind, StoodOpen, StoodOpenWhereSaid}
-use Rattle.change_law.specs.Members.{Member, by_node, of_history, event_of, events, is_root, line_of, lines, lines_of_events, state_at, without_roots}
-use Rattle.change_law.specs.Scene.{config_after}
-use Rattle.change_law.specs.Serial.{after_changes}
-use Rattle.change_law.proofs.MemberLaws.{config_of_lines, events_parts, events_without_roots, lines_parts}
+use Rattle.change_spec.specs.Lawful.{IsDrainedAt, IsOfItsKind, StoodOpen, StoodOpenWhereSaid}
+use Rattle.change_spec.specs.Members.{Member, by_node, of_history, event_of, events, is_root, line_of, lines, lines_of_events, state_at, without_roots}
+use Rattle.change_spec.specs.Scene.{config_after}
+use Rattle.change_spec.specs.Serial.{after_changes}
+use Rattle.change_spec.proofs.MemberLaws.{config_of_lines, events_parts, events_without_roots, lines_parts}
 use Rattle.change_round_laws.specs.Courses.{Course, IsToldAt}
 
 -- what stood open stood so, whatever follows

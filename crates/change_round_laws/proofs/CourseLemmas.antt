@@ -7,8 +7,8 @@ use Rattle.quiesce_core.specs.declared.event.Event.{Event}
 use Rattle.quiesce_core.specs.declared.event.Event.TheVariants as event
 use Rattle.report_types.specs.declared.report.HistoryLine.{HistoryLine}
 use Rattle.report_types.specs.declared.report.HistoryLine.TheVariants as to
-use Rattle.change_law.specs.Lawful.{IsDrainedAt, IsOfItsKind, StoodOpenWhereSaid}
-use Rattle.change_law.specs.Members.{Member, by_node, of_history, events, line_of, lines, lines_of_events, without_roots}
+use Rattle.change_spec.specs.Lawful.{IsDrainedAt, IsOfItsKind, StoodOpenWhereSaid}
+use Rattle.change_spec.specs.Members.{Member, by_node, of_history, events, line_of, lines, lines_of_events, without_roots}
 use Rattle.change_round_laws.specs.Courses.{Course, IsToldAt}
 use Rattle.node_turn_laws.specs.Reached.{IsReached}
 use Rattle.node_turn_laws.specs.World.{World}

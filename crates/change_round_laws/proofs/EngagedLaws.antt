@@ -21,10 +21,10 @@ use Rattle.quiesce_laws.specs.Events.{is_ask_of, is_give_of, is_hear_of, is_more
 use Rattle.quiesce_laws.proofs.ExtensionLaws.{extends_further}
 use Rattle.report_types.specs.declared.report.NodeLog.{NodeLog}
 use Rattle.report_types.specs.declared.report.Report.{Report}
-use Rattle.change_law.specs.Lawful.{EndsOnce, IsLawfulBy, IsLogIn, Merge}
-use Rattle.change_law.specs.Members.{Member, events}
-use Rattle.change_law.specs.Statements.{Statement}
-use Rattle.change_law.proofs.MemberLaws.{changes_are_lines, config_of_lines, events_without_roots}
+use Rattle.change_spec.specs.Lawful.{EndsOnce, IsLawfulBy, IsLogIn, Merge}
+use Rattle.change_spec.specs.Members.{Member, events}
+use Rattle.change_spec.specs.Statements.{Statement}
+use Rattle.change_spec.proofs.MemberLaws.{changes_are_lines, config_of_lines, events_without_roots}
 use Rattle.change_round_laws.specs.Engaged.{HasItsPart, HasLog, IsInTwoLogs, in_log}
 use Rattle.change_round_laws.proofs.AloneLaws.{changes_run}
 use Rattle.change_round_laws.proofs.LineLaws.{changes, config_of}
@@ -97,10 +97,10 @@ slots_of_logs m report merge run =
     sym (config_of_lines m merge.by_nodes ∙ config_told m report merge) in
     merge.one_log_a_node ∙ sym (made_lines h) ∙ slots_made (changes h) run_so ∙ ap (λ (c : Configuration). range_with_len 0 (length c.slots)) same
   where
-    config_told : (m : List Member) (report : Report) (merge : Merge m report) → Rattle.change_law.specs.Scene.config_after (Rattle.change_law.specs.Members.lines m) ≡ (state_after (changes report.history)).config
+    config_told : (m : List Member) (report : Report) (merge : Merge m report) → Rattle.change_spec.specs.Scene.config_after (Rattle.change_spec.specs.Members.lines m) ≡ (state_after (changes report.history)).config
     config_told m report merge =
-        ap Rattle.change_law.specs.Scene.config_after merge.history
-        ∙ ap (Rattle.quiesce_commit_laws.specs.Steps.change_all Rattle.quiesce_core.specs.State.empty.config) (events_without_roots report.history) ∙ sym (config_of report.history)
+        ap Rattle.change_spec.specs.Scene.config_after merge.history
+        ∙ ap (Rattle.quiesce_laws.specs.Steps.change_all Rattle.quiesce_core.specs.State.empty.config) (events_without_roots report.history) ∙ sym (config_of report.history)
 
 in_range : (n a i : ℕ) → a ≤ i → i < a + n → list_any (λ k. k == i) (range_with_len a n) ≡ true
 in_range zero a i low high = absurd (omega (arith, low, high))

@@ -30,13 +30,13 @@ use Rattle.node_turn_laws.proofs.ReachedLaws.{holds_where_reached}
 use Rattle.report_types.specs.declared.report.HistoryLine.{HistoryLine}
 use Rattle.report_types.specs.declared.report.HistoryLine.TheVariants as to
 use Rattle.report_types.specs.declared.report.Report.{Report}
-use Rattle.change_law.specs.Changes.{drained_lines}
-use Rattle.change_law.specs.Follows.{skip_lines, start_lines}
-use Rattle.change_law.specs.Lawful.{IsOfItsKind}
-use Rattle.change_law.specs.Members.{Member, is_pending}
-use Rattle.quiesce_commit_laws.specs.Steps.{live_ports}
-use Rattle.change_law.specs.Serial.{IsPlayed, Played, Plays, Serial, after_changes, finish_ends, is_none_left, lines_played, looks_after, report_of, run_ends, wait_ends, world_after}
-use Rattle.change_law.specs.Statements.{Statement, start, change, run, finish, show}
+use Rattle.change_spec.specs.Changes.{drained_lines}
+use Rattle.change_spec.specs.Follows.{skip_lines, start_lines}
+use Rattle.change_spec.specs.Lawful.{IsOfItsKind}
+use Rattle.change_spec.specs.Members.{Member, is_pending}
+use Rattle.quiesce_laws.specs.Steps.{live_ports}
+use Rattle.change_spec.specs.Serial.{IsPlayed, Played, Plays, Serial, after_changes, finish_ends, is_none_left, lines_played, looks_after, report_of, run_ends, wait_ends, world_after}
+use Rattle.change_spec.specs.Statements.{Statement, start, change, run, finish, show}
 use Rattle.change_round_laws.specs.Courses.{Course}
 use Rattle.change_round_laws.specs.Existing.{HavePlans, HavePlansFrom, RunsEnd, StopsEnd}
 use Rattle.change_round_laws.specs.SoundStatements.{AreSound, GoOnSoundly, named_by}

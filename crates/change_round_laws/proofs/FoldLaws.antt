@@ -32,8 +32,8 @@ use Rattle.node_turn_laws.specs.Turn.{turn}
 use Rattle.node_turn_laws.specs.World.{World, first_port, opened, state_of, with_event, with_event_of}
 use Rattle.node_turn_laws.specs.Reached.{IsReached}
 use Rattle.node_turn_laws.proofs.ReachedLaws.{HoldsIn, TurnGoesOn, holds_where_reached, turn_goes_on}
-use Rattle.change_law.proofs.LowerLaws.{lower_after, source_there}
-use Rattle.change_law.specs.Opening.{argument_of, fold_at, fold_of_node, fold_within}
+use Rattle.change_spec.proofs.LowerLaws.{lower_after, source_there}
+use Rattle.change_spec.specs.Opening.{argument_of, fold_at, fold_of_node, fold_within}
 use Rattle.component_trait.specs.Making.{argument_or_0}
 
 -- a slot as it was before an event that makes none

@@ -15,8 +15,8 @@ use Rattle.quiesce_core.specs.declared.state.Gate.{Gate}
 use Rattle.quiesce_core.specs.declared.state.Slot.{Slot}
 use Rattle.quiesce_core.specs.Effect.{change_next}
 use Rattle.quiesce_core.specs.State.{Configuration, gate, slot}
-use Rattle.quiesce_commit_laws.specs.Steps.{change_all}
-use Rattle.quiesce_commit_laws.specs.Work.{link_new, make_new, work_of}
+use Rattle.quiesce_laws.specs.Steps.{change_all}
+use Rattle.quiesce_laws.specs.Work.{link_new, make_new, work_of}
 use Rattle.change_plan_laws.specs.Commit.{commit_events, commit_steps, makes_from, new_links, reopened_ports, work}
 use Rattle.config_graph.proofs.KindLaws.{ports_wanted_at}
 

@@ -12,10 +12,10 @@ use Rattle.quiesce_core.specs.State.{empty}
 use Rattle.quiesce_core.proofs.RunLaws.{changes_make_the_configuration}
 use Rattle.report_types.specs.declared.report.HistoryLine.{HistoryLine}
 use Rattle.report_types.specs.declared.report.HistoryLine.TheVariants as to
-use Rattle.change_law.specs.Members.{event_of, line_of, lines_of_events}
-use Rattle.change_law.specs.Scene.{Seen, config_after, root_line}
-use Rattle.change_law.proofs.MemberLaws.{kept_change}
-pub use Rattle.change_law.proofs.PortLaws.{closed_events as changes_of_closes, config_more, no_events_drained as changes_of_looks}
+use Rattle.change_spec.specs.Members.{event_of, line_of, lines_of_events}
+use Rattle.change_spec.specs.Scene.{Seen, config_after, root_line}
+use Rattle.change_spec.proofs.MemberLaws.{kept_change}
+pub use Rattle.change_spec.proofs.PortLaws.{closed_events as changes_of_closes, config_more, no_events_drained as changes_of_looks}
 
 -- the events of lines
 abbrev pub changes : List HistoryLine → List Event

@@ -9,7 +9,7 @@ use Rattle.std.proofs.lemmas.List.Elements.{All-append, All-cons, All-nil, All-h
 use Rattle.std.proofs.lemmas.List.Kept.{IsStrictlyIncreasing-filter}
 use Rattle.std.proofs.lemmas.Grind.{flat_map-append}
 use Rattle.base.proofs.MapLaws.{count_by-append}
-use Rattle.quiesce_commit_laws.specs.Lists.{In}
+use Rattle.quiesce_laws.specs.Lists.{In}
 use Rattle.quiesce_core.specs.declared.event.Event.{Event}
 use Rattle.quiesce_core.specs.Runs.{IsRun, state_after}
 use Rattle.quiesce_core.specs.State.{exchange}
@@ -20,12 +20,12 @@ use Rattle.node_turn_laws.specs.Round.{after_rounds}
 use Rattle.node_turn_laws.specs.World.{World}
 use Rattle.node_turn_laws.proofs.ReachedLaws.{holds_where_reached}
 use Rattle.report_types.specs.declared.report.HistoryLine.{HistoryLine}
-use Rattle.change_law.specs.Changes.{AreLooks, PortsRise, drained_lines, seen_in_all}
-use Rattle.change_law.specs.Lawful.{IsOfItsKind}
-use Rattle.change_law.specs.Members.{Member, by_node, of_history, lines}
-use Rattle.change_law.specs.Scene.{AreSeen, Seen, drained_line}
-use Rattle.change_law.specs.Serial.{Looks, look_once, looks_after, seen_at}
-use Rattle.change_law.proofs.MemberLaws.{all_parts, events_of_nodes, events_parts, lines_of_nodes, lines_parts}
+use Rattle.change_spec.specs.Changes.{AreLooks, PortsRise, drained_lines, seen_in_all}
+use Rattle.change_spec.specs.Lawful.{IsOfItsKind}
+use Rattle.change_spec.specs.Members.{Member, by_node, of_history, lines}
+use Rattle.change_spec.specs.Scene.{AreSeen, Seen, drained_line}
+use Rattle.change_spec.specs.Serial.{Looks, look_once, looks_after, seen_at}
+use Rattle.change_spec.proofs.MemberLaws.{all_parts, events_of_nodes, events_parts, lines_of_nodes, lines_parts}
 use Rattle.change_round_laws.specs.Courses.{Course}
 use Rattle.change_round_laws.proofs.CourseLaws.{WentOn, course_machine, course_run, with_rounds, with_said}
 

@@ -9,11 +9,11 @@ use Rattle.base.specs.Each.{Each, EachAfter}
 use Rattle.base.proofs.EachLaws.{each_pushed}
 use Rattle.config_graph.specs.Graph.{Graph}
 use Rattle.config_graph.specs.declared.node.Made.{Made}
-use Rattle.change_law.specs.Members.{is_pending}
-use Rattle.change_law.specs.Serial.{ChangesTo, IsPlayed, Played, Plays, end_events, is_none_left, lines_played, looks_after, wait_ends, world_after}
-use Rattle.change_law.specs.Statements.{Statement, start, change, run, finish, show}
+use Rattle.change_spec.specs.Members.{is_pending}
+use Rattle.change_spec.specs.Serial.{ChangesTo, IsPlayed, Played, Plays, end_events, is_none_left, lines_played, looks_after, wait_ends, world_after}
+use Rattle.change_spec.specs.Statements.{Statement, start, change, run, finish, show}
 use Rattle.report_types.specs.declared.report.HistoryLine.{HistoryLine}
-use Rattle.quiesce_commit_laws.specs.Lists.{In}
+use Rattle.quiesce_laws.specs.Lists.{In}
 use Rattle.node_turn_laws.specs.Posted.{ArePosted}
 use Rattle.quiesce_core.specs.Rest.{rest}
 use Rattle.quiesce_core.specs.State.{Configuration, gate}
@@ -22,7 +22,7 @@ use Rattle.quiesce_laws.specs.Starts.{start_of}
 use Rattle.change_round_laws.proofs.ClosedPortLaws.{frozen_live}
 use Rattle.change_round_laws.proofs.CommitGraphLaws.{CommitsByConfiguration, CommitsLeaveGraphs, EachMayCommit}
 use Rattle.change_round_laws.proofs.PlayLaws.{CommitsRun}
-use Rattle.change_law.proofs.SerialLaws.{changed_world}
+use Rattle.change_spec.proofs.SerialLaws.{changed_world}
 use Rattle.change_round_laws.proofs.RoundLaws.{from_start, played_after}
 use Rattle.change_round_laws.specs.SoundStatements.{AreSound, GoOnSoundly}
 use Rattle.node_turn_laws.specs.Reached.{IsReached}

@@ -31,10 +31,10 @@ use Rattle.change_plan.specs.declared.plan_data.Move.{Move}
 use Rattle.change_plan.specs.declared.plan_data.Shift.{Shift}
 use Rattle.change_plan.proofs.MoveLaws.{one_gone, one_name}
 use Rattle.change_plan.proofs.SelectsLaws.{Contains-places}
-use Rattle.change_law.specs.Planning.{all_shifts, can_be_planned, have_one_kind, is_fit, is_fit_as, is_led, is_shift, is_touched, leads_no_further, leads_to, leads_within, may_move, may_move_all, may_move_at, planned, rises, shifts, shifts_to}
-use Rattle.change_law.specs.Statements.{Statement, start, change, run, finish, show}
-use Rattle.change_law.proofs.PlanningLaws.{led_decides, planned_so, shift_decides}
-use Rattle.quiesce_commit_laws.proofs.MemberLaws.{any_if, any_of}
+use Rattle.change_spec.specs.Planning.{all_shifts, can_be_planned, have_one_kind, is_fit, is_fit_as, is_led, is_shift, is_touched, leads_no_further, leads_to, leads_within, may_move, may_move_all, may_move_at, planned, rises, shifts, shifts_to}
+use Rattle.change_spec.specs.Statements.{Statement, start, change, run, finish, show}
+use Rattle.change_spec.proofs.PlanningLaws.{led_decides, planned_so, shift_decides}
+use Rattle.quiesce_laws.proofs.MemberLaws.{any_if, any_of}
 use Rattle.change_round_laws.specs.Existing.{HavePlans, HavePlansFrom}
 use Rattle.change_round_laws.specs.SoundStatements.{AreSound, GoOnSoundly, IsSoundGraph}
 

@@ -11,11 +11,11 @@ use Rattle.config_graph.proofs.GraphByLaws.{one_graph}
 use Rattle.change_plan.specs.Refusals.{CanPlan}
 use Rattle.change_plan.specs.declared.plan_data.Move.{Move}
 use Rattle.change_plan.specs.declared.plan_data.Plan.{Plan}
-use Rattle.quiesce_commit_laws.specs.Lists.{In}
-use Rattle.quiesce_commit_laws.specs.Steps.{MayStepAll, live_ports}
-use Rattle.quiesce_commit_laws.proofs.GateLaws.{live_listed}
-use Rattle.quiesce_commit_laws.proofs.MeanwhileLaws.{front_is_of_change}
-use Rattle.quiesce_commit_laws.proofs.TurningLaws.{IsLivePort, SameLinks, same_graph}
+use Rattle.quiesce_laws.specs.Lists.{In}
+use Rattle.quiesce_laws.specs.Steps.{MayStepAll, live_ports}
+use Rattle.quiesce_laws.proofs.GateLaws.{live_listed}
+use Rattle.quiesce_laws.proofs.MeanwhileLaws.{front_is_of_change}
+use Rattle.quiesce_laws.proofs.TurningLaws.{IsLivePort, SameLinks, same_graph}
 use Rattle.change_plan_laws.specs.Commit.{commit_events, is_frozen_or_new, is_one_of, ports_to_close}
 use Rattle.change_plan_laws.specs.Committing.{MayCommit, made_in}
 use Rattle.quiesce_core.specs.declared.event.Event.{Event}
@@ -32,15 +32,15 @@ use Rattle.node_turn_laws.specs.World.{World}
 use Rattle.node_turn_laws.proofs.ReachedLaws.{holds_where_reached}
 use Rattle.report_types.specs.declared.report.HistoryLine.{HistoryLine}
 use Rattle.report_types.specs.declared.report.HistoryLine.TheVariants as to
-use Rattle.change_law.specs.Changes.{AreLooks, IsChange, IsCommitted, IsGivenUp, commit_lines, drained_lines, opening_lines, pending_lines, seen_in_all}
-use Rattle.change_law.specs.Follows.{IsRight, IsStop, start_lines}
-use Rattle.change_law.specs.Lawful.{EndedSince}
-use Rattle.change_law.specs.Members.{Member, by_node, of_history, events, is_pending, lines_of_events}
-use Rattle.change_law.specs.Scene.{AreSeen, config_after, root_line}
-use Rattle.change_law.specs.Serial.{ChangesTo, FinishesAt, Looks, Plays, RunsTo, ShowsGraph, StopsAt, after_changes, finish_ends, is_none_left, looks_after, seen_at, wait_ends}
-use Rattle.change_law.specs.Statements.{Statement, start, change, run, finish, show}
-use Rattle.change_law.proofs.MemberLaws.{events_of_nodes, events_parts}
-use Rattle.change_law.proofs.SerialLaws.{changed_lines, changed_world}
+use Rattle.change_spec.specs.Changes.{AreLooks, IsChange, IsCommitted, IsGivenUp, commit_lines, drained_lines, opening_lines, pending_lines, seen_in_all}
+use Rattle.change_spec.specs.Follows.{IsRight, IsStop, start_lines}
+use Rattle.change_spec.specs.Lawful.{EndedSince}
+use Rattle.change_spec.specs.Members.{Member, by_node, of_history, events, is_pending, lines_of_events}
+use Rattle.change_spec.specs.Scene.{AreSeen, config_after, root_line}
+use Rattle.change_spec.specs.Serial.{ChangesTo, FinishesAt, Looks, Plays, RunsTo, ShowsGraph, StopsAt, after_changes, finish_ends, is_none_left, looks_after, seen_at, wait_ends}
+use Rattle.change_spec.specs.Statements.{Statement, start, change, run, finish, show}
+use Rattle.change_spec.proofs.MemberLaws.{events_of_nodes, events_parts}
+use Rattle.change_spec.proofs.SerialLaws.{changed_lines, changed_world}
 use Rattle.change_round_laws.specs.Courses.{Course}
 use Rattle.change_round_laws.specs.SoundStatements.{GoOnSoundly, IsSoundGraph}
 use Rattle.change_round_laws.proofs.ClosedPortLaws.{frozen_listed, frozen_live, frozen_same, same_to_close, where_rise}
@@ -63,8 +63,8 @@ pub record GoesBy (h : List HistoryLine) (s : Statement) (ls : List HistoryLine)
 
 rounds_and_line : (h : List HistoryLine) (w v : World) (m : List Member) (l : HistoryLine) → (g : WentOn h w m v) → Course h w m
     → ((later : List Event) → v.events ≡ w.events ++ later → Rattle.change_round_laws.specs.Courses.IsToldAt (m ++ map by_node later) (of_history l))
-    → Rattle.change_law.specs.Members.event_of l ≡ None → Rattle.change_law.specs.Members.is_root l ≡ false
-    → ((before : List Member) → Rattle.change_law.specs.Lawful.IsDrainedAt before (of_history l)) → (k : List Member) × Course (h ++ l ∷ []) v k
+    → Rattle.change_spec.specs.Members.event_of l ≡ None → Rattle.change_spec.specs.Members.is_root l ≡ false
+    → ((before : List Member) → Rattle.change_spec.specs.Lawful.IsDrainedAt before (of_history l)) → (k : List Member) × Course (h ++ l ∷ []) v k
 rounds_and_line h w v m l g c counted none rootless drained =
     let grown : v.events ≡ w.events ++ g.later = sym g.course.events_are ∙ events_parts m (map by_node g.later) ∙ (λ i. c.events_are i ++ events_of_nodes g.later i) in
     ((m ++ map by_node g.later) ++ of_history l ∷ [], with_said h v (m ++ map by_node g.later) l g.course none rootless (drained (m ++ map by_node g.later)) (counted g.later grown))

@@ -6,16 +6,16 @@ use Rattle.std.proofs.lemmas.List.Elements.{filter-append}
 use Rattle.base.specs.Each.{Each, EachAfter}
 use Rattle.base.proofs.EachLaws.{each_pushed}
 use Rattle.config_graph.specs.Graph.{Graph}
-use Rattle.change_law.specs.Changes.{commit_lines, drained_lines, opening_lines, pending_lines, seen_in_all}
-use Rattle.change_law.specs.Members.{is_root, lines_of_events}
-use Rattle.change_law.specs.Scene.{Seen, drained_line, root_line}
-use Rattle.change_law.specs.Serial.{ChangesTo, IsPlayed, Played, Plays, StopsAt, looks_after, seen_at, world_after}
-use Rattle.change_law.specs.Statements.{Statement, start, change, run, finish, show}
+use Rattle.change_spec.specs.Changes.{commit_lines, drained_lines, opening_lines, pending_lines, seen_in_all}
+use Rattle.change_spec.specs.Members.{is_root, lines_of_events}
+use Rattle.change_spec.specs.Scene.{Seen, drained_line, root_line}
+use Rattle.change_spec.specs.Serial.{ChangesTo, IsPlayed, Played, Plays, StopsAt, looks_after, seen_at, world_after}
+use Rattle.change_spec.specs.Statements.{Statement, start, change, run, finish, show}
 use Rattle.change_plan.specs.declared.plan_data.Move.{Move}
 use Rattle.change_plan.specs.declared.plan_data.Plan.{Plan}
 use Rattle.report_types.specs.declared.report.HistoryLine.{HistoryLine}
 use Rattle.report_types.specs.declared.report.HistoryLine.TheVariants as to
-use Rattle.quiesce_commit_laws.specs.Lists.{In}
+use Rattle.quiesce_laws.specs.Lists.{In}
 use Rattle.change_plan_laws.specs.Commit.{commit_events, ports_to_close}
 use Rattle.quiesce_core.specs.State.{Configuration, exchange, gate}
 use Rattle.quiesce_core.specs.declared.event.Event.{Event}
@@ -118,7 +118,7 @@ module _ (w : World) (reached : IsReached w) (name : List ℕ) (args : List ℤ)
 
   stands : (p : ℕ) → In c.found.left p → has_root c.at_end.machine p (exchange c.at_end.machine p).serial ≡ true
   stands p i =
-      let there : In (looks_after c.waiting c.closed c.rounds).left p = subst (λ (l : Rattle.change_law.specs.Serial.Looks). In l.left p) c.found_is i in
+      let there : In (looks_after c.waiting c.closed c.rounds).left p = subst (λ (l : Rattle.change_spec.specs.Serial.Looks). In l.left p) c.found_is i in
       let closed : (gate (after_rounds false c.waiting c.rounds).machine.config p).closed ≡ true =
       ap (λ (d : Configuration). (gate d p).closed) (rounds_reach false c.waiting c.rounds (waiting_reached w reached name args g within moves lines v c)).config
       ∙ shut w reached name args g within moves lines v c p (left_in c.waiting c.closed c.rounds p there) in
@@ -139,14 +139,14 @@ part_names h w show ls v r plays = ap roots_in plays.0.are
 
 pub stop_names_none : (w : World) (ls : List HistoryLine) (v : World) → StopsAt w ls v → roots_in ls ≡ []
 stop_names_none w ls v s =
-    let ports = Rattle.quiesce_commit_laws.specs.Steps.live_ports w.machine.config in
+    let ports = Rattle.quiesce_laws.specs.Steps.live_ports w.machine.config in
     ap roots_in s.are ∙ both (map to.Close ports) (drained_lines (looks_after s.waiting ports s.rounds).seen) (none_mapped to.Close (λ p. refl) ports) (none_drained (looks_after s.waiting ports s.rounds).seen)
 
 module _ (each_may : EachMayCommit) (by_config : CommitsByConfiguration) (leaves : CommitsLeaveGraphs) (commits_run : CommitsRun) where
   all_name : (before ps : List Played) → AreSound (said (before ++ ps)) → Each IsPlayed before → EachAfter IsPlayed before ps → EachAfter NamesRoots before ps
   all_name before [] sound done each = tt
   all_name before (p ∷ ps) sound done each = (
-    part_names (Rattle.change_law.specs.Serial.lines_played before) (world_after before) p.statement p.lines p.world (reached_before each_may by_config leaves commits_run before (p ∷ ps) sound done) each.0,
+    part_names (Rattle.change_spec.specs.Serial.lines_played before) (world_after before) p.statement p.lines p.world (reached_before each_may by_config leaves commits_run before (p ∷ ps) sound done) each.0,
     all_name (before ++ p ∷ []) ps (subst (λ xs. AreSound (said xs)) (sym (append_assoc before (p ∷ []) ps)) sound) ((each_pushed IsPlayed before p).1 (done, each.0)) each.1,
   )
 

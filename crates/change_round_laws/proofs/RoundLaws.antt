@@ -41,15 +41,15 @@ use Rattle.report_types.specs.declared.report.HistoryLine.TheVariants as to
 use Rattle.report_types.specs.declared.report.Last.TheVariants as last
 use Rattle.report_types.specs.declared.report.NodeLog.{NodeLog}
 use Rattle.report_types.specs.declared.report.Report.{Report}
-use Rattle.change_law.specs.Endings.{moved_to}
-use Rattle.change_law.specs.Follows.{Follows, IsRight, IsStop, Part, lines_of}
-use Rattle.change_law.specs.Lawful.{EndsAs, IsDrainedAt, IsEndedAt, IsEndedOnce, IsFewAt, IsFolded, IsGraphAt, IsGraphDescribed, IsLawfulBy, IsLogIn, IsOfItsKind, IsQuiescentAt, Merge, NumbersInRounds, is_unfinished, unfinished_of}
-use Rattle.change_law.specs.Lawful as lawful
-use Rattle.change_law.specs.Members.{Member, of_history, event_of, events, made_slot}
-use Rattle.change_law.specs.Opening.{fold_of_node}
-use Rattle.change_law.specs.Serial.{IsPlayed, Played, Plays, Serial, is_left_undone, last_of, lines_played, log_of, report_of, unfinished_in, world_after}
-use Rattle.change_law.specs.Statements.{Statement, start, change, run, finish, show, is_finish}
-use Rattle.change_law.proofs.MemberLaws.{changes_are_lines, each_if, events_without_roots}
+use Rattle.change_spec.specs.Endings.{moved_to}
+use Rattle.change_spec.specs.Follows.{Follows, IsRight, IsStop, Part, lines_of}
+use Rattle.change_spec.specs.Lawful.{EndsAs, IsDrainedAt, IsEndedAt, IsEndedOnce, IsFewAt, IsFolded, IsGraphAt, IsGraphDescribed, IsLawfulBy, IsLogIn, IsOfItsKind, IsQuiescentAt, Merge, NumbersInRounds, is_unfinished, unfinished_of}
+use Rattle.change_spec.specs.Lawful as lawful
+use Rattle.change_spec.specs.Members.{Member, of_history, event_of, events, made_slot}
+use Rattle.change_spec.specs.Opening.{fold_of_node}
+use Rattle.change_spec.specs.Serial.{IsPlayed, Played, Plays, Serial, is_left_undone, last_of, lines_played, log_of, report_of, unfinished_in, world_after}
+use Rattle.change_spec.specs.Statements.{Statement, start, change, run, finish, show, is_finish}
+use Rattle.change_spec.proofs.MemberLaws.{changes_are_lines, each_if, events_without_roots}
 use Rattle.change_round_laws.specs.Courses.{Course, IsToldAt}
 use Rattle.change_round_laws.specs.SoundStatements.{AreSound, GoOnSoundly}
 use Rattle.change_round_laws.proofs.AloneLaws.{changes_run}

@@ -13,8 +13,8 @@ use Rattle.report_types.specs.declared.script.Body.TheVariants as bodies
 use Rattle.report_types.specs.declared.script.Script.{Script}
 use Rattle.report_types.specs.declared.script.ScriptLine.{ScriptLine}
 use Rattle.change_script.proofs.ScriptOrderLaws.{StandsInOrder, has_with_one, no_start_above, script_stands, script_starts, start_above}
-use Rattle.change_law.specs.Scripts.{Above, SayAll, Says, SaysChange, SaysStart, StatementsOf, more_made, nothing_above}
-use Rattle.change_law.specs.Statements.{Statement, start, change}
+use Rattle.change_spec.specs.Scripts.{Above, SayAll, Says, SaysChange, SaysStart, StatementsOf, more_made, nothing_above}
+use Rattle.change_spec.specs.Statements.{Statement, start, change}
 use Rattle.change_round_laws.specs.SoundStatements.{AreSound, GoOnSoundly, IsSoundGraph}
 
 module _ (elab : List ℕ → List ℕ → List ℤ → Graph → Type 0) where

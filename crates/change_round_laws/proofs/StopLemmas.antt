@@ -7,7 +7,7 @@ use Rattle.std.proofs.lemmas.Bool.{both_ways, cases_Bool, not-true}
 use Rattle.std.proofs.lemmas.List.{length-append}
 use Rattle.std.proofs.lemmas.List.Elements.{All-head, All-tail}
 use Rattle.base.proofs.MapLaws.{count_by-append}
-use Rattle.quiesce_commit_laws.specs.Lists.{In}
+use Rattle.quiesce_laws.specs.Lists.{In}
 use Rattle.quiesce_laws.specs.Advances.{is_advance, is_begin}
 use Rattle.quiesce_word.specs.Phases.{is_idle}
 use Rattle.quiesce_core.specs.Doers.{is_of_change}
@@ -24,12 +24,12 @@ use Rattle.node_turn_laws.specs.Round.{after_rounds, round, stands_still}
 use Rattle.node_turn_laws.specs.World.{World}
 use Rattle.report_types.specs.declared.report.HistoryLine.{HistoryLine}
 use Rattle.report_types.specs.declared.report.HistoryLine.TheVariants as to
-use Rattle.change_law.specs.Lawful.{IsOfItsKind}
-use Rattle.change_law.specs.Members.{Member, by_node, of_history, lines_of_events}
-use Rattle.quiesce_commit_laws.specs.Steps.{live_ports}
-use Rattle.quiesce_commit_laws.proofs.GateLaws.{live_listed}
-use Rattle.change_law.specs.Serial.{after_changes, looks_after}
-use Rattle.change_law.proofs.MemberLaws.{all_parts, events_of_nodes, events_parts}
+use Rattle.change_spec.specs.Lawful.{IsOfItsKind}
+use Rattle.change_spec.specs.Members.{Member, by_node, of_history, lines_of_events}
+use Rattle.quiesce_laws.specs.Steps.{live_ports}
+use Rattle.quiesce_laws.proofs.GateLaws.{live_listed}
+use Rattle.change_spec.specs.Serial.{after_changes, looks_after}
+use Rattle.change_spec.proofs.MemberLaws.{all_parts, events_of_nodes, events_parts}
 use Rattle.base.proofs.ListLaws.{count_by-some}
 use Rattle.change_round_laws.specs.Courses.{Course}
 use Rattle.change_round_laws.specs.Existing.{StopsEnd}

@@ -2,9 +2,9 @@
 use Rattle.std.proofs.Common.{◌≡◌, ◌∙◌, ℕ, zero, suc, Bool, true, false, cond, not, List, [], ◌∷◌, length, map, refl, sym, ap, inl, inr, ⊎_elim, arith}
 use Rattle.std.specs.Prelude.{◌==◌, ◌&&◌, ◌||◌, filter, is_some, nat_lt}
 use Rattle.std.proofs.lemmas.Bool.{and_from, eq-eqb, lt-ltb}
-use Rattle.change_law.specs.Serial.{after_changes, is_none_left, looks_after}
-use Rattle.quiesce_commit_laws.specs.Lists.{In}
-use Rattle.quiesce_commit_laws.proofs.TurningLaws.{IsLivePort}
+use Rattle.change_spec.specs.Serial.{after_changes, is_none_left, looks_after}
+use Rattle.quiesce_laws.specs.Lists.{In}
+use Rattle.quiesce_laws.proofs.TurningLaws.{IsLivePort}
 use Rattle.quiesce_word.specs.Phases.{is_idle}
 use Rattle.node_turn_laws.proofs.PostedLaws.{posted_behind_change, posted_behind_round, round_reaches}
 use Rattle.node_turn_laws.specs.Posted.{ArePosted}

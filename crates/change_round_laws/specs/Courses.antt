@@ -1,8 +1,8 @@
 -- A course: a history so far, the world behind it, and the one list in which the rounds made the events and the lines.
 use Rattle.std.specs.Prelude.{◌≡◌, ◌≤◌, ⊤, List, All}
 use Rattle.base.specs.Each.{Each}
-use Rattle.change_law.specs.Lawful.{EndedSince, IsDrainedAt, IsOfItsKind, StoodOpenWhereSaid}
-use Rattle.change_law.specs.Members.{Member, of_history, events, lines, state_at, without_roots}
+use Rattle.change_spec.specs.Lawful.{EndedSince, IsDrainedAt, IsOfItsKind, StoodOpenWhereSaid}
+use Rattle.change_spec.specs.Members.{Member, of_history, events, lines, state_at, without_roots}
 use Rattle.report_types.specs.declared.report.HistoryLine.{HistoryLine}
 use Rattle.report_types.specs.declared.report.HistoryLine.TheVariants as to
 use Rattle.quiesce_core.specs.Live.{IsGraphOf}

@@ -4,9 +4,9 @@ use Rattle.config_graph.specs.Graph.{Graph}
 use Rattle.quiesce_core.specs.Live.{IsGraphOf}
 use Rattle.report_types.specs.declared.report.HistoryLine.{HistoryLine}
 use Rattle.report_types.specs.declared.report.HistoryLine.TheVariants as to
-use Rattle.change_law.specs.Lawful.{described}
-use Rattle.change_law.specs.Scene.{config_after}
-use Rattle.change_law.specs.Statements.{Statement}
+use Rattle.change_spec.specs.Lawful.{described}
+use Rattle.change_spec.specs.Scene.{config_after}
+use Rattle.change_spec.specs.Statements.{Statement}
 
 pub record LeavesDescribed (statements : List Statement) (before : List HistoryLine) : Type 0 where
   pub graph : Graph

@@ -7,7 +7,7 @@ use Rattle.quiesce_core.specs.Runs.{Begun, initiator, is_begin_of, is_end_of, ta
 use Rattle.quiesce_laws.specs.Events.{is_ask_of, is_give_of, is_hear_of, is_more_of, is_take_of}
 use Rattle.report_types.specs.declared.report.NodeLog.{NodeLog}
 use Rattle.report_types.specs.declared.report.Report.{Report}
-use Rattle.change_law.specs.Members.{Member, events}
+use Rattle.change_spec.specs.Members.{Member, events}
 
 -- so many stand in the log of this node, and none in another
 abbrev pub in_log : ℕ → NodeLog → ℕ → ℕ

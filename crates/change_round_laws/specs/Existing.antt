@@ -4,10 +4,10 @@ use Rattle.std.specs.Prelude.{⊤, ℕ, List, [], ◌∷◌, map, IsTrue}
 use Rattle.config_graph.specs.Graph.{Graph}
 use Rattle.change_plan.specs.Plans.{IsPlanOf}
 use Rattle.change_plan.specs.declared.plan_data.Plan.{Plan}
-use Rattle.quiesce_commit_laws.specs.Steps.{live_ports}
-use Rattle.change_law.specs.Scripts.{nothing_above}
-use Rattle.change_law.specs.Serial.{after_changes, is_none_left, run_ends}
-use Rattle.change_law.specs.Statements.{Statement, start, change, run, finish, show}
+use Rattle.quiesce_laws.specs.Steps.{live_ports}
+use Rattle.change_spec.specs.Scripts.{nothing_above}
+use Rattle.change_spec.specs.Serial.{after_changes, is_none_left, run_ends}
+use Rattle.change_spec.specs.Statements.{Statement, start, change, run, finish, show}
 use Rattle.quiesce_core.specs.declared.event.Event.TheVariants.{Close}
 use Rattle.node_turn_laws.specs.Reached.{IsReached}
 use Rattle.node_turn_laws.specs.World.{World}

@@ -1,12 +1,12 @@
 -- Which roots the `open` lines of a report of rounds name: those that the last look of their change saw.
 use Rattle.std.specs.Prelude.{◌≡◌, ℕ, true, false, List, [], map, filter, IsTrue}
 use Rattle.std.specs.List.{list_any}
-use Rattle.change_law.specs.Members.{is_pending, is_root}
-use Rattle.change_law.specs.Scene.{root_line}
-use Rattle.change_law.specs.Serial.{ChangesTo, Played, lines_played, seen_at, world_after}
-use Rattle.change_law.specs.Statements.{Statement, change}
+use Rattle.change_spec.specs.Members.{is_pending, is_root}
+use Rattle.change_spec.specs.Scene.{root_line}
+use Rattle.change_spec.specs.Serial.{ChangesTo, Played, lines_played, seen_at, world_after}
+use Rattle.change_spec.specs.Statements.{Statement, change}
 use Rattle.report_types.specs.declared.report.HistoryLine.{HistoryLine}
-use Rattle.quiesce_commit_laws.specs.Lists.{In}
+use Rattle.quiesce_laws.specs.Lists.{In}
 use Rattle.quiesce_core.specs.State.{exchange}
 use Rattle.quiesce_laws.specs.Roots.{has_root}
 use Rattle.node_turn_laws.specs.World.{World}

@@ -7,8 +7,8 @@ use Rattle.config_graph.specs.declared.node.Made.{Made}
 use Rattle.change_plan.specs.Refusals.{CanPlan}
 use Rattle.change_plan.specs.Room.{HasRoomFor}
 use Rattle.change_plan.specs.declared.plan_data.Move.{Move}
-use Rattle.change_law.specs.Scripts.{more_made, nothing_above}
-use Rattle.change_law.specs.Statements.{Statement, start, change, run, finish, show}
+use Rattle.change_spec.specs.Scripts.{more_made, nothing_above}
+use Rattle.change_spec.specs.Statements.{Statement, start, change, run, finish, show}
 
 -- to which graph a component elaborates, by a function of the file's name, the component's, and its arguments
 abbrev pub elaborates_by : (List ℕ → List ℕ → List ℤ → Option Graph) → List ℕ → List ℕ → List ℤ → Graph → Type 0

@@ -1,8 +1,8 @@
 -- To be believed (docs/definitions.md).
 -- Changes that are committed, by how long they may wait.
 use Rattle.std.specs.Prelude.{◌≤◌, ⊤, ℕ, List, IsTrue}
-use Rattle.change_law.specs.Serial.{ChangesTo, Played, is_none_left, world_after}
-use Rattle.change_law.specs.Statements.{Statement, change}
+use Rattle.change_spec.specs.Serial.{ChangesTo, Played, is_none_left, world_after}
+use Rattle.change_spec.specs.Statements.{Statement, change}
 use Rattle.report_types.specs.declared.report.HistoryLine.{HistoryLine}
 use Rattle.quiesce_word.specs.Phases.{is_idle}
 use Rattle.quiesce_core.specs.Rest.{rest}

@@ -2,10 +2,10 @@
 
 ghost use Rattle.std.specs.Prelude.{◌≡◌, List, ◌∷◌, ◌++◌, filter, filter_map};
 ghost use Rattle.base.specs.Each.{Each};
-ghost use Rattle.change_law.specs.Follows.{Follows};
-ghost use Rattle.change_law.specs.Lawful.{IsGraphDescribed, Merge};
-ghost use Rattle.change_law.specs.Members.{Member, event_of, events, of_history};
-ghost use Rattle.change_law.specs.Statements.{Statement};
+ghost use Rattle.change_spec.specs.Follows.{Follows};
+ghost use Rattle.change_spec.specs.Lawful.{IsGraphDescribed, Merge};
+ghost use Rattle.change_spec.specs.Members.{Member, event_of, events, of_history};
+ghost use Rattle.change_spec.specs.Statements.{Statement};
 ghost use Rattle.report_types.specs.declared.report.HistoryLine.{HistoryLine};
 ghost use Rattle.report_types.specs.declared.report.HistoryLine.TheVariants.{Commit};
 ghost use Rattle.report_types.specs.declared.report.Report.{Report};

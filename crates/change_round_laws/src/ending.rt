@@ -1,8 +1,8 @@
 //! Stops come to an end in rounds.
 
 ghost use Rattle.std.specs.Prelude.{List};
-ghost use Rattle.change_law.specs.Serial.{Serial};
-ghost use Rattle.change_law.specs.Statements.{Statement};
+ghost use Rattle.change_spec.specs.Serial.{Serial};
+ghost use Rattle.change_spec.specs.Statements.{Statement};
 ghost use Rattle.report_types.specs.declared.report.Report.{Report};
 ghost use Rattle.change_round_laws.specs.Existing.{StopsEnd};
 ghost use Rattle.change_round_laws.specs.SoundStatements.{AreSound};
@@ -21,7 +21,7 @@ pub fn stops_come_to_an_end()
     rest_bounds_all();
 }
 
-/// The statements of a sound script have a report of rounds. That there is one at most is a law of change_law.
+/// The statements of a sound script have a report of rounds. That there is one at most is a law of change_spec.
 pub fn a_sound_script_has_a_report()
     ensures exists { (statements : List Statement) → AreSound statements
         → (report : Report) × Serial statements report }

@@ -2,9 +2,9 @@
 
 ghost use Rattle.std.specs.Prelude.{◌≡◌, ℕ, true, List};
 ghost use Rattle.std.specs.List.{list_any};
-ghost use Rattle.change_law.specs.Lawful.{IsLawfulBy};
-ghost use Rattle.change_law.specs.Members.{Member, events};
-ghost use Rattle.change_law.specs.Statements.{Statement};
+ghost use Rattle.change_spec.specs.Lawful.{IsLawfulBy};
+ghost use Rattle.change_spec.specs.Members.{Member, events};
+ghost use Rattle.change_spec.specs.Statements.{Statement};
 ghost use Rattle.report_types.specs.declared.report.Report.{Report};
 ghost use Rattle.quiesce_core.specs.Runs.{is_begin_of};
 ghost use Rattle.change_round_laws.specs.Engaged.{IsInTwoLogs};

@@ -1,9 +1,9 @@
 //! Plans of sound scripts.
 
 ghost use Rattle.std.specs.Prelude.{◌≡◌, true, List, length};
-ghost use Rattle.change_law.specs.Planning.{can_be_planned};
-ghost use Rattle.change_law.specs.Serial.{Serial};
-ghost use Rattle.change_law.specs.Statements.{Statement};
+ghost use Rattle.change_spec.specs.Planning.{can_be_planned};
+ghost use Rattle.change_spec.specs.Serial.{Serial};
+ghost use Rattle.change_spec.specs.Statements.{Statement};
 ghost use Rattle.change_plan.specs.Moves.{MayMoveAll};
 ghost use Rattle.change_plan.specs.declared.plan_data.Move.{Move};
 ghost use Rattle.report_types.specs.declared.report.Report.{Report};

@@ -1,19 +1,19 @@
 //! What the report of the rounds is.
 
 ghost use Rattle.std.specs.Prelude.{ℕ, List, IsTrue};
-ghost use Rattle.change_law.specs.Follows.{Follows};
-ghost use Rattle.change_law.specs.Lawful.{LawfulInRounds};
-ghost use Rattle.change_law.specs.Serial.{Serial, run_ends};
-ghost use Rattle.change_law.specs.Statements.{Statement};
+ghost use Rattle.change_spec.specs.Follows.{Follows};
+ghost use Rattle.change_spec.specs.Lawful.{LawfulInRounds};
+ghost use Rattle.change_spec.specs.Serial.{Serial, run_ends};
+ghost use Rattle.change_spec.specs.Statements.{Statement};
 ghost use Rattle.report_types.specs.declared.report.Report.{Report};
 ghost use Rattle.change_round_laws.specs.SoundStatements.{AreSound};
 ghost use Rattle.node_turn_laws.specs.Reached.{IsReached};
 ghost use Rattle.node_turn_laws.specs.World.{World};
 
-use change_law::{
+use change_plan_laws::{commits_can_not_fail, commits_leave_the_new_graph, each_plan_may_commit};
+use change_spec::{
     a_moved_state_is_the_last_one, changes_find_nodes_quiescent, nothing_is_open_at_the_end,
 };
-use change_plan_laws::{commits_can_not_fail, commits_leave_the_new_graph, each_plan_may_commit};
 use quiesce_laws::rest_falls_by_steps;
 
 /// The report of the rounds of a sound script follows the script, and is lawful in rounds. The one list that is said to

@@ -4,11 +4,11 @@ ghost use Rattle.std.specs.Prelude.{◌≡◌, ℕ, ℤ, List, Option, Some};
 ghost use Rattle.config_graph.specs.Graph.{Graph};
 ghost use Rattle.change_script.specs.ScriptFiles.{IsScript};
 ghost use Rattle.report_types.specs.declared.script.Script.{Script};
-ghost use Rattle.change_law.specs.Asked.{CanDoAll, CanStart, after_start, statements_of};
-ghost use Rattle.change_law.specs.Scripts.{StatementsOf};
-ghost use Rattle.change_law.specs.Statements.{Statement};
-ghost use Rattle.change_law.specs.declared.steps.Start.{Start};
-ghost use Rattle.change_law.specs.declared.steps.Step.{Step};
+ghost use Rattle.change_spec.specs.Asked.{CanDoAll, CanStart, after_start, statements_of};
+ghost use Rattle.change_spec.specs.Scripts.{StatementsOf};
+ghost use Rattle.change_spec.specs.Statements.{Statement};
+ghost use Rattle.change_spec.specs.declared.steps.Start.{Start};
+ghost use Rattle.change_spec.specs.declared.steps.Step.{Step};
 ghost use Rattle.change_round_laws.specs.SoundStatements.{AreSound, IsSoundGraph, elaborates_by};
 
 /// A script has at most one list of statements, where each description elaborates to at most one graph.

@@ -2,8 +2,8 @@
 
 ghost use Rattle.std.specs.Prelude.{◌≡◌, ℕ, ◌≤◌, false, List, []};
 ghost use Rattle.base.specs.Each.{Each};
-ghost use Rattle.change_law.specs.Serial.{Serial};
-ghost use Rattle.change_law.specs.Statements.{Statement};
+ghost use Rattle.change_spec.specs.Serial.{Serial};
+ghost use Rattle.change_spec.specs.Statements.{Statement};
 ghost use Rattle.report_types.specs.declared.report.Report.{Report};
 ghost use Rattle.node_turn_laws.specs.Posted.{ArePosted};
 ghost use Rattle.quiesce_core.specs.Rest.{rest};

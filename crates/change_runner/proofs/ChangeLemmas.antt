@@ -3,14 +3,14 @@ use Rattle.std.proofs.Common.{◌≡◌, ◌∙◌, ℕ, ◌<◌, Option, None, 
 use Rattle.std.specs.Prelude.{◌||◌, flat_map, is_some}
 use Rattle.std.specs.List.{sum_by}
 use Rattle.std.proofs.lemmas.Bool.{both_ways}
-use Rattle.quiesce_commit_laws.specs.Steps.{change_all}
+use Rattle.quiesce_laws.specs.Steps.{change_all}
 use Rattle.config_graph.specs.Graph.{requires_at}
 use Rattle.change_plan_laws.specs.Commit.{commit_events, ports_to_close}
 use Rattle.change_plan_laws.specs.Committing.{made_in}
 use Rattle.quiesce_core.specs.Live.{IsGraphOf}
 use Rattle.quiesce_core.specs.declared.event.Event.TheVariants as event
 use Rattle.report_types.specs.declared.report.HistoryLine.TheVariants as to
-use Rattle.change_law.specs.Scripts.{more_made}
+use Rattle.change_spec.specs.Scripts.{more_made}
 use Rattle.change_board.specs.Steps.{events_of}
 use Rattle.change_board.specs.Transcripts.{Item, said}
 use Rattle.change_engine.specs.Calls.{HasAbandoned, HasCommitted, HasLeft, HasPassivated, HasPrepared}
@@ -27,8 +27,8 @@ use Rattle.change_transcript_laws.proofs.PendingLaws.{commit_none, config_opened
 use Rattle.change_transcript_laws.proofs.RoomLaws.{closes_make, commit_makes}
 use Rattle.change_runner.specs.Doing.{Carried, is_given_up}
 use Rattle.change_runner.specs.Replacing.{HasGivenUp, HasReplaced, Replaced, WentThrough}
-use Rattle.change_law.specs.declared.steps.Replacement.{Replacement}
-use Rattle.change_law.specs.declared.steps.Step.TheVariants as steps
+use Rattle.change_spec.specs.declared.steps.Replacement.{Replacement}
+use Rattle.change_spec.specs.declared.steps.Step.TheVariants as steps
 use Rattle.change_board.specs.declared.board.Board.{Ghosts as BoardWords}
 use Rattle.change_runner.proofs.DoingLemmas.{kept}
 

@@ -16,8 +16,8 @@ use Rattle.change_transcript_laws.proofs.ConfigLaws.{finish_config, run_config, 
 use Rattle.change_transcript_laws.proofs.HearingLaws.{quiet_commits_none}
 use Rattle.change_transcript_laws.proofs.PendingLaws.{pending_both, quiet_none}
 use Rattle.change_runner.specs.Doing.{Carried, is_given_up}
-use Rattle.change_law.specs.declared.steps.Replacement.{Replacement}
-use Rattle.change_law.specs.declared.steps.Step.TheVariants as steps
+use Rattle.change_spec.specs.declared.steps.Replacement.{Replacement}
+use Rattle.change_spec.specs.declared.steps.Step.TheVariants as steps
 use Rattle.std.proofs.Math.Bool.{or-false}
 
 pub kept : (t u : List Item) → is_given_up u ≡ false → is_given_up (t ++ u) ≡ is_given_up t

@@ -10,8 +10,8 @@ use Rattle.report_types.specs.declared.report.HistoryLine.{HistoryLine}
 use Rattle.report_types.specs.declared.report.HistoryLine.TheVariants as to
 use Rattle.report_types.specs.declared.report.NodeLog.{NodeLog}
 use Rattle.report_types.specs.declared.report.Report.{Report}
-use Rattle.change_law.specs.Members.{made_slot}
-use Rattle.change_law.specs.Statements.{Statement}
+use Rattle.change_spec.specs.Members.{made_slot}
+use Rattle.change_spec.specs.Statements.{Statement}
 use Rattle.txn_records.specs.declared.entry.Entry.{Entry}
 use Rattle.txn_records.specs.Records.{IsRecord}
 use Rattle.change_board.specs.Transcripts.{entries}

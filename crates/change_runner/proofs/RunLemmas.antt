@@ -5,7 +5,7 @@ use Rattle.std.specs.List.{range_with_len}
 use Rattle.std.proofs.lemmas.Bool.{or_parts}
 use Rattle.std.proofs.lemmas.List.{append-nil, map-append}
 use Rattle.base.proofs.EachLaws.{each_pushed}
-use Rattle.quiesce_commit_laws.specs.Steps.{change_all}
+use Rattle.quiesce_laws.specs.Steps.{change_all}
 use Rattle.change_plan.specs.Plans.{IsPlanOf}
 use Rattle.change_plan.specs.Refusals.{CanPlan}
 use Rattle.change_plan_laws.specs.Committing.{made_in}
@@ -13,7 +13,7 @@ use Rattle.quiesce_core.specs.Live.{IsGraphOf}
 use Rattle.quiesce_core.specs.State.{Configuration, empty}
 use Rattle.report_types.specs.declared.report.NodeLog.{NodeLog}
 use Rattle.report_types.specs.declared.report.Report.{Report}
-use Rattle.change_law.specs.Statements as statements
+use Rattle.change_spec.specs.Statements as statements
 use Rattle.change_board.specs.Collecting.{IsEndOf, first_undone}
 use Rattle.txn_records.specs.Entries.{config_of}
 use Rattle.change_board.specs.Transcripts.{Item, entries, lines}
@@ -24,19 +24,19 @@ use Rattle.change_engine.specs.Ending.{unfinished_after}
 use Rattle.change_engine.specs.Engines.{IsIdle}
 use Rattle.change_engine.specs.declared.engine.Engine.{Engine}
 use Rattle.config_graph.specs.Graph.{Graph}
-use Rattle.change_transcript_laws.specs.Hearing.{AreCommitted}
+use Rattle.change_spec.specs.Heard.{AreCommitted}
 use Rattle.change_transcript_laws.specs.Pieces.{AreDone, IsDone, Piece, config_at, items_of}
 use Rattle.change_transcript_laws.proofs.ConfigLaws.{sights_behind, sights_config, sights_lines, start_config}
 use Rattle.change_transcript_laws.proofs.HearingLaws.{heard_next, none_committed, start_commits, stop_committed}
 use Rattle.change_transcript_laws.proofs.PendingLaws.{pending_both, start_none}
 use Rattle.change_transcript_laws.proofs.RoomLaws.{start_makes, wanted_as_planned}
-use Rattle.change_law.specs.Asked.{Above, CanDoAll, after_change, after_start, statement_of, statements_of}
+use Rattle.change_spec.specs.Asked.{Above, CanDoAll, after_change, after_start, statement_of, statements_of}
 use Rattle.change_runner.specs.Doing.{Carried, IsReady, is_given_up, made_behind}
 use Rattle.change_runner.specs.Hearing.{Hears, committed_in}
 use Rattle.change_runner.specs.Ran.{HasCarriedOut}
-use Rattle.change_law.specs.declared.steps.Start.{Start}
-use Rattle.change_law.specs.declared.steps.Step.{Step}
-use Rattle.change_law.specs.declared.steps.Step.TheVariants as steps
+use Rattle.change_spec.specs.declared.steps.Start.{Start}
+use Rattle.change_spec.specs.declared.steps.Step.{Step}
+use Rattle.change_spec.specs.declared.steps.Step.TheVariants as steps
 use Rattle.change_transcript_laws.proofs.FollowLaws.{items_pushed}
 use Rattle.change_board.specs.declared.board.Board.{Ghosts as BoardWords}
 use Rattle.change_engine.specs.Stopping.{stop_items}

@@ -4,16 +4,16 @@ use Rattle.std.specs.List.{list_any}
 use Rattle.config_graph.specs.Graph.{Graph}
 use Rattle.config_graph.specs.declared.node.Made.{Made}
 use Rattle.change_plan_laws.specs.Committing.{made_in}
-use Rattle.change_law.specs.Members.{is_pending}
+use Rattle.change_spec.specs.Members.{is_pending}
 use Rattle.change_board.specs.declared.board.Board.{Ghosts as BoardWords}
 use Rattle.change_board.specs.Transcripts.{Item, lines}
 use Rattle.change_engine.specs.Engines.{IsIdle, IsPlanned}
 use Rattle.change_engine.specs.declared.engine.Engine.{Engine}
 use Rattle.change_transcript_laws.specs.Hearing.{IsHeard}
 use Rattle.change_transcript_laws.specs.Pieces.{IsDone, config_at}
-use Rattle.change_law.specs.Asked.{graph_behind, made_with_change, statement_of}
-use Rattle.change_law.specs.declared.steps.Step.{Step}
-use Rattle.change_law.specs.declared.steps.Step.TheVariants as steps
+use Rattle.change_spec.specs.Asked.{graph_behind, made_with_change, statement_of}
+use Rattle.change_spec.specs.declared.steps.Step.{Step}
+use Rattle.change_spec.specs.declared.steps.Step.TheVariants as steps
 use Rattle.change_runner.specs.Hearing.{committed_in}
 
 -- whether a change was given up

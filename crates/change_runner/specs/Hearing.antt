@@ -1,8 +1,8 @@
 -- What a listener hears of a step.
 use Rattle.std.specs.Prelude.{Bool, true, false, List, [], ◌∷◌, ◌++◌, Option, None, Some}
 use Rattle.config_graph.specs.Graph.{Graph}
-use Rattle.change_law.specs.declared.steps.Step.{Step}
-use Rattle.change_law.specs.declared.steps.Step.TheVariants as steps
+use Rattle.change_spec.specs.declared.steps.Step.{Step}
+use Rattle.change_spec.specs.declared.steps.Step.TheVariants as steps
 
 -- it heard of this graph, behind all that it had heard of; or of nothing
 abbrev pub Hears : {L : Type 0} → (L → List Graph → Type 0) → L → L → Option Graph → Type 0

@@ -2,8 +2,8 @@
 -- transcript.
 use Rattle.std.specs.Prelude.{◌≡◌, List, map, length, All}
 use Rattle.std.specs.List.{range_with_len}
-use Rattle.change_law.specs.Endings.{status_of}
-use Rattle.change_law.specs.Statements.{Statement}
+use Rattle.change_spec.specs.Endings.{status_of}
+use Rattle.change_spec.specs.Statements.{Statement}
 use Rattle.report_types.specs.declared.report.NodeLog.{NodeLog}
 use Rattle.report_types.specs.declared.report.Report.{Report}
 use Rattle.change_board.specs.Collecting.{IsEndOf, first_undone}

@@ -4,9 +4,9 @@ use Rattle.std.specs.List.{list_any}
 use Rattle.config_graph.specs.Graph.{Graph}
 use Rattle.change_plan.specs.declared.plan_data.Plan.{Plan}
 use Rattle.change_plan_laws.specs.Committing.{made_in}
-use Rattle.change_law.specs.Asked.{made_with_change}
-use Rattle.change_law.specs.Members.{is_pending}
-use Rattle.change_law.specs.declared.steps.Replacement.{Replacement}
+use Rattle.change_spec.specs.Asked.{made_with_change}
+use Rattle.change_spec.specs.Members.{is_pending}
+use Rattle.change_spec.specs.declared.steps.Replacement.{Replacement}
 use Rattle.report_types.specs.declared.report.HistoryLine.TheVariants as to
 use Rattle.change_board.specs.declared.board.Board.{Ghosts as BoardWords}
 use Rattle.change_board.specs.Steps.{Deed}

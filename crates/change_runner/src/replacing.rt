@@ -10,8 +10,8 @@ ghost use Rattle.change_runner.specs.Replacing.{Replaced, WentThrough};
 
 use change_board::Board;
 use change_engine::{Engine, LeftRoot, PassError};
-use change_law::Replacement;
 use change_plan::Plan;
+use change_spec::Replacement;
 use config_graph::{Graph, List, NoMemory};
 use std::alloc::AllocError;
 

@@ -4,20 +4,20 @@ ghost use Rattle.std.specs.Prelude.{◌≡◌, true, false, List, [], Some, IfOk
 ghost use Rattle.change_board.specs.Transcripts.{Item};
 ghost use Rattle.change_engine.specs.Engines.{IsIdle};
 ghost use Rattle.config_graph.specs.Graph.{Graph};
-ghost use Rattle.change_law.specs.Follows.{Follows};
+ghost use Rattle.change_spec.specs.Follows.{Follows};
 ghost use Rattle.report_writing.specs.Reports.{LogsAreMade};
-ghost use Rattle.change_law.specs.Asked.{CanDoAll, CanStart, after_start, statements_of};
-ghost use Rattle.change_transcript_laws.specs.Hearing.{AreCommitted};
+ghost use Rattle.change_spec.specs.Asked.{CanDoAll, CanStart, after_start, statements_of};
+ghost use Rattle.change_spec.specs.Heard.{AreCommitted};
 ghost use Rattle.change_runner.specs.Doing.{Carried, IsReady, is_given_up};
 ghost use Rattle.change_runner.specs.Hearing.{Hears, committed_by, committed_in};
 ghost use Rattle.change_runner.specs.Ran.{HasCarriedOut};
-ghost use Rattle.change_law.specs.declared.steps.Step.TheVariants as to_do;
+ghost use Rattle.change_spec.specs.declared.steps.Step.TheVariants as to_do;
 
 use crate::hearing::Listener;
 use crate::replacing::replace;
 use change_board::Board;
 use change_engine::Engine;
-use change_law::{Replacement, Start, Step};
+use change_spec::{Replacement, Start, Step};
 use change_transcript_laws::transcripts_follow_their_scripts;
 use config_graph::{Graph, NoMemory};
 use report_types::Report;

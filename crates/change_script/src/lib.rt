@@ -26,10 +26,10 @@ pub use laws::{
     a_written_line_means_its_event, names_are_those_of_the_language, one_file_or_one_fault,
     words_are_longest,
 };
+pub use lines::{is_statement, trimmed};
 pub use numbers::{has_only_digits, value_within};
 pub use report_types::{Body, HistoryLine, Last, NodeLog, Report, Script, ScriptLine};
 pub use report_writing::report_text;
-pub use lines::{is_statement, trimmed};
 pub use script_files::{MAX_STATEMENTS, parse_script};
 pub use script_laws::{
     a_written_statement_means_itself, lines_mean_what_their_forms_say, one_script_or_one_fault,

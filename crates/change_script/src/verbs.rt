@@ -4,8 +4,7 @@ ghost use Rattle.std.specs.Prelude.{◌≡◌};
 ghost use Rattle.change_script.specs.EventLines.{owner_bytes, owner_event, single_bytes, single_event, target_bytes, target_event, event_verb_bytes, event_verb_named};
 
 use crate::event_lines::Triple;
-use node_events::{Deed, Message, NodeEvent};
-use quiesce_core::Event;
+use quiesce_core::{Deed, Event, Message, NodeEvent};
 
 /// A step of a transaction that the owner of its port makes: PORT SERIAL VALUE follow.
 #[derive(Clone, Copy, Debug, PartialEq, Eq)]

@@ -20,7 +20,7 @@ use Rattle.quiesce_word.specs.Words as words
 use Rattle.quiesce_word.specs.declared.word.Word.{Word}
 use Rattle.change_board.specs.Scans.{Found, IsSeenTwice, is_as_long, is_idle_if_live, is_seen_as_before, live_nodes, look_entry, ports_of, scan_entries}
 use Rattle.change_board.specs.Sights.{Sight, is_seen_done, seen_in, sight_entry}
-use Rattle.change_law.specs.Lawful.{is_idle_after}
+use Rattle.change_spec.specs.Lawful.{is_idle_after}
 use Rattle.quiesce_core.specs.Fields.{fields_of}
 use Rattle.quiesce_core.specs.Rules.{is_live_port}
 use Rattle.quiesce_core.specs.Runs.{IsRun, done_by, state_after}

@@ -3,7 +3,7 @@ use Rattle.std.proofs.Common.{Bool, false, true, List, [], ◌∷◌, ◌++◌, 
 use Rattle.std.proofs.lemmas.Bool.{both_ways}
 use Rattle.base.specs.Each.{EachAfter}
 use Rattle.base.proofs.EachLaws.{each_weaker}
-use Rattle.change_law.specs.Statements.{Statement}
+use Rattle.change_spec.specs.Statements.{Statement}
 use Rattle.report_types.specs.declared.report.HistoryLine.{HistoryLine}
 use Rattle.report_types.specs.declared.report.HistoryLine.TheVariants as to
 use Rattle.report_types.specs.declared.report.Report.{Report}

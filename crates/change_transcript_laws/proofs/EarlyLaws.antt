@@ -8,7 +8,7 @@ use Rattle.std.proofs.lemmas.List.Elements.{All-tail, filter-append}
 use Rattle.base.specs.Each.{Each}
 use Rattle.base.proofs.EachLaws.{each_at}
 use Rattle.base.proofs.PlaceLaws.{tails_are}
-use Rattle.quiesce_commit_laws.specs.Steps.{is_shaping}
+use Rattle.quiesce_laws.specs.Steps.{is_shaping}
 use Rattle.quiesce_core.specs.Doers.{is_of_change}
 use Rattle.quiesce_core.specs.Runs.{IsRun, state_after}
 use Rattle.quiesce_core.specs.State.{Configuration}
@@ -21,11 +21,11 @@ use Rattle.txn_records.specs.Records.{IsRecordOf, Moment}
 use Rattle.txn_records.proofs.RecordLaws.{config_is}
 use Rattle.change_board.specs.Transcripts as transcripts
 use Rattle.change_board.specs.Transcripts.{Item, entries}
-use Rattle.change_law.specs.Follows.{Follows}
-use Rattle.change_law.specs.Lawful.{IsOfItsKind, Merge, unfinished_of}
-use Rattle.change_law.specs.Members.{Member, by_node, event_of, events, is_commit, is_root, lines, of_history, without_roots}
-use Rattle.change_law.specs.Statements.{Statement}
-use Rattle.change_law.proofs.MemberLaws.{all_parts, at_line, events_of_nodes, events_parts, events_without_roots, lines_parts, none_happens}
+use Rattle.change_spec.specs.Follows.{Follows}
+use Rattle.change_spec.specs.Lawful.{IsOfItsKind, Merge, unfinished_of}
+use Rattle.change_spec.specs.Members.{Member, by_node, event_of, events, is_commit, is_root, lines, of_history, without_roots}
+use Rattle.change_spec.specs.Statements.{Statement}
+use Rattle.change_spec.proofs.MemberLaws.{all_parts, at_line, events_of_nodes, events_parts, events_without_roots, lines_parts, none_happens}
 use Rattle.change_transcript_laws.specs.Pieces.{IsTranscript, config_at}
 use Rattle.change_transcript_laws.specs.Reports.{IsReportOfTranscript}
 use Rattle.change_transcript_laws.specs.Rests.{AreByNodes, AreCalm, FinishedEarly, HaveFolds, RestedAtOnce, RestedIfShort}

@@ -2,10 +2,10 @@
 use Rattle.std.proofs.Common.{◌≡◌, ◌∙◌, ℕ, zero, suc, ◌<◌, List, [], ◌∷◌, map, length, get_or, Some, refl, sym, ap, subst, arith}
 use Rattle.std.specs.Prelude.{All, slice_get}
 use Rattle.std.specs.List.{range_with_len}
-use Rattle.change_law.specs.Endings.{moved_to}
-use Rattle.change_law.specs.Lawful.{IsFolded}
-use Rattle.change_law.specs.Members.{Member, events}
-use Rattle.change_law.specs.Opening.{fold_of_node}
+use Rattle.change_spec.specs.Endings.{moved_to}
+use Rattle.change_spec.specs.Lawful.{IsFolded}
+use Rattle.change_spec.specs.Members.{Member, events}
+use Rattle.change_spec.specs.Opening.{fold_of_node}
 use Rattle.report_types.specs.declared.report.HistoryLine.{HistoryLine}
 use Rattle.report_types.specs.declared.report.NodeLog.{NodeLog}
 use Rattle.quiesce_core.specs.Runs.{state_after}
@@ -13,7 +13,7 @@ use Rattle.quiesce_core.proofs.TableLaws.{live_made}
 use Rattle.std.proofs.lemmas.Option.{none-some, same_Some}
 use Rattle.change_transcript_laws.specs.Rests.{HaveFolds}
 use Rattle.base.proofs.RangeLaws.{range_at}
-use Rattle.change_law.proofs.MemberLaws.{ended_there}
+use Rattle.change_spec.proofs.MemberLaws.{ended_there}
 
 log_at : (xs : List NodeLog) (i n : ℕ) → slice_get (map (λ (l : NodeLog). l.slot) xs) i ≡ Some n → (l : NodeLog) × (i < length xs) × (get_or xs i l ≡ l) × (l.slot ≡ n)
 log_at [] i n h = absurd (none-some n h)

@@ -9,10 +9,10 @@ use Rattle.change_plan.specs.declared.plan_data.Move.{Move}
 use Rattle.report_types.specs.declared.report.HistoryLine.{HistoryLine}
 use Rattle.report_types.specs.declared.report.HistoryLine.TheVariants as to
 use Rattle.report_types.specs.declared.report.Report.{Report}
-use Rattle.change_law.specs.Lawful.{unfinished_of}
-use Rattle.change_law.specs.Members as members
-use Rattle.change_law.specs.Members.{Member, is_pending}
-use Rattle.change_law.specs.Statements.{Statement, start, change, run, finish, show, is_finish}
+use Rattle.change_spec.specs.Lawful.{unfinished_of}
+use Rattle.change_spec.specs.Members as members
+use Rattle.change_spec.specs.Members.{Member, is_pending}
+use Rattle.change_spec.specs.Statements.{Statement, start, change, run, finish, show, is_finish}
 use Rattle.change_board.specs.Collecting.{first_undone}
 use Rattle.txn_records.specs.Records.{IsRecordOf, Moment}
 use Rattle.change_board.specs.Scans.{look_entry}

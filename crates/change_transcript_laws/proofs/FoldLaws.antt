@@ -15,11 +15,11 @@ use Rattle.report_types.specs.declared.report.HistoryLine.{HistoryLine}
 use Rattle.report_types.specs.declared.report.HistoryLine.TheVariants as to
 use Rattle.report_types.specs.declared.report.NodeLog.{NodeLog}
 use Rattle.report_types.specs.declared.report.Report.{Report}
-use Rattle.change_law.specs.Endings.{is_made_from, moved_to}
-use Rattle.change_law.specs.Lawful.{EndsAs, IsFolded, is_unfinished}
-use Rattle.change_law.specs.Members as members
-use Rattle.change_law.specs.Members.{Member, event_of, made_slot}
-use Rattle.change_law.specs.Opening.{fold_of_node}
+use Rattle.change_spec.specs.Endings.{is_made_from, moved_to}
+use Rattle.change_spec.specs.Lawful.{EndsAs, IsFolded, is_unfinished}
+use Rattle.change_spec.specs.Members as members
+use Rattle.change_spec.specs.Members.{Member, event_of, made_slot}
+use Rattle.change_spec.specs.Opening.{fold_of_node}
 use Rattle.change_board.specs.Collecting.{IsEndOf, first_undone, heir_of, is_undone}
 use Rattle.txn_records.specs.Records as records
 use Rattle.txn_records.specs.Records.{IsRecordOf, Moment}

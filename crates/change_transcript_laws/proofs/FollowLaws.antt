@@ -12,8 +12,8 @@ use Rattle.base.specs.Each.{EachAfter}
 use Rattle.config_graph.specs.Graph.{Graph}
 use Rattle.change_plan.specs.declared.plan_data.Move.{Move}
 use Rattle.change_plan.specs.declared.plan_data.Plan.{Plan}
-use Rattle.quiesce_commit_laws.specs.Steps.{change_all, live_ports}
-use Rattle.quiesce_commit_laws.specs.Work as work_
+use Rattle.quiesce_laws.specs.Steps.{change_all, live_ports}
+use Rattle.quiesce_laws.specs.Work as work_
 use Rattle.change_plan_laws.specs.Commit.{commit_events, commit_steps, new_links, ports_to_close, reopened_ports, work}
 use Rattle.quiesce_laws.specs.Starts.{start_of}
 use Rattle.quiesce_core.specs.Doers.{is_of_change}
@@ -23,12 +23,12 @@ use Rattle.quiesce_core.specs.declared.event.Event.{Event}
 use Rattle.quiesce_core.specs.declared.event.Event.TheVariants.{Reopen, Unlink, Remove}
 use Rattle.report_types.specs.declared.report.HistoryLine.{HistoryLine}
 use Rattle.report_types.specs.declared.report.HistoryLine.TheVariants as to
-use Rattle.change_law.specs.Changes as law
-use Rattle.change_law.specs.Changes.{IsChange, drained_lines, opening_lines, seen_in_all}
-use Rattle.change_law.specs.Follows.{Follows, IsRight, IsStop, Part, lines_of, start_lines}
-use Rattle.change_law.specs.Members.{event_of, is_pending, lines_of_events}
-use Rattle.change_law.specs.Scene.{AreSeen, Seen, config_after, drained_line, root_line}
-use Rattle.change_law.specs.Statements.{Statement, start, change, run, finish, show}
+use Rattle.change_spec.specs.Changes as law
+use Rattle.change_spec.specs.Changes.{IsChange, drained_lines, opening_lines, seen_in_all}
+use Rattle.change_spec.specs.Follows.{Follows, IsRight, IsStop, Part, lines_of, start_lines}
+use Rattle.change_spec.specs.Members.{event_of, is_pending, lines_of_events}
+use Rattle.change_spec.specs.Scene.{AreSeen, Seen, config_after, drained_line, root_line}
+use Rattle.change_spec.specs.Statements.{Statement, start, change, run, finish, show}
 use Rattle.txn_records.specs.declared.entry.Entry.{Entry}
 use Rattle.change_board.specs.Steps.{Deed, events_of}
 use Rattle.change_board.specs.Transcripts.{Item, said, lines}
@@ -41,10 +41,10 @@ use Rattle.change_engine.specs.Draining.{pending_items}
 use Rattle.change_transcript_laws.specs.Pieces.{AreCommitItems, IsDone, AreAbandonItems, AreStartItems, AreStopItems, IsTranscript, AreChangeItems, Piece, config_at, items_of, opening_items, IsDonePiece}
 use Rattle.change_transcript_laws.proofs.ItemLemmas.{AreFair, fair_both, fair_config, fair_deeds, fair_passivation, fair_run, fair_scans, fair_sights, fair_roots}
 use Rattle.change_transcript_laws.proofs.LookLemmas.{all_are_seen, looks_are, none_left_seen}
-use Rattle.change_law.proofs.PortLaws.{closed_events, closing_rise, config_more, no_events_drained, still_to_close}
+use Rattle.change_spec.proofs.PortLaws.{closed_events, closing_rise, config_more, no_events_drained, still_to_close}
 use Rattle.change_engine.proofs.ItemLaws.{lines_both, silent_lines, sight_lines, carried_lines, all_mapped, start_is_of_change}
 use Rattle.change_engine.proofs.PassivationLaws.{looks_of, passivation_lines, seen_root, root_lines}
-use Rattle.change_law.proofs.ClosingLaws.{reopen_lines}
+use Rattle.change_spec.proofs.ClosingLaws.{reopen_lines}
 use Rattle.change_engine.specs.Stopping.{stop_items}
 
 -- ---- the events of commits are all the change's

@@ -21,12 +21,12 @@ use Rattle.quiesce_core.specs.declared.event.Event.{Event}
 use Rattle.quiesce_core.specs.declared.event.Event.TheVariants as event
 use Rattle.report_types.specs.declared.report.HistoryLine.{HistoryLine}
 use Rattle.report_types.specs.declared.report.HistoryLine.TheVariants as to
-use Rattle.change_law.specs.Changes.{drained_lines, seen_in_all}
-use Rattle.change_law.specs.Lawful.{IsGraphAt, described, is_head}
-use Rattle.change_law.specs.Members as members
-use Rattle.change_law.specs.Members.{Member, by_node, of_history, is_pending, is_root, line_of, lines_of_events, without_roots}
-use Rattle.change_law.specs.Scene.{drained_line}
-use Rattle.change_law.specs.Statements.{Statement, start, change, run, finish, show, graph_of}
+use Rattle.change_spec.specs.Changes.{drained_lines, seen_in_all}
+use Rattle.change_spec.specs.Lawful.{IsGraphAt, described, is_head}
+use Rattle.change_spec.specs.Members as members
+use Rattle.change_spec.specs.Members.{Member, by_node, of_history, is_pending, is_root, line_of, lines_of_events, without_roots}
+use Rattle.change_spec.specs.Scene.{drained_line}
+use Rattle.change_spec.specs.Statements.{Statement, start, change, run, finish, show, graph_of}
 use Rattle.txn_records.specs.declared.entry.Entry.{Entry}
 use Rattle.txn_records.specs.declared.entry.Entry.TheVariants.{Did, Looked, Sighted, Scanned}
 use Rattle.txn_records.specs.Looks.{is_drained_word, serial_of}

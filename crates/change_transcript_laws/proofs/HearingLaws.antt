@@ -12,13 +12,13 @@ use Rattle.base.proofs.MapLaws.{count_by-append}
 use Rattle.base.proofs.PlaceLaws.{heads_are, slice_get-append_front, tails_are}
 use Rattle.config_graph.specs.Graph.{Graph}
 use Rattle.config_graph.proofs.NumberingLaws.{slice_get-append_back}
-use Rattle.quiesce_commit_laws.specs.Steps.{change_all}
+use Rattle.quiesce_laws.specs.Steps.{change_all}
 use Rattle.quiesce_core.specs.Live.{IsGraphOf}
 use Rattle.quiesce_core.specs.State.{empty}
 use Rattle.report_types.specs.declared.report.HistoryLine.{HistoryLine}
 use Rattle.report_types.specs.declared.report.HistoryLine.TheVariants as to
-use Rattle.change_law.specs.Members.{event_of, is_commit}
-use Rattle.change_law.specs.Scene.{config_after}
+use Rattle.change_spec.specs.Members.{event_of, is_commit}
+use Rattle.change_spec.specs.Scene.{config_after}
 use Rattle.txn_records.specs.declared.entry.Entry.{Entry}
 use Rattle.change_board.specs.Steps.{Deed}
 use Rattle.change_board.specs.Transcripts.{Item, said, lines}
@@ -28,7 +28,8 @@ use Rattle.change_engine.specs.Passivating.{Passivation, silent_items}
 use Rattle.change_engine.specs.Stopping.{stop_items}
 use Rattle.change_engine.specs.declared.passivating.LeftRoot.{LeftRoot}
 use Rattle.change_engine.proofs.ItemLaws.{lines_both}
-use Rattle.change_transcript_laws.specs.Hearing.{AreCommitted, Commits, IsHeard, IsHeardBehind, commit_count}
+use Rattle.change_spec.specs.Heard.{AreCommitted, IsHeardBehind, commit_count}
+use Rattle.change_transcript_laws.specs.Hearing.{Commits, IsHeard}
 use Rattle.change_transcript_laws.specs.Pieces.{AreDone, Piece, config_at, items_of, opening_items}
 use Rattle.change_transcript_laws.proofs.FollowLaws.{fair_pieces, items_pushed}
 use Rattle.change_transcript_laws.proofs.ItemLemmas.{fair_config, is_aside}

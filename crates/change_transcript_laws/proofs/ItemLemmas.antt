@@ -5,7 +5,7 @@ use Rattle.std.specs.List.{cons_option, list_all}
 use Rattle.std.proofs.lemmas.Bool.{and_parts, both_ways}
 use Rattle.std.proofs.lemmas.List.Elements.{filter_map-append}
 use Rattle.std.proofs.lemmas.List.Sums.{fold-append}
-use Rattle.quiesce_commit_laws.specs.Steps.{change_all}
+use Rattle.quiesce_laws.specs.Steps.{change_all}
 use Rattle.quiesce_core.specs.Doers.{is_of_change}
 use Rattle.quiesce_core.specs.Effect.{change_next}
 use Rattle.quiesce_core.specs.State.{empty}
@@ -13,8 +13,8 @@ use Rattle.quiesce_core.specs.declared.event.Event.{Event}
 use Rattle.quiesce_core.specs.declared.event.Event.TheVariants.{Begin, Call, Take, Give, End, More, Ask, Hear, Miss, Close, Reopen, Make, Link, Unlink, Remove}
 use Rattle.report_types.specs.declared.report.HistoryLine.{HistoryLine}
 use Rattle.report_types.specs.declared.report.HistoryLine.TheVariants as to
-use Rattle.change_law.specs.Members.{event_of}
-use Rattle.change_law.specs.Scene.{config_after}
+use Rattle.change_spec.specs.Members.{event_of}
+use Rattle.change_spec.specs.Scene.{config_after}
 use Rattle.txn_records.specs.Entries.{config_of, event_in, events_in}
 use Rattle.txn_records.specs.declared.entry.Entry.{Entry}
 use Rattle.txn_records.specs.declared.entry.Entry.TheVariants.{Looked}

@@ -15,8 +15,8 @@ use Rattle.quiesce_core.specs.Runs.{IsRun}
 use Rattle.quiesce_core.proofs.RunLaws.{fronts_are_runs}
 use Rattle.report_types.specs.declared.report.HistoryLine.{HistoryLine}
 use Rattle.report_types.specs.declared.report.HistoryLine.TheVariants as to
-use Rattle.change_law.specs.Members as members
-use Rattle.change_law.specs.Members.{Member, event_of, is_root, without_roots}
+use Rattle.change_spec.specs.Members as members
+use Rattle.change_spec.specs.Members.{Member, event_of, is_root, without_roots}
 use Rattle.txn_records.specs.Entries.{event_in}
 use Rattle.txn_records.specs.declared.entry.Entry.{Entry}
 use Rattle.txn_records.specs.Records as records

@@ -18,9 +18,9 @@ use Rattle.quiesce_word.specs.Words as words
 use Rattle.quiesce_word.specs.declared.word.Word.{Word}
 use Rattle.report_types.specs.declared.report.HistoryLine.{HistoryLine}
 use Rattle.report_types.specs.declared.report.HistoryLine.TheVariants as to
-use Rattle.change_law.specs.Lawful.{IsDrainedAt, IsOfItsKind}
-use Rattle.change_law.specs.Members.{Member, by_node, of_history, is_root, line_of, without_roots}
-use Rattle.change_law.specs.Members as members
+use Rattle.change_spec.specs.Lawful.{IsDrainedAt, IsOfItsKind}
+use Rattle.change_spec.specs.Members.{Member, by_node, of_history, is_root, line_of, without_roots}
+use Rattle.change_spec.specs.Members as members
 use Rattle.txn_records.specs.declared.entry.Entry.{Entry}
 use Rattle.txn_records.specs.declared.entry.Entry.TheVariants.{Did, Looked, Sighted, Scanned}
 use Rattle.txn_records.specs.Looks.{is_drained_word, serial_of}

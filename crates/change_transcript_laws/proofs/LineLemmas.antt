@@ -7,9 +7,9 @@ use Rattle.quiesce_core.specs.declared.event.Event.{Event}
 use Rattle.quiesce_core.specs.declared.event.Event.TheVariants.{Close, Make, Link, Unlink, Remove, Reopen}
 use Rattle.report_types.specs.declared.report.HistoryLine.{HistoryLine}
 use Rattle.report_types.specs.declared.report.HistoryLine.TheVariants as to
-use Rattle.change_law.specs.Changes.{drained_lines, seen_in_all}
-use Rattle.change_law.specs.Members.{line_of, lines_of_events}
-use Rattle.change_law.specs.Scene.{drained_line}
+use Rattle.change_spec.specs.Changes.{drained_lines, seen_in_all}
+use Rattle.change_spec.specs.Members.{line_of, lines_of_events}
+use Rattle.change_spec.specs.Scene.{drained_line}
 use Rattle.txn_records.specs.declared.entry.Entry.{Entry}
 use Rattle.change_board.specs.Steps.{Deed, events_of}
 use Rattle.change_board.specs.Transcripts.{Item, said, lines}

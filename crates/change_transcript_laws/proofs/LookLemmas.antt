@@ -9,8 +9,8 @@ use Rattle.std.proofs.lemmas.List.Kept.{AllPairs-filter, AllPairs-from_increasin
 use Rattle.std.proofs.lemmas.List.Sums.{sum_by-cons}
 use Rattle.base.specs.Each.{EachAfter}
 use Rattle.base.proofs.MapLaws.{count_by-append}
-use Rattle.change_law.specs.Changes.{AreLooks, PortsRise, seen_in_all}
-use Rattle.change_law.specs.Scene.{AreSeen, Seen}
+use Rattle.change_spec.specs.Changes.{AreLooks, PortsRise, seen_in_all}
+use Rattle.change_spec.specs.Scene.{AreSeen, Seen}
 use Rattle.change_board.specs.Scans.{Found, ports_of}
 use Rattle.change_engine.specs.Passivating.{IsPassivation, IsRound, Passivation, WaitingRound, is_busy, left_after, root_of, root_ports, roots_of}
 use Rattle.change_engine.specs.declared.passivating.LeftRoot.{LeftRoot}

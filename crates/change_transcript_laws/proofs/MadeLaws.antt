@@ -8,7 +8,7 @@ use Rattle.std.proofs.lemmas.List.Elements.{filter_map-append}
 use Rattle.std.proofs.lemmas.List.FromFn.{length-range_with_len}
 use Rattle.std.proofs.lemmas.List.Sums.{sum_by-cons}
 use Rattle.base.proofs.RisingLaws as rising
-use Rattle.quiesce_commit_laws.specs.Steps.{change_all}
+use Rattle.quiesce_laws.specs.Steps.{change_all}
 use Rattle.config_graph.specs.Kinds.{row}
 use Rattle.config_graph.specs.declared.node.Node.{Node}
 use Rattle.quiesce_core.specs.Doers.{is_of_change}
@@ -23,7 +23,7 @@ use Rattle.quiesce_core.proofs.InductionLaws.{IsNext, along, unbarred, none_barr
 use Rattle.quiesce_core.proofs.RunLaws.{effect_config}
 use Rattle.report_types.specs.declared.report.HistoryLine.{HistoryLine}
 use Rattle.report_types.specs.declared.report.HistoryLine.TheVariants as to
-use Rattle.change_law.specs.Members.{event_of, made_slot}
+use Rattle.change_spec.specs.Members.{event_of, made_slot}
 
 -- how many nodes, and how many ports, an event makes
 abbrev pub nodes_made : Event → ℕ

@@ -9,8 +9,8 @@ use Rattle.quiesce_core.specs.State.{Configuration}
 use Rattle.quiesce_core.specs.declared.event.Event.{Event}
 use Rattle.report_types.specs.declared.report.NodeLog.{NodeLog}
 use Rattle.report_types.specs.declared.report.Report.{Report}
-use Rattle.change_law.specs.Lawful.{Merge}
-use Rattle.change_law.specs.Members.{Member, made_slot, without_roots}
+use Rattle.change_spec.specs.Lawful.{Merge}
+use Rattle.change_spec.specs.Members.{Member, made_slot, without_roots}
 use Rattle.txn_records.specs.Records as records
 use Rattle.txn_records.specs.Records.{IsRecordOf, Moment}
 use Rattle.change_board.specs.Transcripts.{Item, entries, lines}

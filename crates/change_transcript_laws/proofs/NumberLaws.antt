@@ -23,9 +23,9 @@ use Rattle.quiesce_core.specs.declared.event.Event.TheVariants as event
 use Rattle.quiesce_core.proofs.RunLaws.{fronts_are_runs}
 use Rattle.report_types.specs.declared.report.HistoryLine.{HistoryLine}
 use Rattle.report_types.specs.declared.report.HistoryLine.TheVariants as to
-use Rattle.change_law.specs.Lawful.{EndedSince, IsEndedAt}
-use Rattle.change_law.specs.Members.{Member, by_node, of_history, is_pending, line_of}
-use Rattle.change_law.specs.Statements.{Statement, start, change, run, finish, show}
+use Rattle.change_spec.specs.Lawful.{EndedSince, IsEndedAt}
+use Rattle.change_spec.specs.Members.{Member, by_node, of_history, is_pending, line_of}
+use Rattle.change_spec.specs.Statements.{Statement, start, change, run, finish, show}
 use Rattle.txn_records.specs.declared.entry.Entry.{Entry}
 use Rattle.txn_records.specs.declared.entry.Entry.TheVariants.{Did, Looked, Sighted, Scanned}
 use Rattle.txn_records.specs.Looks.{ended_in_word, is_drained_word, serial_of}

@@ -28,10 +28,10 @@ use Rattle.quiesce_laws.specs.Roots.{has_root}
 use Rattle.quiesce_laws.proofs.RootLaws.{closed_stays, root_since, closed_by}
 use Rattle.report_types.specs.declared.report.HistoryLine.{HistoryLine}
 use Rattle.report_types.specs.declared.report.HistoryLine.TheVariants as to
-use Rattle.change_law.specs.Lawful.{IsOfItsKind, StoodOpen}
-use Rattle.change_law.specs.Members as members
-use Rattle.change_law.specs.Members.{Member, of_history, event_of, is_close, is_root, without_roots}
-use Rattle.change_law.proofs.MemberLaws.{all_parts, events_parts, events_without_roots, none_happens}
+use Rattle.change_spec.specs.Lawful.{IsOfItsKind, StoodOpen}
+use Rattle.change_spec.specs.Members as members
+use Rattle.change_spec.specs.Members.{Member, of_history, event_of, is_close, is_root, without_roots}
+use Rattle.change_spec.proofs.MemberLaws.{all_parts, events_parts, events_without_roots, none_happens}
 use Rattle.txn_records.specs.declared.entry.Entry.{Entry}
 use Rattle.txn_records.specs.declared.entry.Entry.TheVariants.{Did, Looked}
 use Rattle.txn_records.specs.Looks.{is_drained_word, serial_of}

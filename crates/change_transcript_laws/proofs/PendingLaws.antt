@@ -5,15 +5,15 @@ use Rattle.std.specs.List.{list_any}
 use Rattle.std.proofs.lemmas.Bool.{both_ways}
 use Rattle.std.proofs.lemmas.List.{append-nil}
 use Rattle.std.proofs.lemmas.List.Elements.{filter_map-append}
-use Rattle.quiesce_commit_laws.specs.Steps.{change_all}
+use Rattle.quiesce_laws.specs.Steps.{change_all}
 use Rattle.config_graph.specs.Graph.{Graph}
 use Rattle.change_plan.specs.declared.plan_data.Plan.{Plan}
 use Rattle.change_plan_laws.specs.Commit.{ports_to_close}
 use Rattle.quiesce_core.specs.declared.event.Event.TheVariants.{Close}
 use Rattle.report_types.specs.declared.report.HistoryLine.{HistoryLine}
 use Rattle.report_types.specs.declared.report.HistoryLine.TheVariants as to
-use Rattle.change_law.specs.Changes.{drained_lines, seen_in_all}
-use Rattle.change_law.specs.Members.{event_of, is_pending}
+use Rattle.change_spec.specs.Changes.{drained_lines, seen_in_all}
+use Rattle.change_spec.specs.Members.{event_of, is_pending}
 use Rattle.txn_records.specs.Entries.{events_in}
 use Rattle.txn_records.specs.declared.entry.Entry.{Entry}
 use Rattle.change_board.specs.Steps.{Deed}
@@ -25,7 +25,7 @@ use Rattle.change_engine.specs.Draining.{pending_items, root_item}
 use Rattle.change_transcript_laws.specs.Pieces.{config_at, opening_items}
 use Rattle.change_transcript_laws.proofs.ItemLemmas.{config_over, is_aside, fair_events, fair_passivation, fair_roots}
 use Rattle.change_transcript_laws.proofs.LineLemmas.{both_lines, none_both, none_deeds, none_passivation, silent_line}
-use Rattle.change_law.proofs.PortLaws.{closed_events, no_events_drained, still_to_close}
+use Rattle.change_spec.proofs.PortLaws.{closed_events, no_events_drained, still_to_close}
 use Rattle.change_engine.proofs.PassivationLaws.{looks_of, passivation_lines}
 
 abbrev pub is_one_given_up : List Item → Bool

@@ -16,10 +16,10 @@ use Rattle.quiesce_core.specs.State.{is_live}
 use Rattle.quiesce_core.specs.declared.event.Event.{Event}
 use Rattle.report_types.specs.declared.report.HistoryLine.{HistoryLine}
 use Rattle.report_types.specs.declared.report.HistoryLine.TheVariants as to
-use Rattle.change_law.specs.Lawful.{CameToRest, HeldSince, IsEndedAt, IsFinishAt, IsRunAt, NumbersOnThreads, is_idle_after}
-use Rattle.change_law.specs.Members as members
-use Rattle.change_law.specs.Members.{Member, by_node, of_history, is_pending}
-use Rattle.change_law.specs.Statements.{Statement, start, change, run, finish, show}
+use Rattle.change_spec.specs.Lawful.{CameToRest, HeldSince, IsEndedAt, IsFinishAt, IsRunAt, NumbersOnThreads, is_idle_after}
+use Rattle.change_spec.specs.Members as members
+use Rattle.change_spec.specs.Members.{Member, by_node, of_history, is_pending}
+use Rattle.change_spec.specs.Statements.{Statement, start, change, run, finish, show}
 use Rattle.txn_records.specs.Records as records
 use Rattle.txn_records.specs.Records.{IsRecordOf, IsSo, Moment}
 use Rattle.txn_records.specs.declared.entry.Entry.{Entry}

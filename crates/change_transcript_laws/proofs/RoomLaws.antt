@@ -18,8 +18,8 @@ use Rattle.change_plan.specs.Refusals.{CanPlan}
 use Rattle.change_plan.specs.declared.plan_data.Move.{Move}
 use Rattle.change_plan.specs.declared.plan_data.Plan.{Plan}
 use Rattle.change_plan.proofs.SelectsLaws.{Selects-one, Selects-only}
-use Rattle.quiesce_commit_laws.specs.Steps.{change_all}
-use Rattle.quiesce_commit_laws.specs.Work as work_
+use Rattle.quiesce_laws.specs.Steps.{change_all}
+use Rattle.quiesce_laws.specs.Work as work_
 use Rattle.change_plan_laws.specs.Commit.{commit_events, commit_steps, makes_from, new_links, node_at, reopened_ports, source_of, work}
 use Rattle.change_plan_laws.specs.Committing.{made_in}
 use Rattle.quiesce_laws.specs.Starts as starts
@@ -27,7 +27,7 @@ use Rattle.quiesce_laws.specs.Starts.{start_of}
 use Rattle.quiesce_core.specs.State.{Configuration, empty}
 use Rattle.quiesce_core.specs.declared.event.Event.{Event}
 use Rattle.quiesce_core.specs.declared.event.Event.TheVariants.{Close, Reopen, Unlink, Remove, Link}
-use Rattle.change_law.specs.Scripts.{more_made}
+use Rattle.change_spec.specs.Scripts.{more_made}
 use Rattle.change_transcript_laws.proofs.MadeLaws.{gates_all, nodes_made, ports_made, slots_all}
 use Rattle.std.proofs.Math.Nat.{add-zero}
 

@@ -20,12 +20,12 @@ use Rattle.quiesce_core.specs.declared.event.Event.TheVariants as event
 use Rattle.quiesce_laws.specs.Events.{reopens}
 use Rattle.report_types.specs.declared.report.HistoryLine.{HistoryLine}
 use Rattle.report_types.specs.declared.report.HistoryLine.TheVariants as to
-use Rattle.change_law.specs.Changes.{seen_in_all}
-use Rattle.change_law.specs.Lawful.{StoodOpen, StoodOpenWhereSaid}
-use Rattle.change_law.specs.Members.{Member, event_of, is_close, is_pending, is_root, line_of}
-use Rattle.change_law.specs.Scene.{Seen}
-use Rattle.change_law.specs.Statements.{Statement, start, change, run, finish, show}
-use Rattle.change_law.proofs.TestLaws.{counted_some}
+use Rattle.change_spec.specs.Changes.{seen_in_all}
+use Rattle.change_spec.specs.Lawful.{StoodOpen, StoodOpenWhereSaid}
+use Rattle.change_spec.specs.Members.{Member, event_of, is_close, is_pending, is_root, line_of}
+use Rattle.change_spec.specs.Scene.{Seen}
+use Rattle.change_spec.specs.Statements.{Statement, start, change, run, finish, show}
+use Rattle.change_spec.proofs.TestLaws.{counted_some}
 use Rattle.base.proofs.ListLaws.{count_by-some}
 use Rattle.txn_records.specs.declared.entry.Entry.{Entry}
 use Rattle.txn_records.specs.declared.entry.Entry.TheVariants.{Did, Looked, Sighted, Scanned}

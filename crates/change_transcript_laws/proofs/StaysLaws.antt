@@ -6,17 +6,17 @@ use Rattle.std.specs.Option.{option_map_or}
 use Rattle.std.proofs.lemmas.Bool.{both_ways, cases_Bool, eq-eqb}
 use Rattle.base.proofs.FindLaws.{find-none}
 use Rattle.base.proofs.OptionLaws.{map_or_true}
-use Rattle.change_law.specs.Lawful.{is_done, is_unfinished, unfinished_of}
-use Rattle.change_law.specs.Statements.{Statement, is_finish}
+use Rattle.change_spec.specs.Lawful.{is_done, is_unfinished, unfinished_of}
+use Rattle.change_spec.specs.Statements.{Statement, is_finish}
 use Rattle.quiesce_core.proofs.StabilityLaws.{busy_is_live}
 use Rattle.change_transcript_laws.specs.Rests.{AreAtRest, AreCalm, HaveFolds}
 use Rattle.std.proofs.lemmas.Option.{none-some}
 use Rattle.quiesce_word.specs.Phases.{is_idle}
 use Rattle.quiesce_core.specs.Legal.{Legal}
 use Rattle.std.proofs.lemmas.List.{append-nil}
-use Rattle.quiesce_commit_laws.proofs.AfterRunLaws.{after_run}
-use Rattle.quiesce_commit_laws.specs.Steps.{is_shaping}
-use Rattle.change_law.specs.Opening.{argument_of, fold_at, fold_of_node, fold_within}
+use Rattle.quiesce_laws.proofs.AfterRunLaws.{after_run}
+use Rattle.quiesce_laws.specs.Steps.{is_shaping}
+use Rattle.change_spec.specs.Opening.{argument_of, fold_at, fold_of_node, fold_within}
 use Rattle.component_trait.specs.Fold.{fold_from, fold_next}
 use Rattle.component_trait.specs.Moves as moves
 use Rattle.component_trait.specs.States.{Kept, NodeState, at_rest}

@@ -12,10 +12,10 @@ use Rattle.change_plan.specs.declared.plan_data.Move.{Move}
 use Rattle.config_graph.specs.Graph.{Graph}
 use Rattle.report_types.specs.declared.report.HistoryLine.{HistoryLine}
 use Rattle.report_types.specs.declared.report.HistoryLine.TheVariants as to
-use Rattle.change_law.specs.Changes.{seen_in_all}
-use Rattle.change_law.specs.Members.{is_close, is_pending}
-use Rattle.change_law.specs.Scene.{Seen, drained_line}
-use Rattle.change_law.specs.Statements.{Statement, start, change, run, finish, show}
+use Rattle.change_spec.specs.Changes.{seen_in_all}
+use Rattle.change_spec.specs.Members.{is_close, is_pending}
+use Rattle.change_spec.specs.Scene.{Seen, drained_line}
+use Rattle.change_spec.specs.Statements.{Statement, start, change, run, finish, show}
 use Rattle.txn_records.specs.declared.entry.Entry.{Entry}
 use Rattle.txn_records.specs.declared.entry.Entry.TheVariants.{Scanned}
 use Rattle.change_board.specs.Bearing.{HadRounds, is_waiting_scan}

@@ -3,8 +3,8 @@
 use Rattle.std.specs.Prelude.{◌≡◌, List, filter_map, Option, Some, None, if◌then◌else◌}
 use Rattle.quiesce_core.specs.declared.event.Event.{Event}
 use Rattle.report_types.specs.declared.report.HistoryLine.{HistoryLine}
-use Rattle.change_law.specs.Members as members
-use Rattle.change_law.specs.Members.{Member, is_root}
+use Rattle.change_spec.specs.Members as members
+use Rattle.change_spec.specs.Members.{Member, is_root}
 use Rattle.txn_records.specs.declared.entry.Entry.{Entry}
 use Rattle.txn_records.specs.Records as records
 use Rattle.txn_records.specs.Records.{Moment}

@@ -9,14 +9,14 @@ use Rattle.change_plan.specs.Plans.{IsPlanOf}
 use Rattle.change_plan.specs.declared.plan_data.Move.{Move}
 use Rattle.change_plan.specs.declared.plan_data.Plan.{Plan}
 use Rattle.report_types.specs.declared.report.HistoryLine.TheVariants as to
-use Rattle.quiesce_commit_laws.specs.Steps.{live_ports}
+use Rattle.quiesce_laws.specs.Steps.{live_ports}
 use Rattle.change_plan_laws.specs.Commit.{commit_events, ports_to_close}
 use Rattle.quiesce_laws.specs.Starts.{start_of}
 use Rattle.quiesce_core.specs.Live.{IsGraphOf}
 use Rattle.quiesce_core.specs.State.{Configuration}
 use Rattle.quiesce_core.specs.declared.event.Event.TheVariants as event
-use Rattle.change_law.specs.Members.{is_pending}
-use Rattle.change_law.specs.Statements.{Statement, start, change, run, finish, show}
+use Rattle.change_spec.specs.Members.{is_pending}
+use Rattle.change_spec.specs.Statements.{Statement, start, change, run, finish, show}
 use Rattle.txn_records.specs.Entries.{config_of}
 use Rattle.change_board.specs.Scans.{Found, all_ports, ended_in, look_entry, ports_of}
 use Rattle.change_board.specs.Sights.{Sight}

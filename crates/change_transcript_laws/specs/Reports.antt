@@ -4,7 +4,7 @@ use Rattle.std.specs.Prelude.{◌≡◌, ℕ, List, map, length, All}
 use Rattle.std.specs.List.{range_with_len}
 use Rattle.quiesce_core.specs.Runs.{done_by}
 use Rattle.quiesce_core.specs.declared.event.Event.{Event}
-use Rattle.change_law.specs.Endings.{status_of}
+use Rattle.change_spec.specs.Endings.{status_of}
 use Rattle.report_types.specs.declared.report.NodeLog.{NodeLog}
 use Rattle.report_types.specs.declared.report.Report.{Report}
 use Rattle.change_board.specs.Collecting.{IsEndOf, first_undone}

@@ -3,12 +3,12 @@
 use Rattle.std.specs.Prelude.{◌≡◌, ◌≤◌, ◌<◌, ◌⊎◌, ◌++◌, ◌∷◌, ⊤, ℕ, false, List, map, Some, None, IsTrue}
 use Rattle.std.specs.List.{AllByRecursion, list_any}
 use Rattle.component_trait.specs.States.{NodeState}
-use Rattle.change_law.specs.Lawful.{is_done, is_idle_after}
-use Rattle.change_law.specs.Members.{Member, by_node, events, is_commit, of_history}
-use Rattle.change_law.specs.Opening.{fold_of_node}
+use Rattle.change_spec.specs.Lawful.{is_done, is_idle_after}
+use Rattle.change_spec.specs.Members.{Member, by_node, events, is_commit, of_history}
+use Rattle.change_spec.specs.Opening.{fold_of_node}
 use Rattle.report_types.specs.declared.report.HistoryLine.{HistoryLine}
 use Rattle.report_types.specs.declared.report.HistoryLine.TheVariants as to
-use Rattle.quiesce_commit_laws.specs.Steps.{is_shaping}
+use Rattle.quiesce_laws.specs.Steps.{is_shaping}
 use Rattle.quiesce_core.specs.Doers.{is_of_change}
 use Rattle.quiesce_core.specs.Rules.{is_live_port}
 use Rattle.txn_records.specs.Entries.{event_in}

@@ -11,11 +11,11 @@ ghost use Rattle.change_board.specs.Bearing.{Bears};
 ghost use Rattle.change_board.specs.Scans.{IsSeenTwice};
 ghost use Rattle.change_board.specs.Sights.{Sight, sight_entry};
 ghost use Rattle.change_board.specs.Transcripts.{Item, entries, lines};
-ghost use Rattle.change_law.specs.Endings.{status_of};
-ghost use Rattle.change_law.specs.Follows.{Follows};
-ghost use Rattle.change_law.specs.Lawful.{CameToRest, IsDrainedAt, IsEndedAt, IsEndedOnce, IsFolded, IsGraphAt, IsLawfulBy, IsQuiescentAt, LawfulOnThreads, Merge, NumbersOnThreads, StoodOpenWhereSaid, unfinished_of};
-ghost use Rattle.change_law.specs.Members.{Member, events};
-ghost use Rattle.change_law.specs.Statements.{Statement};
+ghost use Rattle.change_spec.specs.Endings.{status_of};
+ghost use Rattle.change_spec.specs.Follows.{Follows};
+ghost use Rattle.change_spec.specs.Lawful.{CameToRest, IsDrainedAt, IsEndedAt, IsEndedOnce, IsFolded, IsGraphAt, IsLawfulBy, IsQuiescentAt, LawfulOnThreads, Merge, NumbersOnThreads, StoodOpenWhereSaid, unfinished_of};
+ghost use Rattle.change_spec.specs.Members.{Member, events};
+ghost use Rattle.change_spec.specs.Statements.{Statement};
 ghost use Rattle.report_types.specs.declared.report.HistoryLine.{HistoryLine};
 ghost use Rattle.report_types.specs.declared.report.NodeLog.{NodeLog};
 ghost use Rattle.report_types.specs.declared.report.Report.{Report};
@@ -26,7 +26,7 @@ ghost use Rattle.change_transcript_laws.specs.Pieces.{IsTranscript};
 ghost use Rattle.change_transcript_laws.specs.Reports.{IsReportOfTranscript};
 ghost use Rattle.change_transcript_laws.specs.Rests.{AreAtRest, AreCalm, AreQuiet, FinishedEarly, HaveFolds, RestedAtOnce, RestedIfShort};
 
-use change_law::{a_show_is_of_the_last_commit, nothing_is_open_at_the_end};
+use change_spec::{a_show_is_of_the_last_commit, nothing_is_open_at_the_end};
 
 /// The lines of a transcript are a history that follows the script.
 pub fn transcripts_follow_their_scripts()

@@ -6,7 +6,7 @@ use Rattle.config_graph.specs.GraphText.{graph_text}
 use Rattle.quiesce_core.specs.State.{State}
 use Rattle.change_plan.specs.declared.plan_data.Plan.{Plan}
 use Rattle.change_plan.specs.PlanText.{plan_text}
-use Rattle.change_parts_laws.specs.declared.part.Part.{Part}
+use Rattle.change_parts.specs.declared.part.Part.{Part}
 use Rattle.quiesce_replay.specs.ReplayText.{replay_text}
 use Rattle.report_writing.specs.Reports.{report_text}
 use Rattle.report_types.specs.declared.report.Report.{Report}

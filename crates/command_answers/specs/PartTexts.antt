@@ -5,7 +5,7 @@ use Rattle.std.specs.Prelude.{ℕ, List, [], ◌∷◌, ◌++◌, codes, decimal
 use Rattle.config_graph.specs.Graph.{Graph}
 use Rattle.config_graph.specs.GraphText.{graph_text}
 use Rattle.change_plan.specs.PlanText.{plan_text}
-use Rattle.change_parts_laws.specs.declared.part.Part.{Part}
+use Rattle.change_parts.specs.declared.part.Part.{Part}
 
 -- `part I`
 abbrev pub part_line : ℕ → List ℕ

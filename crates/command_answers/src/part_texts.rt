@@ -4,10 +4,10 @@ ghost use Rattle.std.specs.Prelude.{◌≡◌, ◌<◌, ◌+◌, ◌^◌, ◌++�
 ghost use Rattle.config_graph.specs.GraphText.{graph_text};
 ghost use Rattle.change_plan.specs.PlanText.{plan_text};
 ghost use Rattle.change_plan.specs.PlanWithin.{IsPlanWithin};
-ghost use Rattle.change_parts_laws.specs.Parts.{ArePlansWithin};
+ghost use Rattle.change_parts.specs.Parts.{ArePlansWithin};
 ghost use Rattle.command_answers.specs.PartTexts.{end_line, part_line, parts_text};
 
-use change_parts_laws::Part;
+use change_parts::Part;
 use change_plan::plan_text;
 use config_graph::{Graph, NoMemory, graph_text};
 use itoa::Buffer;

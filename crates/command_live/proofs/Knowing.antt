@@ -4,9 +4,9 @@ use Rattle.command_answers.specs.Answers.{Answer}
 use Rattle.command_words.specs.CommandLine.{Asks}
 use Rattle.command_words.specs.declared.words.Command.{Command}
 use Rattle.command_words.specs.declared.words.Command.TheVariants as commands
-use Rattle.command_law.specs.Fetches.{Fetch}
-use Rattle.command_law.specs.Known.{AsksOf, HasNoForm, all_commands, on_one_thread, on_threads}
-use Rattle.command_law.specs.Runs.{AnswersWords, asked, no_form, not_read, Run, Runs}
+use Rattle.command_spec.specs.Fetches.{Fetch}
+use Rattle.command_spec.specs.Known.{AsksOf, HasNoForm, all_commands, on_one_thread, on_threads}
+use Rattle.command_spec.specs.Runs.{AnswersWords, asked, no_form, not_read, Run, Runs}
 use Rattle.std.proofs.lemmas.Bool.{false≢true}
 
 -- the words ask for none of all, where they ask for none on one thread and for none on threads

@@ -8,13 +8,13 @@ use Rattle.command_answers.specs.declared.status.Status.{Status}
 use Rattle.command_answers.specs.declared.status.Status.TheVariants as status
 use Rattle.command_words.specs.CommandLine.{Asks, SaysObservers, SaysThreads}
 use Rattle.command_words.specs.declared.words.Command.TheVariants as commands
-use Rattle.command_files.specs.Refusals.{EndsNoRun}
-use Rattle.command_files.specs.declared.answer.Answer.{Answer}
-use Rattle.command_files.specs.declared.answer.Stop.{Stop}
-use Rattle.command_files.specs.declared.answer.Stop.TheVariants as stops
-use Rattle.command_law.specs.Outcomes.{IsRunStatus}
+use Rattle.command_program.specs.Refusals.{EndsNoRun}
+use Rattle.command_program.specs.declared.answer.Answer.{Answer}
+use Rattle.command_program.specs.declared.answer.Stop.{Stop}
+use Rattle.command_program.specs.declared.answer.Stop.TheVariants as stops
+use Rattle.command_spec.specs.Outcomes.{IsRunStatus}
 use Rattle.command_program.specs.Coming.{result_status, result_text}
-use Rattle.command_law.specs.Runs.{Run, Written, whole, stopped}
+use Rattle.command_spec.specs.Runs.{Run, Written, whole, stopped}
 use Rattle.std.proofs.lemmas.Bool.{false≢true}
 
 -- no run ended where a text was written with another status

@@ -2,16 +2,16 @@
 -- What comes back of a run on threads: the seat of the change, which agrees with the report that was written.
 use Rattle.std.specs.Prelude.{◌≡◌, ℕ, List}
 use Rattle.atomic_table.specs.Seated.{TableId}
-use Rattle.change_law.specs.Statements.{Statement}
+use Rattle.change_spec.specs.Statements.{Statement}
 use Rattle.report_types.specs.declared.report.Report.{Report}
 use Rattle.watch_lines.specs.Observers.{Watched}
 use Rattle.txn_gate.specs.Seats.{collected_in, record_of, table_of_change}
 use Rattle.txn_gate.specs.declared.change_seat.ChangeSeat.{ChangeSeat}
-use Rattle.live_laws.specs.Ended.{AgreesWith}
+use Rattle.live_board.specs.Ended.{AgreesWith}
 use Rattle.command_words.specs.CommandLine.{Asks}
 use Rattle.command_words.specs.declared.words.Command.TheVariants as commands
-use Rattle.command_law.specs.Outcomes.{Reported}
-use Rattle.command_law.specs.Runs.{Run}
+use Rattle.command_spec.specs.Outcomes.{Reported}
+use Rattle.command_spec.specs.Runs.{Run}
 
 -- the report of these statements is lawful on threads, the record of the seat bears it, and its logs are what the seat
 -- took in, slot by slot

@@ -2,11 +2,11 @@
 use Rattle.std.specs.Prelude.{ℕ, List, Option, Result, Ok, Err}
 use Rattle.cfg_io.specs.Shelf.{Files}
 use Rattle.txn_gate.specs.declared.change_seat.ChangeSeat.{ChangeSeat}
-use Rattle.command_files.specs.declared.answer.Answer.{Answer}
-use Rattle.command_files.specs.declared.answer.Stop.{Stop}
-use Rattle.command_law.specs.Commands.{course_of_script}
-use Rattle.command_law.specs.Lines.{behind, reporting, running}
-use Rattle.command_law.specs.Schedules.{IsShownBy, threads}
+use Rattle.command_program.specs.declared.answer.Answer.{Answer}
+use Rattle.command_program.specs.declared.answer.Stop.{Stop}
+use Rattle.command_spec.specs.Commands.{course_of_script}
+use Rattle.command_spec.specs.Lines.{behind, reporting, running}
+use Rattle.command_spec.specs.Schedules.{IsShownBy, threads}
 use Rattle.command_program.specs.Coming.{ComesBy}
 use Rattle.command_live.specs.Agreeing.{AgreesWithSeat}
 

@@ -3,7 +3,7 @@ use Rattle.std.specs.Prelude.{◌≡◌, ℕ, List, Option, Some, None, false}
 use Rattle.command_words.specs.CommandLine.{Asks}
 use Rattle.command_words.specs.declared.words.Command.{Command}
 use Rattle.command_words.specs.declared.words.Command.TheVariants as commands
-use Rattle.command_law.specs.Known.{on_threads}
+use Rattle.command_spec.specs.Known.{on_threads}
 use Rattle.command_live.specs.declared.request.Request.{Request}
 
 -- the words ask for this, of some script

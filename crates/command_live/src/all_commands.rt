@@ -3,11 +3,11 @@
 ghost use Rattle.std.specs.Prelude.{◌≡◌, ◌↔◌, [], ℕ, List, Some, map, string_bytes, is_some, IfSome, IsTrue};
 ghost use Rattle.cfg_io.specs.Shelf.{Files};
 ghost use Rattle.command_answers.specs.declared.status.Status.TheVariants.{Denied};
-ghost use Rattle.command_law.specs.Known.{all_commands};
-ghost use Rattle.command_law.specs.Outcomes.{Flattened, IsRollStatus, Parted, Planned, Replayed, Rolled, Upgraded, NothingRefuses, EndsAsGiven, Wants, Ends, EndsAsJudged, EndsAsRun, IsRunStatus, IsVerdict, Judged, NothingRefusesLines, Ran, RanShowing, SummedUp, NothingRefusesReport};
-ghost use Rattle.command_law.specs.Runs.{Runs, run_of};
-ghost use Rattle.command_law.specs.Schedules.{threads};
-ghost use Rattle.command_law.specs.declared.query.Query.{Query};
+ghost use Rattle.command_spec.specs.Known.{all_commands};
+ghost use Rattle.command_spec.specs.Outcomes.{Flattened, IsRollStatus, Parted, Planned, Replayed, Rolled, Upgraded, NothingRefuses, EndsAsGiven, Wants, Ends, EndsAsJudged, EndsAsRun, IsRunStatus, IsVerdict, Judged, NothingRefusesLines, Ran, RanShowing, SummedUp, NothingRefusesReport};
+ghost use Rattle.command_spec.specs.Runs.{Runs, run_of};
+ghost use Rattle.command_spec.specs.Schedules.{threads};
+ghost use Rattle.command_spec.specs.declared.query.Query.{Query};
 ghost use Rattle.command_live.specs.Agreeing.{ComesBack};
 ghost use Rattle.command_program.specs.Naming.{AskForNoFile};
 ghost use Rattle.command_words.specs.CommandLine.{Asks};
@@ -15,16 +15,15 @@ ghost use Rattle.command_words.specs.declared.words.Command.TheVariants as comma
 ghost use Rattle.command_words.specs.declared.words.TopCall.{TopCall};
 ghost use Rattle.report_writing.specs.Reports.{report_text};
 ghost use Rattle.txn_gate.specs.Seats.{IsChangeSeatOf, change_in, collected_in};
-ghost use Rattle.txn_law.specs.Views.{nothing_done};
+ghost use Rattle.txn_spec.specs.Views.{nothing_done};
 ghost use Rattle.watch_lines.specs.Observers.{Watched};
 
 use crate::on_threads::run_request;
 use crate::request::read_request;
 use cfg_io::{Shelf, Sink};
 use command_answers::Status;
-use command_law::rolls_end_by_their_rounds;
-use command_laws::made_runs_are_not_refused;
 use command_program::{still, write_no_memory};
+use command_spec::{made_runs_are_not_refused, rolls_end_by_their_rounds};
 use live_run::Turnstile;
 use std::alloc::Global;
 use std::sync::Wait;
@@ -32,7 +31,7 @@ use std::thread::Threads;
 use txn_gate::{ChangeSeat, Gates};
 
 /// Does what the words ask for, with files from the shelf, and writes to the sink. A script is run on threads by `live`,
-/// on these gates, and all else is done by `still`. What each status says are laws of command_law, of each run; here
+/// on these gates, and all else is done by `still`. What each status says are laws of command_spec, of each run; here
 /// stand those that say what is written.
 pub fn top<H: Shelf, K: Sink, R, T>(
     rt: R,

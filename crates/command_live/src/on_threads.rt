@@ -2,14 +2,14 @@
 
 ghost use Rattle.std.specs.Prelude.{◌≡◌, ◌↔◌, [], true, map, string_bytes, is_some, IfSome, IsTrue};
 ghost use Rattle.command_answers.specs.Statuses.{is_of_run};
-ghost use Rattle.command_law.specs.Known.{on_threads};
-ghost use Rattle.command_law.specs.Outcomes.{IsRunStatus};
-ghost use Rattle.command_law.specs.Runs.{Runs, run_of};
+ghost use Rattle.command_spec.specs.Known.{on_threads};
+ghost use Rattle.command_spec.specs.Outcomes.{IsRunStatus};
+ghost use Rattle.command_spec.specs.Runs.{Runs, run_of};
 ghost use Rattle.command_live.specs.Agreeing.{ComesBack};
 ghost use Rattle.command_live.specs.Requests.{AskForThreads};
 ghost use Rattle.command_program.specs.Naming.{AskForNoFile};
 ghost use Rattle.txn_gate.specs.Seats.{IsChangeSeatOf, change_in, collected_in};
-ghost use Rattle.txn_law.specs.Views.{nothing_done};
+ghost use Rattle.txn_spec.specs.Views.{nothing_done};
 
 use crate::request::{Request, read_request, script_named};
 use crate::running::answer_script;
@@ -27,7 +27,7 @@ use txn_gate::{ChangeSeat, Gates};
 /// committed graph. Writes the report, and behind it lines of each observer, or one line that refuses. The seat comes
 /// back exactly where a report was written, and agrees with it. It may wait, and where some node is never done it may
 /// never return.
-/// What each status says are the laws of command_law, of each run.
+/// What each status says are the laws of command_spec, of each run.
 pub fn live<H: Shelf, K: Sink, R, T>(
     rt: R,
     alloc: Global,

@@ -6,8 +6,8 @@ ghost use Rattle.std.specs.Process.{exit_status};
 ghost use Rattle.std.specs.Vec.Iter.{into_iter_items};
 ghost use Rattle.command_answers.specs.Answers.{no_memory_line};
 ghost use Rattle.command_answers.specs.Statuses.{status_number};
-ghost use Rattle.command_law.specs.Runs.{Runs, Written, run_of};
-ghost use Rattle.command_law.specs.Known.{all_commands};
+ghost use Rattle.command_spec.specs.Runs.{Runs, Written, run_of};
+ghost use Rattle.command_spec.specs.Known.{all_commands};
 ghost use Rattle.command_live.specs.Exits.{Exits};
 ghost use Rattle.command_program.specs.Naming.{AskForNoFile};
 

@@ -1,7 +1,7 @@
 //! What words ask of a call that runs scripts on threads.
 
 ghost use Rattle.std.specs.Prelude.{◌≡◌, ℕ, List, map, string_bytes, IfNone, IfOk, IfSome};
-ghost use Rattle.command_law.specs.Known.{HasNoForm, on_threads};
+ghost use Rattle.command_spec.specs.Known.{HasNoForm, on_threads};
 ghost use Rattle.command_live.specs.Requests.{AskForThreads, IsRequestOf};
 ghost use Rattle.command_live.specs.declared.request.Request.{Request};
 ghost use Rattle.command_words.specs.CommandLine.{Asks};

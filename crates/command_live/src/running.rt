@@ -2,21 +2,21 @@
 
 ghost use Rattle.std.specs.Prelude.{◌≡◌, ◌+◌, ◌<◌, ◌≤◌, ◌^◌, ◌++◌, [], IfErr, IfOk, MatchResult};
 ghost use Rattle.command_answers.specs.Answers.{ShowsAnswer, run_status};
-ghost use Rattle.command_files.specs.Preparing.{CanRun, statements_in};
-ghost use Rattle.command_files.specs.Refusals.{EndsNoRun};
-ghost use Rattle.command_law.specs.Lines.{IsRunAnswer};
-ghost use Rattle.command_law.specs.Outcomes.{IsRunStatus};
-ghost use Rattle.command_law.specs.Schedules.{IsShownBy, threads};
+ghost use Rattle.command_program.specs.Preparing.{CanRun, statements_in};
+ghost use Rattle.command_program.specs.Refusals.{EndsNoRun};
+ghost use Rattle.command_spec.specs.Lines.{IsRunAnswer};
+ghost use Rattle.command_spec.specs.Outcomes.{IsRunStatus};
+ghost use Rattle.command_spec.specs.Schedules.{IsShownBy, threads};
 ghost use Rattle.command_live.specs.Agreeing.{AgreesWithSeat};
 ghost use Rattle.command_live.specs.Coming.{ComesWithSeat, ComesWithout};
 ghost use Rattle.report_writing.specs.Reports.{LogsAreMade, report_text};
 ghost use Rattle.txn_gate.specs.Seats.{IsChangeSeatOf, change_in, collected_in};
-ghost use Rattle.txn_law.specs.Views.{nothing_done};
+ghost use Rattle.txn_spec.specs.Views.{nothing_done};
 ghost use Rattle.watch_lines.specs.WatchText.{watch_text};
 
 use crate::request::Request;
 use cfg_io::Shelf;
-use command_files::{Answer, Prepared, Stop, answer_run, prepare};
+use command_program::{Answer, Prepared, Stop, answer_run, prepare};
 use config_graph::{List, NoMemory};
 use live_run::{Observers, Turnstile, run_on_threads};
 use report_types::Report;

@@ -2,22 +2,22 @@
 -- that show it; and what such a run has reported.
 use Rattle.std.proofs.Common.{◌≡◌, ◌∙◌, ℕ, List, Option, Result, Ok, Err, IfOk, refl, ap, subst}
 use Rattle.cfg_io.specs.Shelf.{Files}
-use Rattle.change_law.specs.Statements.{Statement}
+use Rattle.change_spec.specs.Statements.{Statement}
 use Rattle.report_types.specs.declared.report.Report.{Report}
 use Rattle.command_answers.specs.Answers as values
 use Rattle.command_answers.specs.Answers.{ShowsAnswer, ran, refusal, run_status, status_of, text_of}
 use Rattle.command_answers.specs.declared.status.Status.{Status}
-use Rattle.command_law.specs.Commands.{course_of_script}
-use Rattle.command_law.specs.Lines.{IsRunAnswer, reporting}
-use Rattle.command_law.specs.Outcomes.{IsRunStatus, Reported}
-use Rattle.command_law.specs.Runs.{Run, Written}
-use Rattle.command_law.proofs.CourseLaws.{reports_widen, script_reports, script_reports_short, script_unreported}
-use Rattle.command_law.proofs.RunLaws.{reported_by}
-use Rattle.command_files.specs.Preparing.{Prepares, statements_in}
-use Rattle.command_files.specs.declared.answer.Answer.{Answer}
-use Rattle.command_files.specs.declared.answer.Stop.{Stop}
-use Rattle.command_files.specs.declared.answer.Stop.TheVariants as stops
-use Rattle.command_files.specs.declared.preparing.Prepared.{Prepared}
+use Rattle.command_spec.specs.Commands.{course_of_script}
+use Rattle.command_spec.specs.Lines.{IsRunAnswer, reporting}
+use Rattle.command_spec.specs.Outcomes.{IsRunStatus, Reported}
+use Rattle.command_spec.specs.Runs.{Run, Written}
+use Rattle.command_spec.proofs.CourseLaws.{reports_widen, script_reports, script_reports_short, script_unreported}
+use Rattle.command_spec.proofs.RunLaws.{reported_by}
+use Rattle.command_program.specs.Preparing.{Prepares, statements_in}
+use Rattle.command_program.specs.declared.answer.Answer.{Answer}
+use Rattle.command_program.specs.declared.answer.Stop.{Stop}
+use Rattle.command_program.specs.declared.answer.Stop.TheVariants as stops
+use Rattle.command_program.specs.declared.preparing.Prepared.{Prepared}
 use Rattle.command_program.specs.Coming.{ComesBy, EndsBy, result_status, result_text}
 
 module _ (IsReport : List Statement → Report → Type 0) (Shows : Report → List ℕ → Type 0) where

@@ -10,21 +10,21 @@ use Rattle.command_words.specs.declared.words.Command.{Command}
 use Rattle.command_words.specs.declared.words.Command.TheVariants as commands
 use Rattle.command_words.specs.CommandLine.{Asks}
 use Rattle.command_words.proofs.WordsLaws.{one_command}
-use Rattle.command_law.specs.Known.{AsksOf, HasNoForm}
-use Rattle.command_law.specs.Commands.{course_of, course_of_query}
-use Rattle.command_law.specs.Courses.{FetchCourse}
-use Rattle.command_law.specs.Fetches.{Fetch, fetch_of, failed_name, failed_names, Gave}
-use Rattle.command_law.specs.OneFile.{EventsAnswers}
-use Rattle.command_law.specs.Runs.{Written, AnswersWords, asked, Run, Runs}
-use Rattle.command_law.specs.declared.fetched.Fetched.{Fetched}
-use Rattle.command_law.specs.declared.fetched.Fetched.TheVariants.{Held}
-use Rattle.command_law.specs.declared.query.Query.TheVariants as queries
-use Rattle.command_law.proofs.CourseLaws as courses
-use Rattle.command_files.specs.Reading.{IsEventsOf}
-use Rattle.command_files.specs.Refusals.{Shows}
-use Rattle.command_files.specs.declared.answer.Answer.{Answer}
-use Rattle.command_files.specs.declared.answer.Stop.{Stop}
-use Rattle.command_files.specs.declared.answer.Stop.TheVariants as stops
+use Rattle.command_spec.specs.Known.{AsksOf, HasNoForm}
+use Rattle.command_spec.specs.Commands.{course_of, course_of_query}
+use Rattle.command_spec.specs.Courses.{FetchCourse}
+use Rattle.command_spec.specs.Fetches.{Fetch, fetch_of, failed_name, failed_names, Gave}
+use Rattle.command_spec.specs.OneFile.{EventsAnswers}
+use Rattle.command_spec.specs.Runs.{Written, AnswersWords, asked, Run, Runs}
+use Rattle.command_spec.specs.declared.fetched.Fetched.{Fetched}
+use Rattle.command_spec.specs.declared.fetched.Fetched.TheVariants.{Held}
+use Rattle.command_spec.specs.declared.query.Query.TheVariants as queries
+use Rattle.command_spec.proofs.CourseLaws as courses
+use Rattle.command_program.specs.Reading.{IsEventsOf}
+use Rattle.command_program.specs.Refusals.{Shows}
+use Rattle.command_program.specs.declared.answer.Answer.{Answer}
+use Rattle.command_program.specs.declared.answer.Stop.{Stop}
+use Rattle.command_program.specs.declared.answer.Stop.TheVariants as stops
 use Rattle.command_program.specs.Coming.{result_status, result_text, EndsBy, ComesBy}
 use Rattle.std.proofs.lemmas.Bool.{false≢true}
 

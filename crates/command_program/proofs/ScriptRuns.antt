@@ -4,27 +4,27 @@ use Rattle.std.specs.Prelude.{◌==◌}
 use Rattle.std.specs.List.{AllByRecursion}
 use Rattle.std.proofs.lemmas.Grind.{flat_map-append}
 use Rattle.cfg_io.specs.Shelf.{Files}
-use Rattle.change_law.specs.Lawful.{LawfulInRounds}
-use Rattle.change_law.specs.Serial.{Serial}
-use Rattle.change_law.specs.Statements.{Statement}
+use Rattle.change_spec.specs.Lawful.{LawfulInRounds}
+use Rattle.change_spec.specs.Serial.{Serial}
+use Rattle.change_spec.specs.Statements.{Statement}
 use Rattle.report_types.specs.declared.report.Report.{Report}
 use Rattle.command_answers.specs.Answers as values
 use Rattle.command_words.specs.BigFiles.{made_files, script_name}
 use Rattle.command_answers.specs.Answers.{ShowsAnswer, refusal}
 use Rattle.command_answers.specs.declared.status.Status.{Status}
-use Rattle.command_law.specs.Commands.{course_of, course_of_script, IsSummary, judging, SumsUp}
-use Rattle.command_law.specs.Courses.{not_fetched}
-use Rattle.command_law.specs.Fetches.{failed_name, failed_names, Gave}
-use Rattle.command_law.specs.Lines.{reporting}
-use Rattle.command_law.specs.RunReports.{IsReportOf}
-use Rattle.command_law.specs.Schedules.{IsReportBy, rounds}
-use Rattle.command_law.proofs.CourseLaws.{script_judges, script_unjudged}
+use Rattle.command_spec.specs.Commands.{course_of, course_of_script, IsSummary, judging, SumsUp}
+use Rattle.command_spec.specs.Courses.{not_fetched}
+use Rattle.command_spec.specs.Fetches.{failed_name, failed_names, Gave}
+use Rattle.command_spec.specs.Lines.{reporting}
+use Rattle.command_spec.specs.RunReports.{IsReportOf}
+use Rattle.command_spec.specs.Schedules.{IsReportBy, rounds}
+use Rattle.command_spec.proofs.CourseLaws.{script_judges, script_unjudged}
 use Rattle.command_words.specs.declared.words.Command.TheVariants as commands
-use Rattle.command_files.specs.declared.answer.Answer.{Answer}
-use Rattle.command_files.specs.declared.answer.Stop.{Stop}
-use Rattle.command_files.specs.declared.answer.Stop.TheVariants as stops
-use Rattle.command_files.specs.Preparing.{Prepares, statements_in}
-use Rattle.command_files.specs.declared.preparing.Prepared.{Prepared}
+use Rattle.command_program.specs.declared.answer.Answer.{Answer}
+use Rattle.command_program.specs.declared.answer.Stop.{Stop}
+use Rattle.command_program.specs.declared.answer.Stop.TheVariants as stops
+use Rattle.command_program.specs.Preparing.{Prepares, statements_in}
+use Rattle.command_program.specs.declared.preparing.Prepared.{Prepared}
 use Rattle.command_program.specs.Coming.{ComesBy, EndsBy}
 use Rattle.base.proofs.ListLaws.{AllByRecursion-append}
 use Rattle.std.proofs.lemmas.Bool.{false≢true}

@@ -2,19 +2,19 @@
 use Rattle.std.specs.Prelude.{◌≡◌, ℕ, List, ◌++◌, Option, Result, Ok, Err}
 use Rattle.std.specs.List.{AllByRecursion}
 use Rattle.cfg_io.specs.Shelf.{Files}
-use Rattle.change_law.specs.Statements.{Statement}
+use Rattle.change_spec.specs.Statements.{Statement}
 use Rattle.command_answers.specs.Answers as values
 use Rattle.command_answers.specs.Answers.{ShowsAnswer, no_memory, no_memory_line, refusal}
 use Rattle.command_answers.specs.declared.status.Status.{Status}
 use Rattle.command_answers.specs.declared.status.Status.TheVariants as status
-use Rattle.command_law.specs.Commands.{IsSummary}
-use Rattle.command_law.specs.Courses.{FetchCourse}
-use Rattle.command_law.specs.Fetches.{Fetch, failed_names, Gave}
-use Rattle.command_law.specs.Lines.{IsRunAnswer}
-use Rattle.command_law.specs.Schedules.{IsReportBy, IsShownBy, rounds}
-use Rattle.command_files.specs.declared.answer.Answer.{Answer}
-use Rattle.command_files.specs.declared.answer.Stop.{Stop}
-use Rattle.command_files.specs.declared.answer.Stop.TheVariants as stops
+use Rattle.command_spec.specs.Commands.{IsSummary}
+use Rattle.command_spec.specs.Courses.{FetchCourse}
+use Rattle.command_spec.specs.Fetches.{Fetch, failed_names, Gave}
+use Rattle.command_spec.specs.Lines.{IsRunAnswer}
+use Rattle.command_spec.specs.Schedules.{IsReportBy, IsShownBy, rounds}
+use Rattle.command_program.specs.declared.answer.Answer.{Answer}
+use Rattle.command_program.specs.declared.answer.Stop.{Stop}
+use Rattle.command_program.specs.declared.answer.Stop.TheVariants as stops
 
 -- the status and the text of an answer, or those for want of memory
 abbrev pub stop_status : Stop → Status

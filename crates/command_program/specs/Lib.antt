@@ -1,2 +1,11 @@
 pub mod Coming
 pub mod Naming
+pub mod Fetching
+pub mod Planning
+pub mod Reading
+pub mod Refusals
+pub mod Calls
+pub mod Fitting
+pub mod Leading
+pub mod Preparing
+pub mod Ways

@@ -3,7 +3,7 @@
 use Rattle.std.specs.Prelude.{⊤, ℕ, Bool, List}
 use Rattle.command_words.specs.declared.words.Command.{Command}
 use Rattle.command_words.specs.declared.words.Command.TheVariants as commands
-use Rattle.command_law.specs.Known.{AsksOf}
+use Rattle.command_spec.specs.Known.{AsksOf}
 
 -- `big` makes its own.
 abbrev pub NamesNoFile : Command → Type 0

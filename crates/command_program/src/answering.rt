@@ -4,32 +4,30 @@ ghost use Rattle.std.specs.Prelude.{◌≡◌, ℕ, true, List, [], map, string_
 ghost use Rattle.report_writing.specs.Reports.{LogsAreMade};
 ghost use Rattle.command_answers.specs.Answers.{ShowsAnswer};
 ghost use Rattle.command_words.specs.CommandLine.{Asks};
-ghost use Rattle.command_law.specs.Known.{on_one_thread};
+ghost use Rattle.command_spec.specs.Known.{on_one_thread};
 ghost use Rattle.command_words.specs.declared.words.Command.TheVariants as commands;
-ghost use Rattle.command_law.specs.Commands.{SumsUp, course_of, course_of_query, judging};
-ghost use Rattle.command_law.specs.RunReports.{IsReportOf};
-ghost use Rattle.command_law.specs.Runs.{Runs, run_of};
-ghost use Rattle.command_law.specs.declared.query.Query.TheVariants as queries;
-ghost use Rattle.command_files.specs.Preparing.{CanRun, statements_in};
+ghost use Rattle.command_spec.specs.Commands.{SumsUp, course_of, course_of_query, judging};
+ghost use Rattle.command_spec.specs.RunReports.{IsReportOf};
+ghost use Rattle.command_spec.specs.Runs.{Runs, run_of};
+ghost use Rattle.command_spec.specs.declared.query.Query.TheVariants as queries;
+ghost use Rattle.command_program.specs.Preparing.{CanRun, statements_in};
 ghost use Rattle.command_program.specs.Coming.{ComesBy, EndsBy, EndsInReport, EndsInSummary};
 ghost use Rattle.command_program.specs.Naming.{AskForNoFile, NamesNoFile};
 
 use crate::writing::{write_answer, write_no_memory, write_text, write_usage};
-use crate::{HELP, VERSION};
+use crate::{
+    Answer, FILE_LIMIT, HELP, Prepared, REPORT_LIMIT, Stop, VERSION, answer_run, answer_summary,
+    describe, fetch_file, judge, prepare, read_events, upgrade,
+};
 use cfg_io::{Shelf, Sink};
 use change_round_laws::reports_of_rounds_are_lawful;
 use command_answers::Status;
-use command_files::{
-    Answer, FILE_LIMIT, Prepared, REPORT_LIMIT, Stop, answer_run, answer_summary, describe,
-    fetch_file, judge, prepare, read_events, upgrade,
-};
-use command_law::{Cut, Query};
+use command_spec::{Cut, Query};
 use command_words::{Command, MadeFiles, SCRIPT_NAME, TopCall, read_words};
 use config_graph::NoMemory;
-use node_table::NodeTable;
 use report_types::Report;
 use std::alloc::Global;
-use step_board::StepBoard;
+use step_board::{NodeTable, StepBoard};
 use step_runner::run_in_rounds;
 
 /// Does what the words ask for, or says that they have none of the forms. The program's own texts are written from

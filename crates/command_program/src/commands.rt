@@ -5,23 +5,22 @@ ghost use Rattle.cfg_io.specs.Shelf.{Files};
 ghost use Rattle.command_answers.specs.declared.status.Status.{Status};
 ghost use Rattle.command_answers.specs.declared.status.Status.TheVariants.{Denied};
 ghost use Rattle.command_words.specs.CommandLine.{Asks};
-ghost use Rattle.command_law.specs.Known.{on_one_thread};
+ghost use Rattle.command_spec.specs.Known.{on_one_thread};
 ghost use Rattle.command_words.specs.declared.words.Command.TheVariants as commands;
 ghost use Rattle.command_words.specs.declared.words.TopCall.{TopCall};
-ghost use Rattle.command_law.specs.Outcomes.{Flattened, IsRollStatus, Parted, Planned, Replayed, Rolled, Upgraded, NothingRefuses, EndsAsGiven, Wants, Ends, EndsAsJudged, EndsAsRun, IsRunStatus, IsVerdict, Judged, NothingRefusesLines, Ran, SummedUp, NothingRefusesReport};
-ghost use Rattle.command_law.specs.Runs.{Runs, run_of};
-ghost use Rattle.command_law.specs.declared.query.Query.{Query};
+ghost use Rattle.command_spec.specs.Outcomes.{Flattened, IsRollStatus, Parted, Planned, Replayed, Rolled, Upgraded, NothingRefuses, EndsAsGiven, Wants, Ends, EndsAsJudged, EndsAsRun, IsRunStatus, IsVerdict, Judged, NothingRefusesLines, Ran, SummedUp, NothingRefusesReport};
+ghost use Rattle.command_spec.specs.Runs.{Runs, run_of};
+ghost use Rattle.command_spec.specs.declared.query.Query.{Query};
 ghost use Rattle.command_program.specs.Naming.{AskForNoFile};
 
 use crate::answering::run_words;
 use cfg_io::{Shelf, Sink};
 use command_answers::Status;
-use command_law::rolls_end_by_their_rounds;
-use command_laws::made_runs_are_not_refused;
+use command_spec::{made_runs_are_not_refused, rolls_end_by_their_rounds};
 use std::alloc::Global;
 
 /// Does what the words ask for, with files from the shelf, and writes to the sink: the text that they ask for, or one
-/// line that refuses. It always returns. What each status says are the laws of command_law, of each run; here stand
+/// line that refuses. It always returns. What each status says are the laws of command_spec, of each run; here stand
 /// those that say what is written.
 pub fn still<H: Shelf, K: Sink>(
     alloc: Global,

@@ -1,12 +1,36 @@
 //! The commands of the program: what each list of words asks for, and what it writes.
 #![tactic(auto)]
 
+mod answer;
 mod answering;
+mod changing;
 mod commands;
+mod describing;
+mod description;
+mod fetching;
+mod judging;
+mod places;
+mod plans;
+mod preparing;
+mod replaying;
+mod reports;
+mod rolling;
+mod scripts;
+mod taking;
+mod used_files;
+mod way;
 mod writing;
 
+pub use answer::{Answer, Stop, description_too_long, unreadable};
 pub use command_answers::Status;
 pub use commands::still;
+pub use describing::{describe, refuse_description};
+pub use description::{checked_of, graph_of};
+pub use fetching::{FILE_LIMIT, REPORT_LIMIT, fetch_file};
+pub use judging::judge;
+pub use preparing::{Prepared, prepare};
+pub use reports::{answer_run, answer_summary, upgrade};
+pub use scripts::{read_events, read_script};
 pub use writing::{write_answer, write_no_memory, write_text, write_usage};
 
 /// What `--help` writes: the commands with their forms and what each does, and the statuses.

@@ -1,12 +1,12 @@
 //! How an answer is written.
 
 ghost use Rattle.std.specs.Prelude.{◌∷◌, ◌++◌, [], codes};
-ghost use Rattle.command_law.specs.Runs.{Run, Written, writing_to};
+ghost use Rattle.command_spec.specs.Runs.{Run, Written, writing_to};
 ghost use Rattle.command_program.specs.Coming.{result_status, result_text, stop_status, stop_text};
 
+use crate::{Answer, Stop};
 use cfg_io::{Sink, write_all};
 use command_answers::Status;
-use command_files::{Answer, Stop};
 
 /// Writes a text, and says how the run ends.
 pub fn write_text<K: Sink>(out: &mut K, status: Status, text: &[u8]) -> Status

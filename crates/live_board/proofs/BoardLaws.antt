@@ -12,10 +12,10 @@ use Rattle.base.proofs.PlaceLaws.{slice_get-below}
 use Rattle.change_board.specs.Making.{Makes}
 use Rattle.change_board.specs.Steps.{HasRoomToMake}
 use Rattle.change_board.specs.Sights.{Sight, sight_entry}
-use Rattle.change_law.proofs.LowerLaws.{lower_after}
+use Rattle.change_spec.proofs.LowerLaws.{lower_after}
 use Rattle.config_graph.specs.declared.TheConstants.{MAX_NODES}
 use Rattle.config_graph.specs.declared.node.Node.{Node}
-use Rattle.quiesce_commit_laws.specs.Steps.{change_all}
+use Rattle.quiesce_laws.specs.Steps.{change_all}
 use Rattle.quiesce_core.specs.Doers.{is_of_change}
 use Rattle.quiesce_core.specs.Effect.{change_next, with_node}
 use Rattle.quiesce_core.specs.Runs.{IsRun}
@@ -23,8 +23,8 @@ use Rattle.quiesce_core.specs.State.{Configuration, empty, slot}
 use Rattle.quiesce_core.specs.declared.state.Slot.{Slot}
 use Rattle.quiesce_core.specs.declared.event.Event.{Event}
 use Rattle.quiesce_core.specs.declared.event.Event.TheVariants.{Make, Remove}
-use Rattle.txn_law.specs.Views.{notes}
-use Rattle.txn_law.specs.declared.view.ChangeView.{ChangeView}
+use Rattle.txn_spec.specs.Views.{notes}
+use Rattle.txn_spec.specs.declared.view.ChangeView.{ChangeView}
 use Rattle.txn_records.proofs.EntryLaws.{config_did}
 use Rattle.txn_records.proofs.NoteLaws.{may_is_allowed}
 use Rattle.txn_records.proofs.RecordLaws.{config_is, did_more}

@@ -15,7 +15,7 @@ use Rattle.quiesce_core.specs.declared.event.Event.{Event}
 use Rattle.state_handover.specs.declared.any_node.AnyNode.{AnyNode}
 use Rattle.txn_records.specs.Entries.{config_of, event_in}
 use Rattle.txn_records.specs.declared.entry.Entry.{Entry}
-use Rattle.live_laws.specs.Ended.{collected_logs}
+use Rattle.live_board.specs.Ended.{collected_logs}
 use Rattle.live_board.specs.Boards.{BoardSeen, FitsNodes, StandsLive, taken_in}
 use Rattle.live_board.specs.Collecting.{Gathers, all_logs}
 use Rattle.live_board.specs.Lengths.{IsLast}

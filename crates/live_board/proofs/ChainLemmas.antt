@@ -7,7 +7,7 @@ use Rattle.std.proofs.lemmas.Option.{same_Some}
 use Rattle.config_graph.specs.declared.kind.Kind.{Kind}
 use Rattle.quiesce_core.specs.State.{Configuration, slot}
 use Rattle.quiesce_core.specs.declared.state.Slot.{Slot}
-use Rattle.live_laws.specs.Lines.{IsMadeLine, LineSight, is_in_slot}
+use Rattle.live_board.specs.Lines.{IsMadeLine, LineSight, is_in_slot}
 
 -- the node in slot n is behind the one in slot e
 pub data Leads (c : Configuration) (e : ℕ) : ℕ → Type 0 where

@@ -9,22 +9,22 @@ use Rattle.base.proofs.PlaceLaws.{heads_are, slice_get-map_at, slice_get-map_som
 use Rattle.change_board.specs.Collecting.{is_undone}
 use Rattle.change_board.specs.Scans.{live_nodes}
 use Rattle.change_board.specs.Sights.{fold_seen}
-use Rattle.change_law.proofs.LowerLaws.{SourcesAreLower, lower_after}
+use Rattle.change_spec.proofs.LowerLaws.{SourcesAreLower, lower_after}
 use Rattle.component_trait.specs.States.{NodeState}
 use Rattle.config_graph.specs.declared.kind.Kind.{Kind}
 use Rattle.live_hall.specs.Lines.{LineWord, line_words, seen_word}
 use Rattle.live_hall.specs.Sighting.{IsMadeIn}
 use Rattle.live_hall.specs.declared.guest.Guest.{Guest}
-use Rattle.live_laws.specs.Lines.{IsMadeLine, LineSight, line_node, line_place}
+use Rattle.live_board.specs.Lines.{IsMadeLine, LineSight, line_node, line_place}
 use Rattle.node_host.specs.Lines.{line_state}
 use Rattle.quiesce_core.proofs.SourceLaws.{sources_are_gone}
 use Rattle.quiesce_core.specs.Sources.{SourcesAreGone}
 use Rattle.quiesce_core.specs.State.{Configuration}
 use Rattle.report_types.specs.declared.report.NodeLog.{NodeLog}
 use Rattle.state_handover.specs.declared.any_node.AnyNode.{AnyNode}
-use Rattle.txn_law.specs.Traces.{HaveOwnSlots}
-use Rattle.txn_law.specs.Views.{is_among, log_in}
-use Rattle.txn_law.specs.declared.view.NodeView.{NodeView}
+use Rattle.txn_spec.specs.Traces.{HaveOwnSlots}
+use Rattle.txn_spec.specs.Views.{is_among, log_in}
+use Rattle.txn_spec.specs.declared.view.NodeView.{NodeView}
 use Rattle.txn_records.proofs.RecordLaws.{config_is}
 use Rattle.txn_records.specs.Entries.{config_of}
 use Rattle.txn_records.specs.Records.{IsRecord, events}

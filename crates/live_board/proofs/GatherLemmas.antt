@@ -6,14 +6,14 @@ use Rattle.std.specs.Option.{option_map_or}
 use Rattle.std.proofs.lemmas.Option.{same_Some, slice_get-get_or}
 use Rattle.base.proofs.PlaceLaws.{slice_get-below, slice_get-map_at, slice_get-there}
 use Rattle.change_board.specs.Collecting.{heir_of}
-use Rattle.change_law.proofs.LowerLaws.{SourcesAreLower}
-use Rattle.change_law.specs.Lawful.{EndsAs}
+use Rattle.change_spec.proofs.LowerLaws.{SourcesAreLower}
+use Rattle.change_spec.specs.Lawful.{EndsAs}
 use Rattle.component_trait.specs.Moves as moves
 use Rattle.component_trait.specs.States.{NodeState}
 use Rattle.config_graph.specs.declared.kind.Kind.{Kind}
 use Rattle.live_board.specs.Heirs.{AreHeirs}
 use Rattle.live_board.specs.Lengths.{length_at}
-use Rattle.live_laws.specs.Lines.{IsMadeLine, LineSight, line_node}
+use Rattle.live_board.specs.Lines.{IsMadeLine, LineSight, line_node}
 use Rattle.node_host.specs.Lines.{line_state}
 use Rattle.quiesce_core.specs.Sources.{SourcesAreGone}
 use Rattle.quiesce_core.specs.State.{Configuration, is_live, slot}
@@ -22,8 +22,8 @@ use Rattle.quiesce_core.specs.declared.state.Slot.{Slot}
 use Rattle.report_types.specs.declared.report.Last.{Last}
 use Rattle.report_types.specs.declared.report.Last.TheVariants.{State, Moved}
 use Rattle.report_types.specs.declared.report.NodeLog.{NodeLog}
-use Rattle.txn_law.specs.Views.{is_among, log_in}
-use Rattle.txn_law.specs.declared.view.NodeView.{NodeView}
+use Rattle.txn_spec.specs.Views.{is_among, log_in}
+use Rattle.txn_spec.specs.declared.view.NodeView.{NodeView}
 use Rattle.live_board.proofs.ChainLemmas.{ended, line_has}
 use Rattle.live_board.proofs.HeirLemmas.{heir_is, live_end}
 use Rattle.live_board.proofs.PartLemmas.{Part, part_of}

@@ -11,9 +11,9 @@ use Rattle.live_hall.specs.Sighting.{IsMadeIn}
 use Rattle.quiesce_core.specs.State.{Configuration}
 use Rattle.quiesce_core.specs.declared.event.Event.{Event}
 use Rattle.report_types.specs.declared.report.NodeLog.{NodeLog}
-use Rattle.txn_law.specs.Traces.{HaveOwnSlots}
-use Rattle.txn_law.specs.Views.{is_among, log_in}
-use Rattle.txn_law.specs.declared.view.NodeView.{NodeView}
+use Rattle.txn_spec.specs.Traces.{HaveOwnSlots}
+use Rattle.txn_spec.specs.Views.{is_among, log_in}
+use Rattle.txn_spec.specs.declared.view.NodeView.{NodeView}
 
 apart_at : (n : ℕ) (vs : List NodeView) (k : ℕ) (v : NodeView) → AllByRecursion (λ (m : NodeView). m.slot ≢ n) vs → slice_get vs k ≡ Some v → v.slot ≢ n
 apart_at n [] k v all at = absurd (cc)

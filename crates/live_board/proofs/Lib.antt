@@ -19,3 +19,11 @@ pub mod SeenLaws
 pub mod SightingLaws
 pub mod TakenLemmas
 pub mod TellLemmas
+mod LineFolds
+mod SeenLines
+mod ApartLemmas
+mod CutLaws
+mod ThreadReports
+mod RecordLemmas
+mod CarriedLemmas
+mod FirstSights

@@ -11,7 +11,7 @@ use Rattle.quiesce_core.specs.State.{Configuration, slot}
 use Rattle.quiesce_core.specs.Words.{slot_fields_of}
 use Rattle.quiesce_core.specs.declared.state.Slot.{Slot}
 use Rattle.quiesce_word.specs.declared.slot_word.SlotWord.{SlotWord}
-use Rattle.txn_law.specs.declared.view.NodeView.{NodeView}
+use Rattle.txn_spec.specs.declared.view.NodeView.{NodeView}
 use Rattle.live_board.specs.Behind.{HasBehind}
 
 module _ (c : Configuration) (k : Kind) where

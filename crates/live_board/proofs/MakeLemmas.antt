@@ -28,8 +28,8 @@ use Rattle.quiesce_core.specs.Effect.{with_node}
 use Rattle.quiesce_core.specs.Knowledge.{OwnPort}
 use Rattle.quiesce_core.specs.Words.{slot_fields_of}
 use Rattle.quiesce_word.specs.declared.slot_word.SlotWord.{SlotWord}
-use Rattle.txn_law.specs.declared.view.NodeView.{NodeView}
-use Rattle.txn_law.specs.Views.{node_at}
+use Rattle.txn_spec.specs.declared.view.NodeView.{NodeView}
+use Rattle.txn_spec.specs.Views.{node_at}
 use Rattle.txn_records.proofs.EntryLaws.{config_did}
 use Rattle.txn_records.specs.Entries.{config_of, event_in}
 use Rattle.txn_records.specs.Records.{IsRecord}

@@ -7,7 +7,7 @@ use Rattle.component_trait.specs.States.{Kept, NodeState}
 use Rattle.config_graph.specs.declared.kind.Kind.{Kind}
 use Rattle.node_host.specs.Lines.{line_node_state, line_state}
 use Rattle.quiesce_core.specs.State.{Configuration}
-use Rattle.live_laws.specs.Lines.{IsMadeLine, LineSight, is_in_slot, line_node}
+use Rattle.live_board.specs.Lines.{IsMadeLine, LineSight, is_in_slot, line_node}
 use Rattle.base.proofs.OptionLaws.{made_of_one}
 
 -- the node of slot n in a line, with those before it

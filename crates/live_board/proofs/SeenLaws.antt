@@ -7,7 +7,7 @@ use Rattle.std.proofs.lemmas.Bool.{and_parts, both_ways, cases_Bool, cases_lt}
 use Rattle.std.proofs.lemmas.List.{append-nil, map-append}
 use Rattle.atomic_table.specs.Seated.{TableId}
 use Rattle.change_board.specs.Sights.{Sight, fold_seen, fold_seen_within, is_seen_done, seen_in, sight_entry}
-use Rattle.change_law.specs.Opening.{argument_of, fold_at}
+use Rattle.change_spec.specs.Opening.{argument_of, fold_at}
 use Rattle.component_trait.specs.Moves as moves
 use Rattle.component_trait.specs.States.{Kept, NodeState}
 use Rattle.component_trait.specs.Tables.{opening}
@@ -16,7 +16,7 @@ use Rattle.quiesce_core.specs.State.{Configuration, is_live, slot}
 use Rattle.quiesce_core.specs.declared.event.Event.{Event}
 use Rattle.quiesce_core.specs.declared.state.Slot.{Slot}
 use Rattle.txn_records.specs.declared.entry.Entry.{Entry}
-use Rattle.live_laws.specs.Lines.{IsMadeLine, LineSight, is_in_slot}
+use Rattle.live_board.specs.Lines.{IsMadeLine, LineSight, is_in_slot}
 use Rattle.live_board.specs.Lengths.{AreLengths}
 use Rattle.live_board.specs.Seeing.{IsOfLine, SawNodes, SeesNode}
 use Rattle.live_board.specs.Turning.{LookedAt, SawEach, absent, no_node, none_yet, sighted, undone, unmet, was_there}

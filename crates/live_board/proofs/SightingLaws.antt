@@ -9,11 +9,11 @@ use Rattle.component_trait.specs.States.{NodeState}
 use Rattle.config_graph.specs.declared.kind.Kind.{Kind}
 use Rattle.live_hall.specs.Lines.{LineWord, line_words, seen_word}
 use Rattle.live_hall.specs.Sighting.{IsMadeIn, sight_of}
-use Rattle.live_laws.specs.Lines.{IsMadeLine, LineSight, is_in_slot, line_node, line_place, line_sight}
+use Rattle.live_board.specs.Lines.{IsMadeLine, LineSight, is_in_slot, line_node, line_place, line_sight}
 use Rattle.node_host.specs.Lines.{line_state}
 use Rattle.quiesce_core.specs.State.{Configuration}
 use Rattle.quiesce_core.specs.declared.event.Event.{Event}
-use Rattle.txn_law.specs.declared.view.NodeView.{NodeView}
+use Rattle.txn_spec.specs.declared.view.NodeView.{NodeView}
 use Rattle.txn_records.specs.declared.entry.Entry.{Entry}
 use Rattle.live_board.specs.Lengths.{AreLengths}
 use Rattle.live_board.specs.Making.{SightsLine}

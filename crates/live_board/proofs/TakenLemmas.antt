@@ -3,9 +3,9 @@ use Rattle.std.proofs.Common.{◌≡◌, ◌∙◌, ℕ, zero, suc, ◌+◌, ◌
 use Rattle.std.specs.List.{list_all, range_with_len}
 use Rattle.std.proofs.lemmas.Bool.{and_from, and_parts}
 use Rattle.live_board.specs.Boards.{BoardSeen, taken_in}
-use Rattle.live_laws.specs.Ended.{collected_logs}
+use Rattle.live_board.specs.Ended.{collected_logs}
 use Rattle.report_types.specs.declared.report.NodeLog.{NodeLog}
-use Rattle.txn_law.specs.Views.{is_among}
+use Rattle.txn_spec.specs.Views.{is_among}
 use Rattle.txn_records.specs.Entries.{config_of}
 
 at_each : (p : ℕ → Bool) (a n i : ℕ) → list_all p (range_with_len a n) ≡ true → i < n → p (a + i) ≡ true

@@ -5,11 +5,11 @@ use Rattle.change_board.specs.Steps.{Room}
 use Rattle.live_board.specs.Behind.{IsShallow}
 use Rattle.live_board.specs.Heirs.{AreHeirs}
 use Rattle.live_board.specs.Lengths.{IsLast}
-use Rattle.live_laws.specs.Ended.{collected_logs}
+use Rattle.live_board.specs.Ended.{collected_logs}
 use Rattle.quiesce_core.specs.State.{Configuration}
 use Rattle.quiesce_core.specs.declared.event.Event.{Event}
-use Rattle.txn_law.specs.Views.{is_among}
-use Rattle.txn_law.specs.declared.view.NodeView.{NodeView}
+use Rattle.txn_spec.specs.Views.{is_among}
+use Rattle.txn_spec.specs.declared.view.NodeView.{NodeView}
 use Rattle.txn_records.specs.Entries.{config_of}
 use Rattle.txn_records.specs.Records.{IsRecord}
 use Rattle.txn_records.specs.declared.entry.Entry.{Entry}

@@ -18,8 +18,8 @@ use Rattle.report_types.specs.declared.report.Last.{Last}
 use Rattle.report_types.specs.declared.report.Last.TheVariants.{State, Moved}
 use Rattle.report_types.specs.declared.report.NodeLog.{NodeLog}
 use Rattle.state_handover.specs.declared.any_node.AnyNode.{AnyNode}
-use Rattle.txn_law.specs.declared.view.NodeView.{NodeView}
-use Rattle.txn_law.specs.Views.{is_among, log_in}
+use Rattle.txn_spec.specs.declared.view.NodeView.{NodeView}
+use Rattle.txn_spec.specs.Views.{is_among, log_in}
 
 -- one of them
 abbrev pub IsOf : {A : Type 0} → List A → A → Type 0

@@ -10,3 +10,5 @@ pub mod Scanning
 pub mod Seeing
 pub mod Standing
 pub mod Turning
+pub mod Lines
+pub mod Ended

@@ -5,7 +5,7 @@ use Rattle.config_graph.specs.declared.TheConstants.{MAX_NODES}
 use Rattle.config_graph.specs.declared.node.Node.{Node}
 use Rattle.live_hall.specs.Houses.{FitsCell}
 use Rattle.live_hall.specs.declared.guest.Guest.{Guest}
-use Rattle.live_laws.specs.Lines.{IsMadeLine, WholeLine, last_slot, line_nodes, line_sight}
+use Rattle.live_board.specs.Lines.{IsMadeLine, WholeLine, last_slot, line_nodes, line_sight}
 use Rattle.quiesce_core.specs.State.{Configuration}
 use Rattle.quiesce_core.specs.declared.event.Event.TheVariants.{Make}
 use Rattle.txn_gate.specs.Seats.{collected_in, record_of, table_of_change}

@@ -8,7 +8,7 @@ use Rattle.config_graph.specs.declared.kind.Kind.{Kind}
 use Rattle.live_board.specs.Lengths.{AreLengths}
 use Rattle.live_board.specs.Turning.{SawEach}
 use Rattle.live_hall.specs.declared.guest.Guest.{Guest}
-use Rattle.live_laws.specs.Lines.{IsMadeLine, LineSight, is_in_slot}
+use Rattle.live_board.specs.Lines.{IsMadeLine, LineSight, is_in_slot}
 use Rattle.quiesce_core.specs.State.{Configuration, is_live}
 use Rattle.quiesce_core.specs.declared.event.Event.{Event}
 use Rattle.state_handover.specs.declared.any_node.AnyNode.{AnyNode}

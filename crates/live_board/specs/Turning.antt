@@ -12,7 +12,7 @@ use Rattle.node_host.specs.declared.turning.Turn.{Turn}
 use Rattle.node_host.specs.declared.turning.Turn.TheVariants.{Moved, Still}
 use Rattle.quiesce_core.specs.State.{Configuration, is_live}
 use Rattle.state_handover.specs.declared.any_node.AnyNode.{AnyNode}
-use Rattle.txn_turns.specs.Turned.{Turned}
+use Rattle.live_hall.specs.Turned.{Turned}
 
 -- the door found no node in slot n, and its count there rose
 pub record Missed (n : ℕ) (old new : List ℕ) : Type 0 where

@@ -15,7 +15,7 @@ ghost use Rattle.live_board.specs.Standing as standing;
 ghost use Rattle.live_board.specs.Turning.{Reached};
 ghost use Rattle.quiesce_core.specs.declared.event.Event.TheVariants as event;
 ghost use Rattle.txn_gate.specs.Seats.{IsChangeSeatOf, change_in, collected_in, record_of, table_of_change};
-ghost use Rattle.txn_law.specs.Views.{is_among, nothing_done};
+ghost use Rattle.txn_spec.specs.Views.{is_among, nothing_done};
 ghost use Rattle.txn_records.specs.Entries.{config_of};
 ghost use Rattle.txn_records.specs.Records.{Adds, AreAllNoted, IsRecordCut, May};
 ghost use Rattle.txn_records.specs.declared.entry.Entry.{Entry};

@@ -14,13 +14,13 @@ ghost use Rattle.txn_records.specs.Entries.{config_of};
 ghost use Rattle.txn_records.specs.Records.{AreAllNoted, IsRecord};
 
 use crate::ends::{Ends, take_ends};
+use crate::{lines_have_folds, seats_tell_of_their_line};
 use change_board::Collected;
 use component_trait::Component;
 use config_graph::{List, NoMemory};
 use live_hall::{BoxedGuest, Door, Guest, Named};
-use live_laws::{lines_have_folds, seats_tell_of_their_line};
 use node_host::Past;
-use node_events::NodeEvent;
+use quiesce_core::NodeEvent;
 use report_types::NodeLog;
 use state_handover::AnyNode;
 use std::alloc::Global;

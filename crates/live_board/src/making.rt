@@ -11,9 +11,9 @@ ghost use Rattle.txn_records.specs.Entries.{config_of};
 
 use crate::blank::Blank;
 use crate::keeping::{take_back, take_blank};
+use crate::seats_tell_of_their_line;
 use config_graph::Node;
 use live_hall::{Berth, BoxedGuest, Door, Guest, Named};
-use live_laws::seats_tell_of_their_line;
 use std::alloc::Global;
 use std::sync::Wait;
 use txn_gate::{ChangeSeat, Gates};

@@ -1,7 +1,7 @@
 //! Which nodes meet at each port.
 
 use config_graph::{MAX_PORTS, NoMemory};
-use node_events::{Deed, NodeEvent};
+use quiesce_core::{Deed, NodeEvent};
 use std::alloc::Global;
 use std::sync::atomic::{AtomicU32, Ordering};
 

@@ -12,9 +12,9 @@ ghost use Rattle.txn_gate.specs.Seats.{IsChangeSeatOf, collected_in, record_of, 
 ghost use Rattle.txn_records.specs.Entries.{config_of};
 ghost use Rattle.txn_records.specs.Records.{IsRecord};
 
+use crate::{done_nodes_are_seen_as_done, lines_share_no_node, seats_tell_of_their_line};
 use component_trait::Component;
 use live_hall::{BoxedGuest, Door, Guest, Named};
-use live_laws::{done_nodes_are_seen_as_done, lines_share_no_node, seats_tell_of_their_line};
 use node_host::Past;
 use state_handover::AnyNode;
 use std::sync::Wait;

@@ -2,7 +2,7 @@
 
 use crate::partners::Partners;
 use config_graph::NoMemory;
-use node_events::NodeEvent;
+use quiesce_core::NodeEvent;
 use std::alloc::Global;
 use std::sync::atomic::{AtomicBool, AtomicU32, Ordering};
 

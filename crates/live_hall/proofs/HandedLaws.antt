@@ -1,7 +1,7 @@
 -- The line of a node that takes over another's state.
 use Rattle.std.proofs.Common.{◌≡◌, ◌∙◌, ℕ, List, [], ◌∷◌, ◌++◌, map, Option, Some, None, refl, sym, ap}
 use Rattle.config_graph.specs.declared.kind.Kind.{Kind}
-use Rattle.txn_law.specs.declared.view.NodeView.{NodeView}
+use Rattle.txn_spec.specs.declared.view.NodeView.{NodeView}
 use Rattle.live_hall.specs.Lines.{LinePlace, LineWord, line_words, seen_word}
 use Rattle.live_hall.proofs.LineOpening.{map_snoc}
 

@@ -4,3 +4,4 @@ mod HandedLaws
 mod LineOpening
 mod Missed
 mod PastLaws
+mod Elsewhere

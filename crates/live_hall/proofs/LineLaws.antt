@@ -7,8 +7,8 @@ use Rattle.component_trait.specs.Making.{argument_or_0}
 use Rattle.component_trait.specs.States.{NodeState}
 use Rattle.component_trait.proofs.FoldLaws.{fold_keeps_argument, fold_keeps_kind}
 use Rattle.config_graph.specs.declared.kind.Kind.{Kind}
-use Rattle.txn_law.specs.Views.{node_at}
-use Rattle.txn_law.specs.declared.view.NodeView.{NodeView}
+use Rattle.txn_spec.specs.Views.{node_at}
+use Rattle.txn_spec.specs.declared.view.NodeView.{NodeView}
 use Rattle.node_host.specs.Hosted.{SeatSeen, node_of}
 use Rattle.node_gate.specs.Seats.{NodeAt}
 use Rattle.quiesce_core.specs.declared.event.Event.{Event}

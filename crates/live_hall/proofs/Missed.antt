@@ -3,7 +3,7 @@ use Rattle.std.proofs.Common.{◌≡◌, ◌∙◌, ℕ, zero, suc, ◌<◌, Lis
 use Rattle.std.specs.Prelude.{MatchOption, slice_index_or, slice_set}
 use Rattle.std.proofs.lemmas.List.{map-set}
 use Rattle.base.specs.Count.{Rose}
-use Rattle.base_pair_laws.proofs.PairedLaws.{seen_same}
+use Rattle.base.proofs.PairedLaws.{seen_same}
 use Rattle.live_hall.specs.Doors.{missed}
 use Rattle.live_hall.specs.declared.guest.Guest.{Guest}
 use Rattle.live_hall.specs.declared.lock.Lock.{Lock}

@@ -3,3 +3,4 @@ pub mod Lines
 pub mod Houses
 pub mod Doors
 pub mod Sighting
+pub mod Turned

@@ -2,7 +2,7 @@
 use Rattle.std.specs.Prelude.{ℕ, List, [], ◌∷◌, Option, Some}
 use Rattle.component_trait.specs.Making.{argument_or_0}
 use Rattle.config_graph.specs.declared.kind.Kind.{Kind}
-use Rattle.txn_law.specs.declared.view.NodeView.{NodeView}
+use Rattle.txn_spec.specs.declared.view.NodeView.{NodeView}
 
 pub record LineWord : Type 0 where
   pub slot : ℕ

@@ -5,7 +5,7 @@ ghost use Rattle.std.specs.List.{AllByRecursion};
 ghost use Rattle.txn_gate.specs.Seats.{IsChangeSeatOf, IsSeatOf, change_in, collected_in, node_in, record_of, table_of_change};
 ghost use Rattle.txn_records.specs.Entries.{config_of};
 ghost use Rattle.txn_records.specs.Records.{IsRecord};
-ghost use Rattle.txn_turns.specs.Turned.{HintsTold, Turned};
+ghost use Rattle.live_hall.specs.Turned.{HintsTold, Turned};
 
 use crate::guest::Guest;
 use config_graph::NoMemory;

@@ -7,7 +7,7 @@ ghost use Rattle.config_graph.specs.declared.TheConstants.{MAX_NODES};
 ghost use Rattle.crossbeam_queue.specs.Fifo.{Held};
 ghost use Rattle.live_hall.specs.Doors.{Opens};
 ghost use Rattle.live_hall.specs.Houses.{FitsCell, HousedFor, IsAt, place};
-ghost use Rattle.base_pair_laws.specs.Paired.{Paired};
+ghost use Rattle.base.specs.Paired.{Paired};
 
 use crate::boxed::BoxedGuest;
 use crate::cell;

@@ -1,7 +1,7 @@
 //! A node at the gates, with its line: the earlier nodes whose state it took over, and itself.
 
 ghost use Rattle.std.specs.Prelude.{◌≡◌, ◌++◌, ◌∷◌, [], None, Some, map};
-ghost use Rattle.txn_law.specs.Views.{node_at};
+ghost use Rattle.txn_spec.specs.Views.{node_at};
 ghost use Rattle.live_hall.specs.Lines.{line_words, seen_word};
 ghost use Rattle.txn_gate.specs.Seats.{node_in};
 

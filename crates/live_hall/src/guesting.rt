@@ -4,17 +4,17 @@ ghost use Rattle.std.specs.Prelude.{◌≡◌, map};
 ghost use Rattle.std.specs.List.{AllByRecursion};
 ghost use Rattle.txn_records.specs.Entries.{config_of};
 ghost use Rattle.txn_records.specs.Records.{IsRecord};
-ghost use Rattle.txn_turns.specs.Turned.{HintsTold, Turned};
+ghost use Rattle.live_hall.specs.Turned.{HintsTold, Turned};
 ghost use Rattle.live_hall.specs.Houses.{IsAt, tables_of};
 ghost use Rattle.live_hall.specs.Sighting.{IsMadeIn, notes_all, past_of, past_seen, views_of};
 ghost use Rattle.txn_gate.specs.Seats.{IsChangeSeatOf, IsSeatOf, change_in, collected_in, node_in, record_of, table_of_change, table_of_node};
 
 use crate::guest::Guest;
+use crate::turn_at_gates;
 use config_graph::NoMemory;
 use node_host::{Past, Turn};
 use port_queue::Hints;
 use txn_gate::{ChangeSeat, Gates, NodeSeat};
-use txn_turns::turn_at_gates;
 
 impl Guest {
     /// A turn of the node at the gates, by `turn_at_gates`. Its line is as it was.

@@ -3,7 +3,7 @@
 ghost use Rattle.std.specs.Prelude.{◌≡◌, ◌≤◌, IfOk, length, map, replicate};
 ghost use Rattle.config_graph.specs.declared.TheConstants.{MAX_NODES};
 ghost use Rattle.live_hall.specs.Doors.{Opens, missed, none_missed};
-ghost use Rattle.base_pair_laws.specs.Paired.{Paired};
+ghost use Rattle.base.specs.Paired.{Paired};
 
 use crate::cell;
 use crate::cell::{Cell, Named};

@@ -10,6 +10,7 @@ mod hall;
 mod lock;
 mod making;
 mod place;
+mod turning;
 
 pub use boxed::{Berth, BoxedGuest};
 pub use cell::Named;
@@ -17,3 +18,4 @@ pub use door::Door;
 pub use guest::Guest;
 pub use hall::Hall;
 pub use place::Place;
+pub use turning::turn_at_gates;

@@ -7,7 +7,7 @@ ghost use Rattle.crossbeam_queue.specs.Fifo.{Held};
 ghost use Rattle.live_hands.specs.Hands.{IsRefused, Seen, counts_of, of, seen_by, with_post, with_take};
 ghost use Rattle.live_hands.specs.Inbox.{HeldFor};
 ghost use Rattle.live_hands.specs.Opens.{Opens};
-ghost use Rattle.base_pair_laws.specs.Paired.{Paired};
+ghost use Rattle.base.specs.Paired.{Paired};
 ghost use Rattle.port_queue.specs.declared.TheConstants.{MAX_HINTS};
 
 use crate::entry::Entry;

@@ -4,7 +4,7 @@ ghost use Rattle.std.specs.Prelude.{◌≡◌, ◌≤◌, IfOk, length, map, rep
 ghost use Rattle.config_graph.specs.declared.TheConstants.{MAX_NODES};
 ghost use Rattle.live_hands.specs.Hands.{nothing_seen, shown, unused};
 ghost use Rattle.live_hands.specs.Opens.{Opens};
-ghost use Rattle.base_pair_laws.specs.Paired.{Paired};
+ghost use Rattle.base.specs.Paired.{Paired};
 
 use crate::entry::Entry;
 use crate::hand::Hand;

@@ -7,14 +7,14 @@ use Rattle.base.proofs.EachLaws.{each_pushed}
 use Rattle.base.proofs.ListLaws.{AllByRecursion-push}
 use Rattle.change_board.specs.Bearing.{Bears, IsBorne}
 use Rattle.change_board.specs.Transcripts.{entries, entry_in, line_in, lines, silent}
-use Rattle.change_law.specs.Statements.{Statement}
-use Rattle.live_laws.specs.Ended.{AgreesWith}
-use Rattle.quiesce_commit_laws.specs.Steps.{change_all}
+use Rattle.change_spec.specs.Statements.{Statement}
+use Rattle.live_board.specs.Ended.{AgreesWith}
+use Rattle.quiesce_laws.specs.Steps.{change_all}
 use Rattle.quiesce_core.specs.State.{Configuration, empty}
 use Rattle.report_types.specs.declared.report.HistoryLine.{HistoryLine}
 use Rattle.report_types.specs.declared.report.Report.{Report}
-use Rattle.txn_law.specs.Views.{log_in}
-use Rattle.txn_law.specs.declared.view.NodeView.{NodeView}
+use Rattle.txn_spec.specs.Views.{log_in}
+use Rattle.txn_spec.specs.declared.view.NodeView.{NodeView}
 use Rattle.txn_records.specs.Entries.{config_of, event_in, events_in}
 use Rattle.txn_records.specs.declared.entry.Entry.{Entry}
 use Rattle.txn_records.specs.declared.entry.Entry.TheVariants.{Looked}

@@ -1,17 +1,17 @@
 -- A script that is carried out on threads: what it needs, and what it leaves before the seat has had its last look.
 use Rattle.std.specs.Prelude.{◌≡◌, ℕ, ◌<◌, ◌≤◌, List, [], length, IsTrue}
 use Rattle.atomic_table.specs.Seated.{TableId}
-use Rattle.change_law.specs.Asked.{CanDoAll, CanStart, after_start}
-use Rattle.change_law.specs.Statements.{Statement}
-use Rattle.change_law.specs.declared.steps.Start.{Start}
-use Rattle.change_law.specs.declared.steps.Step.{Step}
-use Rattle.live_laws.specs.Ended.{CarriedOutOnThreads}
+use Rattle.change_spec.specs.Asked.{CanDoAll, CanStart, after_start}
+use Rattle.change_spec.specs.Statements.{Statement}
+use Rattle.change_spec.specs.declared.steps.Start.{Start}
+use Rattle.change_spec.specs.declared.steps.Step.{Step}
+use Rattle.live_board.specs.Ended.{CarriedOutOnThreads}
 use Rattle.report_types.specs.declared.report.Report.{Report}
 use Rattle.report_writing.specs.Reports.{LogsAreMade}
 use Rattle.txn_gate.specs.Seats.{IsChangeSeatOf, change_in, collected_in, record_of, table_of_change}
 use Rattle.txn_gate.specs.declared.change_seat.ChangeSeat.{ChangeSeat}
 use Rattle.txn_gate.specs.declared.gates.Gates.{Gates}
-use Rattle.txn_law.specs.Views.{is_among, nothing_done}
+use Rattle.txn_spec.specs.Views.{is_among, nothing_done}
 use Rattle.txn_records.specs.Entries.{config_of}
 
 -- the seat is of these gates and fresh, the observers are few, and the script can be carried out

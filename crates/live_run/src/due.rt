@@ -1,7 +1,7 @@
 //! Which nodes a worker gives turns next.
 
 use config_graph::MAX_NODES;
-use node_events::{Deed, NodeEvent};
+use quiesce_core::{Deed, NodeEvent};
 
 /// How often a worker looks for a node that has something to do, where others have it.
 const LOOKS: u8 = 4;

@@ -9,4 +9,4 @@ mod working;
 
 pub use live_board::Turnstile;
 pub use running::{Ran, run_on_threads};
-pub use watch_threads::Observers;
+pub use watch_view::Observers;

@@ -1,20 +1,20 @@
 //! The script, carried out by one thread beside its workers.
 
 ghost use Rattle.std.specs.Prelude.{◌≡◌, ◌≤◌, ◌<◌, ◌+◌, ◌^◌, [], All, IfOk, length};
-ghost use Rattle.change_law.specs.Asked.{CanDoAll, CanStart, after_start, statements_of};
-ghost use Rattle.live_laws.specs.Ended.{AgreesWith};
+ghost use Rattle.change_spec.specs.Asked.{CanDoAll, CanStart, after_start, statements_of};
+ghost use Rattle.live_board.specs.Ended.{AgreesWith};
 ghost use Rattle.live_run.specs.Carried.{CarriedOut, IsReady};
 ghost use Rattle.report_writing.specs.Reports.{LogsAreMade};
 ghost use Rattle.txn_gate.specs.Seats.{IsChangeSeatOf, change_in, collected_in, record_of};
-ghost use Rattle.txn_law.specs.Views.{nothing_done};
+ghost use Rattle.txn_spec.specs.Views.{nothing_done};
 ghost use Rattle.watch_lines.specs.Observers.{AreToldOf};
-ghost use Rattle.watch_threads.specs.Hearing.{HasHeard};
+ghost use Rattle.watch_view.specs.Hearing.{HasHeard};
 
 use crate::ending::look_last;
 use crate::working::{Flags, Share, work};
 use change_board::Board;
-use change_law::{Start, Step};
 use change_runner::run_statements;
+use change_spec::{Start, Step};
 use config_graph::{List, NoMemory};
 use live_board::{LiveBoard, Turnstile, scripts_leave_all_taken_in};
 use live_hall::{Door, Hall, Named};
@@ -28,7 +28,7 @@ use std::thread;
 use std::thread::Threads;
 use txn_gate::{ChangeSeat, Gates};
 use watch_lines::{Sighting, what_was_seen_is_told};
-use watch_threads::{Observers, Watch};
+use watch_view::{Observers, Watch};
 
 /// What a run leaves: its report, the lines of each observer, and the seat of the change.
 pub type Ran = (Report, Vec<List<Sighting>>, ChangeSeat);

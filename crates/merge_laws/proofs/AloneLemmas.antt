@@ -11,7 +11,7 @@ use Rattle.base.proofs.EachLaws.{each_at}
 use Rattle.component_trait.specs.Moves as moves
 use Rattle.component_trait.specs.States.{NodeState}
 use Rattle.component_trait.specs.Tables.{opening}
-use Rattle.quiesce_commit_laws.specs.Steps.{change_all}
+use Rattle.quiesce_laws.specs.Steps.{change_all}
 use Rattle.quiesce_core.specs.declared.event.Event.{Event}
 use Rattle.quiesce_core.specs.declared.state.Slot.{Slot}
 use Rattle.quiesce_core.specs.Live.{IsGraphOf}
@@ -20,12 +20,12 @@ use Rattle.quiesce_core.specs.State.{empty, is_live, slot}
 use Rattle.report_types.specs.declared.report.HistoryLine.{HistoryLine}
 use Rattle.report_types.specs.declared.report.HistoryLine.TheVariants as to
 use Rattle.report_types.specs.declared.report.Report.{Report}
-use Rattle.change_law.specs.Lawful.{IsGraphAt, IsGraphDescribed, IsOfItsKind, Merge, unfinished_of}
-use Rattle.change_law.specs.Members.{Member, of_history, event_of, events, is_root, lines, state_at, without_roots}
-use Rattle.change_law.specs.Opening.{argument_of, fold_at, fold_of_node, fold_within}
-use Rattle.change_law.specs.Scene.{config_after}
-use Rattle.change_law.specs.Statements.{Statement, is_finish}
-use Rattle.change_law.proofs.MemberLaws.{all_parts, at_line, config_of_lines, each_if, events_without_roots, lines_parts}
+use Rattle.change_spec.specs.Lawful.{IsGraphAt, IsGraphDescribed, IsOfItsKind, Merge, unfinished_of}
+use Rattle.change_spec.specs.Members.{Member, of_history, event_of, events, is_root, lines, state_at, without_roots}
+use Rattle.change_spec.specs.Opening.{argument_of, fold_at, fold_of_node, fold_within}
+use Rattle.change_spec.specs.Scene.{config_after}
+use Rattle.change_spec.specs.Statements.{Statement, is_finish}
+use Rattle.change_spec.proofs.MemberLaws.{all_parts, at_line, config_of_lines, each_if, events_without_roots, lines_parts}
 use Rattle.merge_laws.specs.Alone.{IsShown, fold_told, fold_told_within, log_told, unfinished_told}
 use Rattle.merge_laws.proofs.LogLemmas.{has_logs}
 

@@ -16,7 +16,7 @@ use Rattle.quiesce_laws.specs.Events.{is_root_of}
 use Rattle.quiesce_laws.proofs.ExtensionLaws.{extends_next}
 use Rattle.report_types.specs.declared.report.HistoryLine.{HistoryLine}
 use Rattle.report_types.specs.declared.report.HistoryLine.TheVariants as to
-use Rattle.change_law.specs.Members.{Member, events}
+use Rattle.change_spec.specs.Members.{Member, events}
 use Rattle.merge_laws.specs.Guarded.{Left, all_left, can_go, go, is_beyond, is_called_at, is_met, may_go, may_tell, told, told_state, waits}
 use Rattle.merge_laws.specs.Merges.{HasRootsApart}
 use Rattle.merge_laws.specs.Ways.{first_event, first_of, members_of, of_line}

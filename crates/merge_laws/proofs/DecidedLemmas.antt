@@ -8,14 +8,14 @@ use Rattle.report_types.specs.declared.report.HistoryLine.{HistoryLine}
 use Rattle.report_types.specs.declared.report.HistoryLine.TheVariants as to
 use Rattle.report_types.specs.declared.report.NodeLog.{NodeLog}
 use Rattle.report_types.specs.declared.report.Report.{Report}
-use Rattle.change_law.specs.Consistent.{Consistent}
-use Rattle.change_law.specs.Endings.{moved_to}
-use Rattle.change_law.specs.Follows.{Follows}
-use Rattle.change_law.specs.Lawful.{EndsAs, IsDrainedAt, IsEndedOnce, IsGraphDescribed, IsLawfulBy, Merge, StoodOpenWhereSaid}
-use Rattle.change_law.specs.Members.{Member, of_history, events}
-use Rattle.change_law.specs.Statements.{Statement}
-use Rattle.change_law.proofs.MemberLaws.{each_if}
-use Rattle.change_law.proofs.RunningLaws.{quiet}
+use Rattle.change_spec.specs.Consistent.{Consistent}
+use Rattle.change_spec.specs.Endings.{moved_to}
+use Rattle.change_spec.specs.Follows.{Follows}
+use Rattle.change_spec.specs.Lawful.{EndsAs, IsDrainedAt, IsEndedOnce, IsGraphDescribed, IsLawfulBy, Merge, StoodOpenWhereSaid}
+use Rattle.change_spec.specs.Members.{Member, of_history, events}
+use Rattle.change_spec.specs.Statements.{Statement}
+use Rattle.change_spec.proofs.MemberLaws.{each_if}
+use Rattle.change_spec.proofs.RunningLaws.{quiet}
 use Rattle.change_round_laws.specs.SoundStatements.{AreSound}
 use Rattle.merge_laws.specs.Alone.{AreRightAlone}
 use Rattle.merge_laws.specs.Guarded.{can_go, go, left, left_of, may_go}
@@ -27,7 +27,7 @@ use Rattle.merge_laws.proofs.LogLemmas.{are_logs}
 use Rattle.merge_laws.proofs.MergeLemmas.{logs_are_done, ways_are_merges}
 use Rattle.merge_laws.proofs.TellingLemmas.{histories_are_told}
 
--- what change_law and change_round_laws say of such lists
+-- what change_spec and change_round_laws say of such lists
 abbrev pub EachEndsOnce : Type 0
 EachEndsOnce = (statements : List Statement) (report : Report) (m : List Member) → Follows statements report.history → Merge m report → IsRun (events m) → Each IsDrainedAt m
     → (p k : ℕ) → IsEndedOnce (events m) p k

@@ -4,8 +4,8 @@ use Rattle.std.specs.Prelude.{nat_lt, All}
 use Rattle.std.specs.List.Sorted.{IsStrictlyIncreasing}
 use Rattle.std.proofs.lemmas.Bool.{both_ways, ltb-true}
 use Rattle.std.proofs.lemmas.List.Elements.{All-cons, All-head, All-nil, All-tail}
-use Rattle.change_law.specs.Changes.{AreLooks, PortsRise, seen_in_all}
-use Rattle.change_law.specs.Scene.{Seen}
+use Rattle.change_spec.specs.Changes.{AreLooks, PortsRise, seen_in_all}
+use Rattle.change_spec.specs.Scene.{Seen}
 use Rattle.merge_laws.specs.Descents.{descents, descents_from, pieces, pieces_from, put_first}
 
 -- ---- numbers that rise, one by one

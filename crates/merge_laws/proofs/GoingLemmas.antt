@@ -33,8 +33,8 @@ use Rattle.quiesce_laws.proofs.ExchangeLaws.{PortStep, stays, begins, calls, end
 use Rattle.quiesce_laws.proofs.ExtensionLaws.{extends_next, read_before}
 use Rattle.report_types.specs.declared.report.HistoryLine.{HistoryLine}
 use Rattle.report_types.specs.declared.report.HistoryLine.TheVariants as to
-use Rattle.change_law.specs.Members.{is_close}
-use Rattle.quiesce_swap_laws.specs.Independence.{clashes}
+use Rattle.change_spec.specs.Members.{is_close}
+use Rattle.quiesce_laws.specs.Independence.{clashes}
 use Rattle.merge_laws.specs.Guarded.{Left, can_go, amount, closes_before, do_first, go, is_beyond, is_called_at, is_met, is_root_line, left, log_of, may_do, may_do_first, may_go, may_tell, may_tell_first, tell_first, tells, told, told_state, waits}
 use Rattle.merge_laws.proofs.SwapLemmas.{change_and_node, does_still, two_nodes}
 use Rattle.merge_laws.proofs.ConfluenceLemmas as confluence

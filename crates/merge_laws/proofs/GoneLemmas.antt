@@ -19,10 +19,10 @@ use Rattle.quiesce_core.specs.State.{Configuration, State, is_live, service, slo
 use Rattle.quiesce_core.proofs.RunLaws.{nodes_know, runs_are_consistent, runs_are_well_formed}
 use Rattle.quiesce_core.proofs.SourceLaws.{sources_are_gone}
 use Rattle.report_types.specs.declared.report.Report.{Report}
-use Rattle.change_law.specs.Lawful.{Merge}
-use Rattle.change_law.specs.Members.{Member, events}
-use Rattle.change_law.specs.Opening.{argument_of, fold_of_node}
-use Rattle.change_law.specs.Scene.{config_after}
+use Rattle.change_spec.specs.Lawful.{Merge}
+use Rattle.change_spec.specs.Members.{Member, events}
+use Rattle.change_spec.specs.Opening.{argument_of, fold_of_node}
+use Rattle.change_spec.specs.Scene.{config_after}
 use Rattle.merge_laws.specs.Alone.{fold_told}
 use Rattle.merge_laws.proofs.AloneLemmas.{config_is, fold_is}
 use Rattle.merge_laws.proofs.RootPortLemmas.{folded}

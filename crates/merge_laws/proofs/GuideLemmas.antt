@@ -38,9 +38,9 @@ use Rattle.merge_laws.specs.Guided.{Guided}
 use Rattle.merge_laws.proofs.GoingLemmas.{call_is_there}
 use Rattle.report_types.specs.declared.report.HistoryLine.{HistoryLine}
 use Rattle.report_types.specs.declared.report.HistoryLine.TheVariants as to
-use Rattle.change_law.specs.Lawful.{IsDrainedAt, IsOfItsKind, StoodOpen}
-use Rattle.change_law.specs.Members.{Member, by_node, of_history, event_of, events, is_close, is_root, lines, state_at, without_roots}
-use Rattle.change_law.proofs.MemberLaws.{AtLine, all_parts, at_line, events_parts, lines_parts, none_happens, parted_at}
+use Rattle.change_spec.specs.Lawful.{IsDrainedAt, IsOfItsKind, StoodOpen}
+use Rattle.change_spec.specs.Members.{Member, by_node, of_history, event_of, events, is_close, is_root, lines, state_at, without_roots}
+use Rattle.change_spec.proofs.MemberLaws.{AtLine, all_parts, at_line, events_parts, lines_parts, none_happens, parted_at}
 use Rattle.merge_laws.specs.Guarded.{closes_before, is_beyond, is_called_at, is_met, is_root_line, tells, told, waits}
 use Rattle.merge_laws.specs.Merges.{HasRootsApart, IsMergeWith}
 use Rattle.merge_laws.specs.Telling.{IsShutBy, IsTold, IsToldOf, reopens_there}

@@ -18,8 +18,8 @@ use Rattle.quiesce_core.proofs.LegalLaws.{allowed}
 use Rattle.quiesce_core.proofs.RunLaws.{doer_there, runs_are_consistent, runs_are_well_formed, state_more}
 use Rattle.report_types.specs.declared.report.HistoryLine.{HistoryLine}
 use Rattle.report_types.specs.declared.report.HistoryLine.TheVariants as to
-use Rattle.change_law.specs.Members.{Member, by_node, of_history, event_of, events, is_root, lines, state_at, without_roots}
-use Rattle.change_law.proofs.MemberLaws.{events_parts, lines_parts}
+use Rattle.change_spec.specs.Members.{Member, by_node, of_history, event_of, events, is_root, lines, state_at, without_roots}
+use Rattle.change_spec.proofs.MemberLaws.{events_parts, lines_parts}
 use Rattle.merge_laws.specs.Guarded.{Left, all_left, amount, can_go, do_first, go, is_met, left, may_do, may_do_first, may_go, may_tell, told, told_state}
 use Rattle.merge_laws.specs.Guided.{Guided}
 use Rattle.merge_laws.proofs.ConfluenceLemmas as confluence

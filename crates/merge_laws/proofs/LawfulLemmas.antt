@@ -6,10 +6,10 @@ use Rattle.base.proofs.EachLaws.{each_at}
 use Rattle.report_types.specs.declared.report.HistoryLine.TheVariants as to
 use Rattle.report_types.specs.declared.report.NodeLog.{NodeLog}
 use Rattle.report_types.specs.declared.report.Report.{Report}
-use Rattle.change_law.specs.Follows.{Follows}
-use Rattle.change_law.specs.Lawful.{IsLawfulBy, StoodOpenWhereSaid}
-use Rattle.change_law.specs.Members.{Member}
-use Rattle.change_law.specs.Statements.{Statement}
+use Rattle.change_spec.specs.Follows.{Follows}
+use Rattle.change_spec.specs.Lawful.{IsLawfulBy, StoodOpenWhereSaid}
+use Rattle.change_spec.specs.Members.{Member}
+use Rattle.change_spec.specs.Statements.{Statement}
 use Rattle.merge_laws.specs.Guarded.{can_go, go, left, left_of, may_go}
 use Rattle.merge_laws.specs.Merges.{HasLogs, IsMergeWith}
 use Rattle.merge_laws.proofs.GuideLemmas.{guided}

@@ -18,5 +18,4 @@ mod StuckLemmas
 mod AloneLemmas
 mod GoneLemmas
 mod MisleadingLemmas
-mod MisleadingReportLemmas
 mod DecidedLemmas

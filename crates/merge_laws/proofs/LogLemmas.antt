@@ -25,17 +25,17 @@ use Rattle.quiesce_core.proofs.AlterLaws.{reconfigured}
 use Rattle.quiesce_core.proofs.InductionLaws.{always}
 use Rattle.quiesce_core.proofs.RunLaws.{done_by_more}
 use Rattle.quiesce_core.proofs.TableLaws.{live_made}
-use Rattle.quiesce_swap_laws.proofs.DoerLaws.{by_owner, by_target, found, nodes_do_no_change, port_of}
+use Rattle.quiesce_laws.proofs.SwapDoerLaws.{by_owner, by_target, found, nodes_do_no_change, port_of}
 use Rattle.report_types.specs.declared.report.HistoryLine.{HistoryLine}
 use Rattle.report_types.specs.declared.report.HistoryLine.TheVariants as to
 use Rattle.report_types.specs.declared.report.NodeLog.{NodeLog}
 use Rattle.report_types.specs.declared.report.Report.{Report}
-use Rattle.change_law.specs.Endings.{moved_to}
-use Rattle.change_law.specs.Lawful.{IsFolded, IsLawfulBy, IsLogIn, IsOfItsKind}
-use Rattle.change_law.specs.Members.{Member, event_of, events, lines, made_slot, without_roots}
-use Rattle.change_law.specs.Opening.{fold_of_node}
-use Rattle.change_law.specs.Statements.{Statement}
-use Rattle.change_law.proofs.MemberLaws.{changes_are_lines, events_without_roots, ended_there}
+use Rattle.change_spec.specs.Endings.{moved_to}
+use Rattle.change_spec.specs.Lawful.{IsFolded, IsLawfulBy, IsLogIn, IsOfItsKind}
+use Rattle.change_spec.specs.Members.{Member, event_of, events, lines, made_slot, without_roots}
+use Rattle.change_spec.specs.Opening.{fold_of_node}
+use Rattle.change_spec.specs.Statements.{Statement}
+use Rattle.change_spec.proofs.MemberLaws.{changes_are_lines, events_without_roots, ended_there}
 use Rattle.merge_laws.specs.Merges.{HasLogs, HasRootsApart}
 use Rattle.merge_laws.proofs.RootPortLemmas.{roots_are_free}
 

@@ -14,15 +14,15 @@ use Rattle.quiesce_core.specs.Runs.{IsRun, can_run, doer, done_by, done_from, is
 use Rattle.quiesce_core.proofs.RunLaws.{run_if}
 use Rattle.report_types.specs.declared.report.HistoryLine.{HistoryLine}
 use Rattle.report_types.specs.declared.report.HistoryLine.TheVariants as to
-use Rattle.quiesce_commit_laws.proofs.MeanwhileLaws.{after_more}
-use Rattle.change_law.specs.Found.{is_drained_at, is_of_its_kind, passes_each}
-use Rattle.change_law.specs.Members.{Member, by_node, of_history, events, is_root, lines, state_at, without_roots}
-use Rattle.change_law.proofs.MemberLaws.{events_parts}
+use Rattle.quiesce_laws.proofs.MeanwhileLaws.{after_more}
+use Rattle.change_spec.specs.Found.{is_drained_at, is_of_its_kind, passes_each}
+use Rattle.change_spec.specs.Members.{Member, by_node, of_history, events, is_root, lines, state_at, without_roots}
+use Rattle.change_spec.proofs.MemberLaws.{events_parts}
 use Rattle.merge_laws.specs.Guarded.{Left, all_left, can_go, go, is_met, left, log_of, may_go, may_tell, told, told_state, amount}
 use Rattle.std.proofs.lemmas.List.Elements.{All-cons, All-nil}
 use Rattle.base.specs.Each.{EachAfter}
 use Rattle.quiesce_laws.specs.Drained.{is_drained}
-use Rattle.change_law.specs.Lawful.{IsDrainedAt, IsOfItsKind}
+use Rattle.change_spec.specs.Lawful.{IsDrainedAt, IsOfItsKind}
 use Rattle.merge_laws.specs.Merges.{IsMergeWith}
 use Rattle.merge_laws.specs.Telling.{IsTold}
 use Rattle.merge_laws.proofs.OpenRootLemmas.{stands_open}

@@ -19,12 +19,12 @@ use Rattle.quiesce_core.proofs.LegalLaws.{legal}
 use Rattle.quiesce_laws.specs.Events.{reopens}
 use Rattle.quiesce_laws.specs.Roots.{has_root}
 use Rattle.quiesce_laws.proofs.ExchangeLaws.{PortStep, stays, begins, calls, ends, port_step}
-use Rattle.quiesce_commit_laws.proofs.MeanwhileLaws.{after_more}
+use Rattle.quiesce_laws.proofs.MeanwhileLaws.{after_more}
 use Rattle.report_types.specs.declared.report.HistoryLine.{HistoryLine}
 use Rattle.report_types.specs.declared.report.HistoryLine.TheVariants as to
-use Rattle.change_law.specs.Lawful.{StoodOpen}
-use Rattle.change_law.specs.Members.{Member, by_node, of_history, events, is_close, is_root, lines, state_at, without_roots}
-use Rattle.change_law.proofs.MemberLaws.{events_parts, lines_parts}
+use Rattle.change_spec.specs.Lawful.{StoodOpen}
+use Rattle.change_spec.specs.Members.{Member, by_node, of_history, events, is_close, is_root, lines, state_at, without_roots}
+use Rattle.change_spec.proofs.MemberLaws.{events_parts, lines_parts}
 use Rattle.merge_laws.specs.Guarded.{Left, all_left, can_go, closes_before, go, is_met, is_root_line, log_of, may_go, may_tell, may_tell_first, tell_first, told, told_state, waits}
 use Rattle.merge_laws.specs.Telling.{IsShutBy, reopens_there}
 use Rattle.merge_laws.proofs.GuideLemmas.{told_first}
@@ -35,7 +35,7 @@ use Rattle.quiesce_core.proofs.AlterLaws.{reconfigured}
 use Rattle.quiesce_core.specs.Legal.{Legal}
 use Rattle.quiesce_core.specs.declared.state.Gate.{Gate}
 use Rattle.quiesce_laws.proofs.ExtensionLaws.{closed_next}
-use Rattle.quiesce_swap_laws.proofs.ChangeSwapLaws.{exchange_same}
+use Rattle.quiesce_laws.proofs.ChangeSwapLaws.{exchange_same}
 use Rattle.merge_laws.specs.Ways.{first_event, first_of, members_of, of_line}
 
 -- an end of the root waits while a close is left before the line that tells it

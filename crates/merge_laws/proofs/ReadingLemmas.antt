@@ -16,11 +16,11 @@ use Rattle.quiesce_core.specs.Live.{AreLinked, IsGraphOf, IsLiveNode}
 use Rattle.quiesce_core.specs.State.{Configuration}
 use Rattle.report_types.specs.declared.report.HistoryLine.{HistoryLine}
 use Rattle.report_types.specs.declared.report.HistoryLine.TheVariants as to
-use Rattle.change_law.specs.Changes.{IsChange, IsCommitted, IsGivenUp, opening_lines, pending_lines, seen_in_all}
-use Rattle.change_law.specs.Follows.{Follows, IsRight, IsStop, Part, lines_of}
-use Rattle.change_law.specs.Members.{lines_of_events}
-use Rattle.change_law.specs.Scene.{AreSeen, config_after, drained_line}
-use Rattle.change_law.specs.Statements.{Statement}
+use Rattle.change_spec.specs.Changes.{IsChange, IsCommitted, IsGivenUp, opening_lines, pending_lines, seen_in_all}
+use Rattle.change_spec.specs.Follows.{Follows, IsRight, IsStop, Part, lines_of}
+use Rattle.change_spec.specs.Members.{lines_of_events}
+use Rattle.change_spec.specs.Scene.{AreSeen, config_after, drained_line}
+use Rattle.change_spec.specs.Statements.{Statement}
 use Rattle.change_plan.proofs.PlanLaws.{one_plan}
 use Rattle.merge_laws.specs.Descents.{pieces}
 use Rattle.merge_laws.specs.Reading.{HasRead, IsChangeSo, IsCommittedSo, IsGivenUpSo}

@@ -28,7 +28,7 @@ use Rattle.quiesce_core.proofs.TableLaws.{gate_place}
 use Rattle.quiesce_laws.specs.Events.{is_root_of}
 use Rattle.quiesce_laws.proofs.ExtensionLaws.{extends_further}
 use Rattle.quiesce_laws.proofs.OneRootLaws.{found}
-use Rattle.change_law.specs.Opening.{argument_of, fold_at, fold_of_node, fold_within}
+use Rattle.change_spec.specs.Opening.{argument_of, fold_at, fold_of_node, fold_within}
 use Rattle.merge_laws.specs.Guarded.{is_called_at}
 
 -- ---- what kinds want

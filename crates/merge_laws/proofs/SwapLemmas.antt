@@ -9,10 +9,10 @@ use Rattle.quiesce_core.specs.Rules.{denial}
 use Rattle.quiesce_core.specs.Runs.{doer, is_doer}
 use Rattle.quiesce_core.specs.Traffic.{IsConsistent}
 use Rattle.quiesce_core.specs.WellFormed.{IsWellFormed}
-use Rattle.quiesce_swap_laws.specs.Independence.{AreIndependent, clashes}
-use Rattle.quiesce_swap_laws.proofs.ChangeSwapLaws.{changes_are_independent_of_nodes}
-use Rattle.quiesce_swap_laws.proofs.DoerLaws.{found}
-use Rattle.quiesce_swap_laws.proofs.NodeSwapLaws.{nodes_are_independent}
+use Rattle.quiesce_laws.specs.Independence.{AreIndependent, clashes}
+use Rattle.quiesce_laws.proofs.ChangeSwapLaws.{changes_are_independent_of_nodes}
+use Rattle.quiesce_laws.proofs.SwapDoerLaws.{found}
+use Rattle.quiesce_laws.proofs.NodeSwapLaws.{nodes_are_independent}
 
 pub two_nodes : (s : State) (e f : Event) (i j : ℕ) → IsWellFormed s → IsConsistent s → denial s e ≡ None → denial s f ≡ None
     → is_doer s i e ≡ true → is_doer s j f ≡ true → (i ≡ j → ⊥) → AreIndependent s e f

@@ -14,22 +14,22 @@ use Rattle.base.proofs.PlaceLaws.{tails_are}
 use Rattle.config_graph.specs.Graph.{Graph}
 use Rattle.change_plan.specs.declared.plan_data.Move.{Move}
 use Rattle.change_plan.specs.declared.plan_data.Plan.{Plan}
-use Rattle.quiesce_commit_laws.specs.Steps.{change_all, live_ports}
+use Rattle.quiesce_laws.specs.Steps.{change_all, live_ports}
 use Rattle.change_plan_laws.specs.Commit.{ports_to_close}
 use Rattle.quiesce_core.specs.Rules.{is_live_port}
 use Rattle.quiesce_core.specs.State.{Configuration}
 use Rattle.report_types.specs.declared.report.HistoryLine.{HistoryLine}
 use Rattle.report_types.specs.declared.report.HistoryLine.TheVariants as to
-use Rattle.change_law.specs.Changes.{IsChange, IsCommitted, IsGivenUp, commit_lines, opening_lines, seen_in_all}
-use Rattle.change_law.specs.Follows.{Follows, IsRight, IsStop, Part, lines_of, skip_lines, start_lines}
-use Rattle.change_law.specs.Members.{is_close, is_pending, is_root}
-use Rattle.change_law.specs.Scene.{AreSeen, Seen, config_after, drained_line, root_line}
-use Rattle.change_law.specs.Statements.{Statement, start, change, run, finish, show}
-use Rattle.change_law.proofs.MemberLaws.{parted_at}
+use Rattle.change_spec.specs.Changes.{IsChange, IsCommitted, IsGivenUp, commit_lines, opening_lines, seen_in_all}
+use Rattle.change_spec.specs.Follows.{Follows, IsRight, IsStop, Part, lines_of, skip_lines, start_lines}
+use Rattle.change_spec.specs.Members.{is_close, is_pending, is_root}
+use Rattle.change_spec.specs.Scene.{AreSeen, Seen, config_after, drained_line, root_line}
+use Rattle.change_spec.specs.Statements.{Statement, start, change, run, finish, show}
+use Rattle.change_spec.proofs.MemberLaws.{parted_at}
 use Rattle.base.proofs.ListLaws.{count_by-some}
-use Rattle.change_law.proofs.ClosingLaws.{commit_lines_close_none, commit_roots_none, start_closes_none, start_roots_none}
-use Rattle.change_law.proofs.PortLaws.{closed_events, closing_rise, config_more, still_to_close}
-use Rattle.change_law.proofs.TestLaws.{counted_some, none_both, none_mapped, range_rises}
+use Rattle.change_spec.proofs.ClosingLaws.{commit_lines_close_none, commit_roots_none, start_closes_none, start_roots_none}
+use Rattle.change_spec.proofs.PortLaws.{closed_events, closing_rise, config_more, still_to_close}
+use Rattle.change_spec.proofs.TestLaws.{counted_some, none_both, none_mapped, range_rises}
 use Rattle.merge_laws.specs.Guarded.{tells}
 use Rattle.merge_laws.specs.Telling.{IsShutBy, IsTold, IsToldOf, reopens_there}
 use Rattle.merge_laws.proofs.DescentLemmas.{rise_first, rise_tail}

@@ -15,20 +15,20 @@ use Rattle.report_types.specs.declared.report.HistoryLine.{HistoryLine}
 use Rattle.report_types.specs.declared.report.HistoryLine.TheVariants as to
 use Rattle.report_types.specs.declared.report.NodeLog.{NodeLog}
 use Rattle.report_types.specs.declared.report.Report.{Report}
-use Rattle.change_law.specs.Consistent.{keeps_to_limit}
-use Rattle.change_law.specs.Endings.{moved_to, status_of}
-use Rattle.change_law.specs.Lawful.{EndsAs}
-use Rattle.change_law.specs.Members.{made_slot}
-use Rattle.change_law.specs.Opening.{argument_of, fold_at}
-use Rattle.change_law.specs.Scene.{config_after}
-use Rattle.change_law.specs.Statements.{Statement, is_finish}
+use Rattle.change_spec.specs.Consistent.{keeps_to_limit}
+use Rattle.change_spec.specs.Endings.{moved_to, status_of}
+use Rattle.change_spec.specs.Lawful.{EndsAs}
+use Rattle.change_spec.specs.Members.{made_slot}
+use Rattle.change_spec.specs.Opening.{argument_of, fold_at}
+use Rattle.change_spec.specs.Scene.{config_after}
+use Rattle.change_spec.specs.Statements.{Statement, is_finish}
 
 -- the log of the node in slot n
 abbrev pub log_told : Report → ℕ → List Event
 log_told report n = slice_index_or (map (λ (l : NodeLog). l.events) report.logs) n []
 
 -- What that node has come to by its log, from its argument or from what another node kept; a chain of hand-overs has at
--- most so many nodes. It is `fold_within` of change_law, by the history and the logs.
+-- most so many nodes. It is `fold_within` of change_spec, by the history and the logs.
 abbrev pub fold_told_within : Report → ℕ → ℕ → Option NodeState
 fold_told_within report zero n = None
 fold_told_within report (suc fuel) n =

@@ -17,7 +17,7 @@ use Rattle.report_types.specs.declared.report.HistoryLine.{HistoryLine}
 use Rattle.report_types.specs.declared.report.HistoryLine.TheVariants as to
 use Rattle.report_types.specs.declared.report.NodeLog.{NodeLog}
 use Rattle.report_types.specs.declared.report.Report.{Report}
-use Rattle.change_law.specs.Members.{event_of, is_close}
+use Rattle.change_spec.specs.Members.{event_of, is_close}
 
 -- ---- what is told ahead
 

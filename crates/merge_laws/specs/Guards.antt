@@ -12,9 +12,9 @@ use Rattle.quiesce_laws.specs.Drained.{is_drained}
 use Rattle.report_types.specs.declared.report.HistoryLine.{HistoryLine}
 use Rattle.report_types.specs.declared.report.HistoryLine.TheVariants as to
 use Rattle.report_types.specs.declared.report.Report.{Report}
-use Rattle.change_law.specs.Lawful.{LawfulOnThreads}
-use Rattle.change_law.specs.Members.{event_of}
-use Rattle.change_law.specs.Statements.{Statement}
+use Rattle.change_spec.specs.Lawful.{LawfulOnThreads}
+use Rattle.change_spec.specs.Members.{event_of}
+use Rattle.change_spec.specs.Statements.{Statement}
 use Rattle.merge_laws.specs.Guarded.{Left, all_left, closes_before, go, is_beyond, is_called_at, is_met, left, left_of, log_of, told}
 
 -- which guards there are

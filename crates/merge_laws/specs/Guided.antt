@@ -6,7 +6,7 @@ use Rattle.quiesce_core.specs.State.{exchange, gate}
 use Rattle.quiesce_laws.specs.Drained.{is_drained}
 use Rattle.report_types.specs.declared.report.HistoryLine.{HistoryLine}
 use Rattle.report_types.specs.declared.report.HistoryLine.TheVariants as to
-use Rattle.change_law.specs.Members.{Member, by_node, of_history, lines, state_at, without_roots}
+use Rattle.change_spec.specs.Members.{Member, by_node, of_history, lines, state_at, without_roots}
 use Rattle.merge_laws.specs.Guarded.{is_called_at, is_met, told, waits}
 
 pub record Guided (m : List Member) (history : List HistoryLine) : Type 0 where

@@ -8,8 +8,8 @@ use Rattle.quiesce_core.specs.Runs.{IsRun, done_by}
 use Rattle.quiesce_laws.specs.Events.{is_root_of}
 use Rattle.report_types.specs.declared.report.HistoryLine.{HistoryLine}
 use Rattle.report_types.specs.declared.report.HistoryLine.TheVariants as to
-use Rattle.change_law.specs.Lawful.{IsDrainedAt, IsOfItsKind, StoodOpen}
-use Rattle.change_law.specs.Members.{Member, events, lines, state_at, without_roots}
+use Rattle.change_spec.specs.Lawful.{IsDrainedAt, IsOfItsKind, StoodOpen}
+use Rattle.change_spec.specs.Members.{Member, events, lines, state_at, without_roots}
 use Rattle.merge_laws.specs.Guarded.{is_called_at}
 
 pub record IsMergeWith (history : List HistoryLine) (m : List Member) : Type 0 where

@@ -4,11 +4,11 @@ use Rattle.std.specs.Prelude.{◌≡◌, ◌≤◌, ◌<◌, ◌⊎◌, ℕ, ℤ
 use Rattle.quiesce_core.specs.declared.event.Event.{Event}
 use Rattle.report_types.specs.declared.report.HistoryLine.{HistoryLine}
 use Rattle.report_types.specs.declared.report.HistoryLine.TheVariants as to
-use Rattle.change_law.specs.Changes.{pending_lines}
-use Rattle.change_law.specs.Follows.{AreRight, Part, lines_of}
-use Rattle.change_law.specs.Members.{lines_of_events}
-use Rattle.change_law.specs.Scene.{AreSeen, Seen, drained_line}
-use Rattle.change_law.specs.Statements.{Statement}
+use Rattle.change_spec.specs.Changes.{pending_lines}
+use Rattle.change_spec.specs.Follows.{AreRight, Part, lines_of}
+use Rattle.change_spec.specs.Members.{lines_of_events}
+use Rattle.change_spec.specs.Scene.{AreSeen, Seen, drained_line}
+use Rattle.change_spec.specs.Statements.{Statement}
 use Rattle.merge_laws.specs.Descents.{descents}
 
 -- the lines of a change behind its closes, where it closes these ports and its commit does these events

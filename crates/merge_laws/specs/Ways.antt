@@ -3,7 +3,7 @@ use Rattle.std.specs.Prelude.{ℕ, zero, suc, List, [], ◌∷◌, cond, Option,
 use Rattle.std.specs.List.{cons_option}
 use Rattle.quiesce_core.specs.declared.event.Event.{Event}
 use Rattle.report_types.specs.declared.report.HistoryLine.{HistoryLine}
-use Rattle.change_law.specs.Members.{Member, by_node, of_history, is_root}
+use Rattle.change_spec.specs.Members.{Member, by_node, of_history, is_root}
 use Rattle.merge_laws.specs.Guarded.{Left, go, log_of}
 
 -- the member that comes from a chain: none where it is a line on what was open

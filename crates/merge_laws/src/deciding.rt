@@ -7,19 +7,19 @@ ghost use Rattle.quiesce_core.specs.declared.state.Slot.{Slot};
 ghost use Rattle.quiesce_core.specs.Runs.{IsRun};
 ghost use Rattle.quiesce_core.specs.State.{slot};
 ghost use Rattle.report_types.specs.declared.report.Report.{Report};
-ghost use Rattle.change_law.specs.Consistent.{Consistent};
-ghost use Rattle.change_law.specs.Follows.{Follows};
-ghost use Rattle.change_law.specs.Lawful.{IsGraphAt, Merge, unfinished_of};
-ghost use Rattle.change_law.specs.Members.{Member, events};
-ghost use Rattle.change_law.specs.Opening.{fold_of_node};
-ghost use Rattle.change_law.specs.Scene.{config_after};
-ghost use Rattle.change_law.specs.Statements.{Statement};
+ghost use Rattle.change_spec.specs.Consistent.{Consistent};
+ghost use Rattle.change_spec.specs.Follows.{Follows};
+ghost use Rattle.change_spec.specs.Lawful.{IsGraphAt, Merge, unfinished_of};
+ghost use Rattle.change_spec.specs.Members.{Member, events};
+ghost use Rattle.change_spec.specs.Opening.{fold_of_node};
+ghost use Rattle.change_spec.specs.Scene.{config_after};
+ghost use Rattle.change_spec.specs.Statements.{Statement};
 ghost use Rattle.change_round_laws.specs.SoundStatements.{AreSound};
 ghost use Rattle.merge_laws.specs.Alone.{AreRightAlone, IsShown, fold_told, unfinished_told};
 ghost use Rattle.merge_laws.specs.Guarded.{can_go, go, left, left_of, may_go};
 
-use change_law::nothing_is_open_at_the_end;
 use change_round_laws::commits_leave_the_described_graph;
+use change_spec::nothing_is_open_at_the_end;
 
 /// What a list says of folds, of nodes that aren't done and of shows is what its history and its logs say alone; and
 /// where they show what stands, so does the list.

@@ -2,8 +2,8 @@
 
 ghost use Rattle.std.specs.Prelude.{◌≡◌, ◌≤◌, ℕ, ℤ, ◌+◌, List, [], ◌∷◌, ◌++◌, length};
 ghost use Rattle.report_types.specs.declared.report.HistoryLine.{HistoryLine};
-ghost use Rattle.change_law.specs.Changes.{AreLooks, seen_in_all, IsChange, opening_lines};
-ghost use Rattle.change_law.specs.Follows.{Follows, IsRight, IsStop, lines_of};
+ghost use Rattle.change_spec.specs.Changes.{AreLooks, seen_in_all, IsChange, opening_lines};
+ghost use Rattle.change_spec.specs.Follows.{Follows, IsRight, IsStop, lines_of};
 ghost use Rattle.change_plan.specs.Moves.{MayMoveAll};
 ghost use Rattle.change_plan.specs.Plans.{IsPlanOf};
 ghost use Rattle.change_plan.specs.declared.plan_data.Move.{Move};
@@ -11,9 +11,9 @@ ghost use Rattle.change_plan.specs.declared.plan_data.Plan.{Plan};
 ghost use Rattle.config_graph.specs.Graph.{Graph};
 ghost use Rattle.change_plan_laws.specs.Commit.{commit_events, ports_to_close};
 ghost use Rattle.quiesce_core.specs.Live.{IsGraphOf};
-ghost use Rattle.change_law.specs.Scene.{config_after, Seen};
+ghost use Rattle.change_spec.specs.Scene.{config_after, Seen};
 ghost use Rattle.merge_laws.specs.Reading.{HasRead, IsChangeSo};
-ghost use Rattle.change_law.specs.Statements.{Statement};
+ghost use Rattle.change_spec.specs.Statements.{Statement};
 ghost use Rattle.merge_laws.specs.Descents.{descents, pieces};
 ghost use Rattle.merge_laws.specs.Telling.{IsTold};
 

@@ -6,7 +6,7 @@ ghost use Rattle.quiesce_core.specs.Runs.{IsRun};
 ghost use Rattle.quiesce_core.specs.Traffic.{IsConsistent};
 ghost use Rattle.quiesce_core.specs.WellFormed.{IsWellFormed};
 ghost use Rattle.report_types.specs.declared.report.HistoryLine.{HistoryLine};
-ghost use Rattle.change_law.specs.Members.{Member, events, lines, without_roots};
+ghost use Rattle.change_spec.specs.Members.{Member, events, lines, without_roots};
 ghost use Rattle.merge_laws.specs.Guarded.{Left, all_left, can_go, go, left, may_go};
 ghost use Rattle.merge_laws.specs.Guided.{Guided};
 ghost use Rattle.merge_laws.specs.Merges.{HasLogs, IsMergeWith};

@@ -1,10 +1,10 @@
 //! Merges of lawful reports.
 
 ghost use Rattle.std.specs.Prelude.{◌≡◌, ℕ, true, false, List, fold, map};
-ghost use Rattle.change_law.specs.Follows.{Follows};
-ghost use Rattle.change_law.specs.Lawful.{IsLawfulBy};
-ghost use Rattle.change_law.specs.Members.{Member};
-ghost use Rattle.change_law.specs.Statements.{Statement};
+ghost use Rattle.change_spec.specs.Follows.{Follows};
+ghost use Rattle.change_spec.specs.Lawful.{IsLawfulBy};
+ghost use Rattle.change_spec.specs.Members.{Member};
+ghost use Rattle.change_spec.specs.Statements.{Statement};
 ghost use Rattle.report_types.specs.declared.report.NodeLog.{NodeLog};
 ghost use Rattle.report_types.specs.declared.report.Report.{Report};
 ghost use Rattle.merge_laws.specs.Guarded.{can_go, go, left, left_of, may_go};

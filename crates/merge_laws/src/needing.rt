@@ -2,7 +2,7 @@
 
 ghost use Rattle.std.specs.Prelude.{◌≡◌, ℕ, false};
 ghost use Rattle.merge_laws.specs.Guarded.{Left, may_go};
-ghost use Rattle.merge_laws.specs.Guards.{Misleads, MisleadsOnReport, all_guards, may_go_by};
+ghost use Rattle.merge_laws.specs.Guards.{Misleads, all_guards, may_go_by};
 
 /// Each guard is needed. Without it there are a history and logs from which one way leads to the end, and another
 /// goes on no more before it: so what is found hangs on which member is let come first.
@@ -17,14 +17,4 @@ pub fn each_guard_is_needed()
     ensures end_waits { Misleads (record all_guards { end_waits = false }) }
     ensures open_is_closed { Misleads (record all_guards { open_is_closed = false }) }
     ensures open_is_apart { Misleads (record all_guards { open_is_apart = false }) }
-{}
-
-/// The guards by which a close, a begin, a call and an end wait for what is told are needed for reports that follow a
-/// script. Without any one of them there is a lawful report from which a way goes on no more before its end: it would be
-/// called unlawful, though it isn't.
-pub fn lawful_reports_need_each_wait()
-    ensures close_waits { MisleadsOnReport (record all_guards { close_waits = false }) }
-    ensures begin_waits { MisleadsOnReport (record all_guards { begin_waits = false }) }
-    ensures call_waits { MisleadsOnReport (record all_guards { call_waits = false }) }
-    ensures end_waits { MisleadsOnReport (record all_guards { end_waits = false }) }
 {}

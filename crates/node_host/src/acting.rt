@@ -11,9 +11,9 @@ ghost use Rattle.node_host.specs.Tried.{CannotBegin, IsHeld, IsTried, Keeps, is_
 
 use crate::node::HostNode;
 use component_trait::Component;
-use node_events::NodeEvent;
 use node_gate::{GateSeat, PortGate};
 use port_queue::Hints;
+use quiesce_core::NodeEvent;
 
 impl<C: Component + Drop, S: GateSeat + Drop> HostNode<C, S> {
     /// Takes the next request up, or else begins what it wants.

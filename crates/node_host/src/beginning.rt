@@ -15,9 +15,9 @@ use crate::keeping::{keep, seats_have_places};
 use crate::node::HostNode;
 use crate::posting::post;
 use component_trait::{Ask, Component};
-use node_events::{Deed, Message, NodeEvent};
 use node_gate::{BeginAnswer, GateSeat, PortGate};
 use port_queue::Hints;
+use quiesce_core::{Deed, Message, NodeEvent};
 
 impl<C: Component + Drop, S: GateSeat + Drop> HostNode<C, S> {
     /// Begins this, which the component wants, at an idle port, where the gate lets it, and posts the hint.

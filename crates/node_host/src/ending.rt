@@ -17,9 +17,8 @@ ghost use Rattle.node_host.specs.Tried.{HasNoReply, LoadsPort, is_reply_at};
 use crate::keeping::{keep, seats_have_places};
 use crate::node::HostNode;
 use component_trait::Component;
-use node_events::{Deed, Message, NodeEvent};
 use node_gate::{GateSeat, PortGate, SeeAnswer};
-use quiesce_core::{Known, PortKnown};
+use quiesce_core::{Deed, Known, Message, NodeEvent, PortKnown};
 
 /// What is known of the port of this requirement.
 pub(crate) fn port_known(known: &Known, require: u32) -> PortKnown

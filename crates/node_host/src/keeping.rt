@@ -1,14 +1,13 @@
 //! What is kept of an event that a node did, and what a gate says of the node at a seat.
 
 ghost use Rattle.std.specs.Prelude.{◌≡◌, ◌++◌, ◌∷◌, [], ◌<◌, ◌^◌, length, vec_capacity};
-ghost use Rattle.node_events.specs.NodeEvents.{as_event};
+ghost use Rattle.quiesce_core.specs.NodeEvents.{as_event};
 ghost use Rattle.node_gate.specs.Noting.{CanCount};
 ghost use Rattle.node_gate.specs.Seats.{IsWithinLimits};
 ghost use Rattle.quiesce_core.specs.Knowledge.{known_next};
 
-use node_events::{Deed, NodeEvent};
 use node_gate::{PortGate, note};
-use quiesce_core::Known;
+use quiesce_core::{Deed, Known, NodeEvent};
 
 /// Puts an event at the end of a log that has room for it, and into what is known. It is answered too.
 #[inline(always)]

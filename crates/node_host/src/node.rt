@@ -10,9 +10,8 @@ ghost use Rattle.quiesce_core.specs.Knowledge.{nothing_known};
 ghost use Rattle.quiesce_core.specs.declared.event.Event.{Event};
 
 use component_trait::Component;
-use node_events::NodeEvent;
 use node_gate::{GateSeat, unknown};
-use quiesce_core::Known;
+use quiesce_core::{Known, NodeEvent};
 use std::alloc::Global;
 
 /// An earlier node, from which the state was handed on: its argument, its seat and all that it did.

@@ -19,10 +19,9 @@ use crate::keeping::{keep, seats_have_places};
 use crate::node::HostNode;
 use crate::posting::post;
 use component_trait::{Ask, Component, Next};
-use node_events::{Deed, Message, NodeEvent};
 use node_gate::{CallAnswer, GateSeat, HearAnswer, PortGate};
 use port_queue::Hints;
-use quiesce_core::{Known, Served};
+use quiesce_core::{Deed, Known, Message, NodeEvent, Served};
 
 /// Whether a call is left to end.
 fn awaits_call(known: &Known) -> bool

@@ -14,9 +14,9 @@ ghost use Rattle.node_gate.specs.Loads.{IsLed};
 use crate::keeping::{keep, seats_have_places};
 use crate::node::HostNode;
 use component_trait::Component;
-use node_events::{Deed, Message, NodeEvent};
 use node_gate::{GateSeat, PortGate, TakeAnswer};
 use port_queue::Hints;
+use quiesce_core::{Deed, Message, NodeEvent};
 
 impl<C: Component + Drop, S: GateSeat + Drop> HostNode<C, S> {
     /// Takes the request up that waits at a port for this node, which is in no service.

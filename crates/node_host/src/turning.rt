@@ -14,9 +14,9 @@ ghost use Rattle.node_host.specs.Tried.{IsTried, is_begin};
 use crate::node::HostNode;
 use component_trait::Component;
 use config_graph::NoMemory;
-use node_events::NodeEvent;
 use node_gate::{GateSeat, PortGate};
 use port_queue::Hints;
+use quiesce_core::NodeEvent;
 
 /// What a turn did.
 #[derive(Debug, Drop, PartialEq, Eq)]

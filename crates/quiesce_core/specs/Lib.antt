@@ -27,3 +27,4 @@ pub mod SameWiring
 pub mod Alters
 pub mod Sources
 pub mod Worked
+pub mod NodeEvents

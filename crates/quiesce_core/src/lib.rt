@@ -16,6 +16,7 @@ mod links;
 mod live;
 mod machine;
 mod making;
+mod node_event;
 mod open;
 mod reach;
 mod rest;
@@ -45,6 +46,7 @@ pub use laws::{
 };
 pub use links::Links;
 pub use machine::Core;
+pub use node_event::{Deed, Message, NodeEvent};
 pub use run_laws::{
     changes_are_of_no_node, changes_make_the_configuration, logs_grow, runs_grow,
     services_keep_their_bounds, transactions_engage_two_nodes, values_carry,

@@ -26,7 +26,7 @@ pub mod Greatest
 pub mod Falls
 pub mod Sharing
 pub mod Fewer
-pub mod Changes
+pub mod ChangeFalls
 pub mod Sparing
 pub mod Belonging
 pub mod Advancing
@@ -37,3 +37,28 @@ pub mod Emptiness
 pub mod Bounding
 pub mod WorkedDrains
 pub mod Rooted
+pub mod AcyclicLaws
+pub mod AfterRunLaws
+pub mod AllowedLemmas
+pub mod BetweenLaws
+pub mod CarryingLaws
+pub mod CommitLaws
+pub mod EndingLaws
+pub mod GateLaws
+pub mod LinkingLemmas
+pub mod MakingLaws
+pub mod MeanwhileLaws
+pub mod MemberLaws
+pub mod PartLaws
+pub mod PhaseLemmas
+pub mod RemovingLemmas
+pub mod StartingLemmas
+pub mod TurningLaws
+pub mod UnlinkingLemmas
+pub mod SwapDoerLaws
+mod TurnLemmas
+mod ViewLemmas
+pub mod NodeSwapLaws
+pub mod ChangeSwapLaws
+mod BarringLemmas
+mod SwapLemmas

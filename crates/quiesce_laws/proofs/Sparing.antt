@@ -24,7 +24,7 @@ use Rattle.base.proofs.PlaceLaws.{fresh_behind}
 use Rattle.quiesce_laws.specs.Events.{is_link}
 use Rattle.quiesce_core.proofs.StabilityLaws.{busy_ports_stay}
 use Rattle.quiesce_laws.proofs.ExtensionLaws.{extends_next, no_new_link}
-use Rattle.quiesce_laws.proofs.Changes.{Spares}
+use Rattle.quiesce_laws.proofs.ChangeFalls.{Spares}
 use Rattle.quiesce_laws.proofs.Fewer.{GoodLinks}
 
 -- what is done at ports and serviced by nodes stays

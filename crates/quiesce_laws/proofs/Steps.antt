@@ -19,7 +19,7 @@ use Rattle.quiesce_laws.specs.Advances.{is_advance, is_begin}
 use Rattle.quiesce_laws.specs.Drain.{rest_where}
 use Rattle.quiesce_laws.proofs.Falls.{Calling, Moves, take_falls, hear_falls, ask_falls, end_falls, give_falls, more_falls, miss_calls, miss_falls, call_calls, call_moves, begin_rises}
 use Rattle.quiesce_laws.proofs.Sharing.{marked_after, is_marked, falls_part, moves_part, rises_part, rises_all, part_le}
-use Rattle.quiesce_laws.proofs.Changes.{spares_part}
+use Rattle.quiesce_laws.proofs.ChangeFalls.{spares_part}
 use Rattle.quiesce_laws.proofs.Sparing.{All, Apart, link_spares, spares}
 use Rattle.quiesce_laws.proofs.Advancing.{advance_port}
 

@@ -10,3 +10,10 @@ pub mod Advances
 pub mod Belongs
 pub mod Drain
 pub mod Worked
+pub mod Commits
+pub mod Fitting
+pub mod Lists
+pub mod Steps
+pub mod Work
+pub mod Independence
+pub mod Swaps

@@ -1,17 +1,16 @@
 //! Whether a report can be one of this machine, by three tests.
 
 ghost use Rattle.std.specs.Prelude.{◌↔◌, IfOk, IsTrue};
-ghost use Rattle.change_law.specs.Asked as asked;
-ghost use Rattle.change_law.specs.Asked.{CanDoAll, CanStart, statements_of};
-ghost use Rattle.change_law.specs.Consistent.{Consistent};
+ghost use Rattle.change_spec.specs.Asked as asked;
+ghost use Rattle.change_spec.specs.Asked.{CanDoAll, CanStart, statements_of};
+ghost use Rattle.change_spec.specs.Consistent.{Consistent};
 
-use change_law::{Start, Step};
+use crate::{consistent_reports_are_decided_so, is_right_alone, leads_to_the_end};
 use change_round_laws::what_may_be_asked_has_sound_statements;
+use change_spec::{Start, Step};
 use config_graph::NoMemory;
 use merge_laws::consistent_reports_are_decided;
-use report_folds::{consistent_reports_are_decided_so, is_right_alone};
 use report_follows::follows_so;
-use report_merges::leads_to_the_end;
 use report_types::Report;
 use std::alloc::Global;
 

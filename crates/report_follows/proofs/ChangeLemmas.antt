@@ -11,9 +11,9 @@ use Rattle.quiesce_core.specs.declared.event.Event.{Event}
 use Rattle.quiesce_core.specs.declared.event.Event.TheVariants as event
 use Rattle.report_types.specs.declared.report.HistoryLine.{HistoryLine}
 use Rattle.report_types.specs.declared.report.HistoryLine.TheVariants as to
-use Rattle.change_law.specs.Changes.{pending_lines}
-use Rattle.change_law.specs.Members.{lines_of_events}
-use Rattle.change_law.specs.Scene.{AreSeen, Seen, drained_line, root_line}
+use Rattle.change_spec.specs.Changes.{pending_lines}
+use Rattle.change_spec.specs.Members.{lines_of_events}
+use Rattle.change_spec.specs.Scene.{AreSeen, Seen, drained_line, root_line}
 use Rattle.merge_laws.specs.Descents.{descents, descents_from}
 use Rattle.merge_laws.specs.Reading.{IsCommittedSo, IsGivenUpSo}
 use Rattle.report_follows.specs.Fronts.{LeadsTo, are_told_once, begin_so, behind_abandon, behind_commit, behind_committed, behind_first, behind_given_up, behind_roots, is_pending_for}

@@ -13,8 +13,8 @@ use Rattle.config_graph.specs.Graph.{Graph, ports, target_of}
 use Rattle.config_graph.specs.declared.node.Port.{Port}
 use Rattle.config_graph.specs.declared.node.Target.{Target}
 use Rattle.change_plan.specs.declared.plan_data.Plan.{Plan}
-use Rattle.quiesce_commit_laws.specs.Steps.{change_all, live_ports}
-use Rattle.quiesce_commit_laws.specs.Work as work
+use Rattle.quiesce_laws.specs.Steps.{change_all, live_ports}
+use Rattle.quiesce_laws.specs.Work as work
 use Rattle.change_plan_laws.specs.Commit.{commit_events, commit_steps, new_links, reopened_ports}
 use Rattle.change_plan_laws.specs.Commit as commit
 use Rattle.quiesce_core.specs.Rules.{is_live_port}
@@ -22,7 +22,7 @@ use Rattle.quiesce_core.specs.State.{Configuration}
 use Rattle.quiesce_core.specs.declared.event.Event.{Event}
 use Rattle.quiesce_core.specs.declared.event.Event.TheVariants as event
 use Rattle.quiesce_laws.specs.Starts as starts
-use Rattle.change_law.proofs.TestLaws.{none_both, none_mapped, range_rises}
+use Rattle.change_spec.proofs.TestLaws.{none_both, none_mapped, range_rises}
 use Rattle.report_follows.specs.Testing.{is_tellable}
 
 abbrev untold : Event → Bool

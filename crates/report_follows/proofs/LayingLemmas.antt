@@ -13,8 +13,8 @@ use Rattle.quiesce_core.specs.Effect.{with_closed}
 use Rattle.quiesce_core.specs.Rules.{is_live_port}
 use Rattle.quiesce_core.specs.State.{Configuration, fresh_gate, gate, owner}
 use Rattle.quiesce_core.specs.declared.event.Event.TheVariants as event
-use Rattle.quiesce_commit_laws.specs.Steps.{change_all}
-use Rattle.quiesce_commit_laws.proofs.TurningLaws.{SameLinks, live_port, same_turned}
+use Rattle.quiesce_laws.specs.Steps.{change_all}
+use Rattle.quiesce_laws.proofs.TurningLaws.{SameLinks, live_port, same_turned}
 use Rattle.change_plan_laws.specs.Commit.{node_at}
 use Rattle.change_lists.specs.Layouts.{IsLayoutOf, place_in, port_of}
 use Rattle.change_lists.specs.Lists.{ports_from, ports_in}

@@ -10,7 +10,7 @@ use Rattle.quiesce_core.specs.declared.event.Event.{Event}
 use Rattle.quiesce_core.specs.declared.event.Event.TheVariants as event
 use Rattle.report_types.specs.declared.report.HistoryLine.{HistoryLine}
 use Rattle.report_types.specs.declared.report.HistoryLine.TheVariants as to
-use Rattle.change_law.specs.Members.{lines_of_events}
+use Rattle.change_spec.specs.Members.{lines_of_events}
 use Rattle.report_follows.specs.Fronts.{behind_abandon, behind_commit, behind_first, behind_if, is_abandon_line, is_commit_line}
 use Rattle.report_follows.specs.Testing.{are_same, is_close_of, is_reopen_of, is_tellable, tell_closes, tell_events, tell_reopens, tells_event}
 use Rattle.report_follows.proofs.FrontLemmas.{begins, starts_so, begins_with, in_pairs}

@@ -13,8 +13,8 @@ use Rattle.base.proofs.OptionLaws.{map_or_true, made_of_one}
 use Rattle.quiesce_core.specs.declared.event.Event.{Event}
 use Rattle.report_types.specs.declared.report.HistoryLine.{HistoryLine}
 use Rattle.report_types.specs.declared.report.HistoryLine.TheVariants as to
-use Rattle.change_law.specs.Members.{lines_of_events}
-use Rattle.change_law.specs.Scene.{AreSeen, Seen, drained_line}
+use Rattle.change_spec.specs.Members.{lines_of_events}
+use Rattle.change_spec.specs.Scene.{AreSeen, Seen, drained_line}
 use Rattle.report_follows.specs.Fronts.{IsStopOf, are_all_told, are_told_once, behind_closes, behind_commit, behind_first, behind_opening, behind_start, is_change_line, is_start_line, is_stop_line, is_stop_of}
 use Rattle.report_follows.specs.Testing.{drained_in, is_tellable, told_port}
 use Rattle.report_follows.proofs.ChangeLemmas.{at_front, drained_ports, found, test_by_seen, parts_are, told_ports, seen_by_test}

@@ -4,13 +4,13 @@ use Rattle.std.specs.Prelude.{◌↔◌, IsTrue}
 use Rattle.std.proofs.lemmas.List.{append_cancel_right, drop_more, map-append, take_more}
 use Rattle.config_graph.specs.Graph.{Graph}
 use Rattle.report_types.specs.declared.report.HistoryLine.{HistoryLine}
-use Rattle.change_law.specs.Asked.{Above, CanDoAll, after_start, statement_of, statements_of}
-use Rattle.change_law.specs.Follows.{Follows, IsRight, IsStop, lines_of, start_lines}
-use Rattle.change_law.specs.Statements as statements
-use Rattle.change_law.specs.Statements.{Statement}
-use Rattle.change_law.specs.declared.steps.Start.{Start}
-use Rattle.change_law.specs.declared.steps.Step.{Step}
-use Rattle.change_law.specs.declared.steps.Step.TheVariants as steps
+use Rattle.change_spec.specs.Asked.{Above, CanDoAll, after_start, statement_of, statements_of}
+use Rattle.change_spec.specs.Follows.{Follows, IsRight, IsStop, lines_of, start_lines}
+use Rattle.change_spec.specs.Statements as statements
+use Rattle.change_spec.specs.Statements.{Statement}
+use Rattle.change_spec.specs.declared.steps.Start.{Start}
+use Rattle.change_spec.specs.declared.steps.Step.{Step}
+use Rattle.change_spec.specs.declared.steps.Step.TheVariants as steps
 use Rattle.change_lists.specs.declared.layout.Layout.{Layout}
 use Rattle.merge_laws.specs.Reading.{HasRead}
 use Rattle.report_follows.specs.Fronts.{HasNoFront, LeadsTo}

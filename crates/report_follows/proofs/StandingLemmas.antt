@@ -27,22 +27,22 @@ use Rattle.quiesce_core.specs.declared.event.Event.{Event}
 use Rattle.quiesce_core.specs.declared.event.Event.TheVariants as event
 use Rattle.quiesce_core.proofs.GraphLaws.{graph_started}
 use Rattle.quiesce_laws.specs.Starts.{start_of}
-use Rattle.quiesce_commit_laws.specs.Steps.{change_all}
-use Rattle.quiesce_commit_laws.proofs.TurningLaws.{SameLinks, same_graph}
+use Rattle.quiesce_laws.specs.Steps.{change_all}
+use Rattle.quiesce_laws.proofs.TurningLaws.{SameLinks, same_graph}
 use Rattle.change_plan_laws.specs.Commit.{commit_events, ports_to_close, reopened_ports}
 use Rattle.change_plan_laws.specs.Committing.{MayCommit, made_in}
 use Rattle.report_types.specs.declared.report.HistoryLine.{HistoryLine}
 use Rattle.report_types.specs.declared.report.HistoryLine.TheVariants as to
-use Rattle.change_law.specs.Asked.{Above, CanChange, CanStart, after_change, after_start}
-use Rattle.change_law.specs.Changes.{IsChange, opening_lines, pending_lines}
-use Rattle.change_law.specs.Follows.{IsRight, start_lines}
-use Rattle.change_law.specs.Members.{is_pending, line_of, lines_of_events}
-use Rattle.change_law.specs.Scene.{config_after, drained_line, root_line}
-use Rattle.change_law.specs.Statements as statements
-use Rattle.change_law.specs.declared.steps.Replacement.{Replacement}
-use Rattle.change_law.specs.declared.steps.Start.{Start}
-use Rattle.change_law.proofs.PortLaws.{closed_links, closed_live, same_here}
-use Rattle.change_law.proofs.TestLaws.{none_both, none_mapped}
+use Rattle.change_spec.specs.Asked.{Above, CanChange, CanStart, after_change, after_start}
+use Rattle.change_spec.specs.Changes.{IsChange, opening_lines, pending_lines}
+use Rattle.change_spec.specs.Follows.{IsRight, start_lines}
+use Rattle.change_spec.specs.Members.{is_pending, line_of, lines_of_events}
+use Rattle.change_spec.specs.Scene.{config_after, drained_line, root_line}
+use Rattle.change_spec.specs.Statements as statements
+use Rattle.change_spec.specs.declared.steps.Replacement.{Replacement}
+use Rattle.change_spec.specs.declared.steps.Start.{Start}
+use Rattle.change_spec.proofs.PortLaws.{closed_links, closed_live, same_here}
+use Rattle.change_spec.proofs.TestLaws.{none_both, none_mapped}
 use Rattle.change_round_laws.proofs.AskedLaws.{asked_are_sound}
 use Rattle.change_round_laws.proofs.CommitGraphLaws.{CommitsLeaveGraphs, EachMayCommit}
 use Rattle.change_round_laws.proofs.LineLaws.{all_changes, changes, changes_both, changes_of_closes, changes_of_lines, changes_of_looks, changes_of_reopens, changes_of_roots, config_more, config_of, none_of_events}

@@ -12,18 +12,18 @@ use Rattle.config_graph.specs.declared.node.Port.{Port}
 use Rattle.quiesce_core.specs.Live.{IsGraphOf}
 use Rattle.quiesce_core.specs.Runs.{IsRun}
 use Rattle.quiesce_core.specs.declared.event.Event.{Event}
-use Rattle.quiesce_commit_laws.specs.Steps.{change_all, live_ports}
+use Rattle.quiesce_laws.specs.Steps.{change_all, live_ports}
 use Rattle.change_plan_laws.specs.Committing.{made_in}
 use Rattle.report_types.specs.declared.report.HistoryLine.{HistoryLine}
 use Rattle.report_types.specs.declared.report.HistoryLine.TheVariants as to
-use Rattle.change_law.specs.Asked.{Above, CanChange, after_change, statement_of}
-use Rattle.change_law.specs.Follows.{IsRight, IsStop}
-use Rattle.change_law.specs.Members.{is_pending}
-use Rattle.change_law.specs.Scene.{AreSeen, config_after, drained_line}
-use Rattle.change_law.specs.declared.steps.Replacement.{Replacement}
-use Rattle.change_law.specs.declared.steps.Step.{Step}
-use Rattle.change_law.specs.declared.steps.Step.TheVariants as steps
-use Rattle.change_law.proofs.TestLaws.{none_both, range_rises}
+use Rattle.change_spec.specs.Asked.{Above, CanChange, after_change, statement_of}
+use Rattle.change_spec.specs.Follows.{IsRight, IsStop}
+use Rattle.change_spec.specs.Members.{is_pending}
+use Rattle.change_spec.specs.Scene.{AreSeen, config_after, drained_line}
+use Rattle.change_spec.specs.declared.steps.Replacement.{Replacement}
+use Rattle.change_spec.specs.declared.steps.Step.{Step}
+use Rattle.change_spec.specs.declared.steps.Step.TheVariants as steps
+use Rattle.change_spec.proofs.TestLaws.{none_both, range_rises}
 use Rattle.change_round_laws.proofs.LineLaws.{changes, changes_both, config_more}
 use Rattle.change_lists.specs.Layouts.{IsLayoutOf, is_live_at, live_at}
 use Rattle.change_lists.specs.declared.layout.Layout.{Layout}

@@ -4,7 +4,7 @@ use Rattle.std.specs.Prelude.{ℤ, option_and_then}
 use Rattle.std.proofs.lemmas.Bool.{both_ways, eq-eqb, eqb-true}
 use Rattle.report_types.specs.declared.report.HistoryLine.{HistoryLine}
 use Rattle.report_types.specs.declared.report.HistoryLine.TheVariants as to
-use Rattle.change_law.specs.Follows.{IsFinishLine, IsRunLine, IsShowLine, skip_lines}
+use Rattle.change_spec.specs.Follows.{IsFinishLine, IsRunLine, IsShowLine, skip_lines}
 use Rattle.report_follows.specs.Fronts.{LeadsTo, behind_first, behind_skipped, is_change_line, is_finish_line, is_run_line, is_show_line, is_skipped_line}
 use Rattle.report_follows.proofs.LineLemmas.{first_finds, first_means}
 use Rattle.report_follows.proofs.OpeningLemmas.{both_same, change_is}

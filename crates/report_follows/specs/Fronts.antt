@@ -7,7 +7,7 @@ use Rattle.std.specs.Cmp.Lexicographic.{pointwise}
 use Rattle.quiesce_core.specs.declared.event.Event.{Event}
 use Rattle.report_types.specs.declared.report.HistoryLine.{HistoryLine}
 use Rattle.report_types.specs.declared.report.HistoryLine.TheVariants as to
-use Rattle.change_law.specs.Scene.{AreSeen, Seen, drained_line}
+use Rattle.change_spec.specs.Scene.{AreSeen, Seen, drained_line}
 use Rattle.report_follows.specs.Testing.{drained_in, falls_in, roots_in, tell_closes, tell_events, tell_reopens, told_port}
 
 -- a front that is so, and what is left behind it

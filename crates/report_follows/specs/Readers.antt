@@ -9,13 +9,13 @@ use Rattle.quiesce_core.specs.declared.event.Event.{Event}
 use Rattle.change_plan_laws.specs.Committing.{made_in}
 use Rattle.report_types.specs.declared.report.HistoryLine.{HistoryLine}
 use Rattle.report_types.specs.declared.report.HistoryLine.TheVariants as to
-use Rattle.change_law.specs.Asked.{Above, CanChange, after_change, statement_of}
-use Rattle.change_law.specs.Follows.{IsFinishLine, IsRight, IsRunLine, IsShowLine, skip_lines}
-use Rattle.change_law.specs.Members.{event_of, is_pending}
-use Rattle.change_law.specs.Scene.{config_after}
-use Rattle.change_law.specs.declared.steps.Replacement.{Replacement}
-use Rattle.change_law.specs.declared.steps.Step.{Step}
-use Rattle.change_law.specs.declared.steps.Step.TheVariants as steps
+use Rattle.change_spec.specs.Asked.{Above, CanChange, after_change, statement_of}
+use Rattle.change_spec.specs.Follows.{IsFinishLine, IsRight, IsRunLine, IsShowLine, skip_lines}
+use Rattle.change_spec.specs.Members.{event_of, is_pending}
+use Rattle.change_spec.specs.Scene.{config_after}
+use Rattle.change_spec.specs.declared.steps.Replacement.{Replacement}
+use Rattle.change_spec.specs.declared.steps.Step.{Step}
+use Rattle.change_spec.specs.declared.steps.Step.TheVariants as steps
 use Rattle.change_lists.specs.Layouts.{IsLayoutOf}
 use Rattle.change_lists.specs.declared.layout.Layout.{Layout}
 use Rattle.merge_laws.specs.Reading.{IsCommittedSo, IsGivenUpSo}

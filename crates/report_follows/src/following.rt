@@ -3,10 +3,10 @@
 ghost use Rattle.std.specs.Prelude.{◌≡◌, ◌↔◌, ◌^◌, ◌<◌, ◌∷◌, ◌++◌, List, [], false, true, length, map, IfNone, IfOk, IfSome, IsTrue, MatchOption, None, Some};
 ghost use Rattle.std.specs.List.{list_all};
 ghost use Rattle.std.specs.List.Sorted.{IsStrictlyIncreasing};
-ghost use Rattle.change_law.specs.Asked as asked;
-ghost use Rattle.change_law.specs.Asked.{Above, CanChange, CanDoAll, CanStart, statement_of, statements_of};
-ghost use Rattle.change_law.specs.Follows.{Follows, IsRight, IsStop, start_lines};
-ghost use Rattle.change_law.specs.declared.steps.Step.TheVariants as to_do;
+ghost use Rattle.change_spec.specs.Asked as asked;
+ghost use Rattle.change_spec.specs.Asked.{Above, CanChange, CanDoAll, CanStart, statement_of, statements_of};
+ghost use Rattle.change_spec.specs.Follows.{Follows, IsRight, IsStop, start_lines};
+ghost use Rattle.change_spec.specs.declared.steps.Step.TheVariants as to_do;
 ghost use Rattle.change_lists.specs.Lists.{closed_by, commit_by, places_after, ports_after};
 ghost use Rattle.merge_laws.specs.Reading.{IsChangeSo};
 ghost use Rattle.report_types.specs.declared.report.HistoryLine.{HistoryLine as Line};
@@ -19,8 +19,8 @@ use crate::reading::{
     after_committed, after_finish, after_given_up, after_opening, after_run, after_show,
     after_skipped, after_start, is_stop,
 };
-use change_law::{Replacement, Start, Step};
 use change_lists::{Commit, Layout, PlanIndex, list_start};
+use change_spec::{Replacement, Start, Step};
 use config_graph::{Graph, NoMemory};
 use merge_laws::readers_have_no_choice;
 use quiesce_core::Event;

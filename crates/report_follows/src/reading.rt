@@ -4,8 +4,8 @@
 ghost use Rattle.std.specs.Prelude.{◌≡◌, ◌↔◌, ◌++◌, ◌∷◌, [], List, map, IfNone, IfOk, IfSome, IsTrue};
 ghost use Rattle.std.specs.List.{list_all};
 ghost use Rattle.std.specs.List.Sorted.{IsStrictlyIncreasing};
-ghost use Rattle.change_law.specs.Follows.{IsFinishLine, IsRunLine, IsShowLine, skip_lines};
-ghost use Rattle.change_law.specs.Members.{lines_of_events};
+ghost use Rattle.change_spec.specs.Follows.{IsFinishLine, IsRunLine, IsShowLine, skip_lines};
+ghost use Rattle.change_spec.specs.Members.{lines_of_events};
 ghost use Rattle.merge_laws.specs.Reading.{IsCommittedSo, IsGivenUpSo};
 ghost use Rattle.report_types.specs.declared.report.HistoryLine.{HistoryLine as Line};
 ghost use Rattle.report_types.specs.declared.report.HistoryLine.TheVariants as to;

@@ -16,7 +16,7 @@ use crate::numbers::{one_index, plain, triple};
 use crate::parts::{Words, first_word};
 use change_script::{EventVerb, Single, Triple, cut, event_verb_named};
 use config_graph::{List, NoMemory};
-use node_events::{Deed, NodeEvent};
+use quiesce_core::{Deed, NodeEvent};
 use report_types::Last;
 use std::alloc::Global;
 

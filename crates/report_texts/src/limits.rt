@@ -4,7 +4,7 @@ ghost use Rattle.std.specs.Prelude.{◌≡◌};
 ghost use Rattle.report_texts.specs.Limits.{event_keeps, is_port, is_slot, is_source, last_keeps, line_keeps};
 
 use crate::version::Version;
-use node_events::{Deed, NodeEvent};
+use quiesce_core::{Deed, NodeEvent};
 use report_types::{HistoryLine, Last};
 
 /// Below which number the slots of a report of version 1 are.

@@ -16,7 +16,7 @@ use crate::rest::{Rest, first_line, next_line};
 use crate::version::Version;
 use config_graph::{List, NoMemory};
 use itoa::Buffer;
-use node_events::NodeEvent;
+use quiesce_core::NodeEvent;
 use report_types::{HistoryLine, Last, NodeLog};
 use std::alloc::Global;
 

@@ -5,7 +5,7 @@ ghost use Rattle.report_lines.specs.Parts.{words};
 ghost use Rattle.report_lines.specs.Readings.{event_in, last_in, line_in};
 
 use config_graph::NoMemory;
-use node_events::NodeEvent;
+use quiesce_core::NodeEvent;
 use report_lines::{event_line, history_line, last_line};
 use report_types::{HistoryLine, Last};
 use std::alloc::Global;

@@ -1,7 +1,7 @@
 //! What a run leaves behind: the history of its changes, the log of each node, and how it ended.
 
 use config_graph::{Graph, List, Node, Text};
-use node_events::NodeEvent;
+use quiesce_core::NodeEvent;
 
 /// A report of a run, as its text says it.
 #[derive(Debug, Drop)]

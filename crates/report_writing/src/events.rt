@@ -4,7 +4,7 @@ ghost use Rattle.std.specs.Prelude.{◌≡◌, ◌≤◌, ◌+◌, ◌*◌, ◌+
 ghost use Rattle.report_writing.specs.Reports.{event_text};
 
 use crate::line_end::{put_one, put_three};
-use node_events::{Deed, Message, NodeEvent};
+use quiesce_core::{Deed, Message, NodeEvent};
 
 /// How many lines are put at once.
 pub const LINES: usize = 64;

@@ -6,7 +6,7 @@
 ghost use Rattle.std.specs.Prelude.{◌≤◌};
 
 use config_graph::{Graph, Node};
-use node_events::{Deed, NodeEvent};
+use quiesce_core::{Deed, NodeEvent};
 use report_types::{HistoryLine, Last, NodeLog, Report};
 
 /// The most bytes of a line, names, paths and arguments left out.

@@ -13,7 +13,7 @@ use crate::line_end::{LINE, LINE_END, put_number, put_three};
 use crate::room::text_room;
 use config_graph::{Graph, Kind, NoMemory, Node, graph_text, kind_text};
 use itoa::Buffer;
-use node_events::NodeEvent;
+use quiesce_core::NodeEvent;
 use report_types::{HistoryLine, Last, NodeLog, Report};
 use std::alloc::Global;
 

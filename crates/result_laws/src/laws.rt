@@ -6,19 +6,18 @@ ghost use Rattle.config_graph.specs.declared.kind.Kind.TheVariants.{Sink, Source
 ghost use Rattle.quiesce_core.specs.declared.event.Event.TheVariants.{Begin, End};
 ghost use Rattle.report_types.specs.declared.report.NodeLog.{NodeLog};
 ghost use Rattle.report_types.specs.declared.report.Report.{Report};
-ghost use Rattle.change_law.specs.Members.{Member, by_node};
+ghost use Rattle.change_spec.specs.Members.{Member, by_node};
 ghost use Rattle.command_answers.specs.declared.status.Status.{Status};
-ghost use Rattle.command_law.specs.Outcomes.{WasRunBy};
-ghost use Rattle.command_law.specs.Schedules.{Schedule};
-ghost use Rattle.result_row_laws.specs.Items.{HasItems, IsLogOfLive};
-ghost use Rattle.result_row_laws.specs.Keeping.{AreRows};
-ghost use Rattle.result_bank_laws.specs.Banks.{AreBanks};
-ghost use Rattle.result_bank_laws.specs.Sums.{live_sum, opened_sum, removed_sum};
+ghost use Rattle.command_spec.specs.Outcomes.{WasRunBy};
+ghost use Rattle.command_spec.specs.Schedules.{Schedule};
+ghost use Rattle.result_laws.specs.Items.{HasItems, IsLogOfLive};
+ghost use Rattle.result_laws.specs.Keeping.{AreRows};
+ghost use Rattle.result_laws.specs.Banks.{AreBanks};
+ghost use Rattle.result_laws.specs.Sums.{live_sum, opened_sum, removed_sum};
 ghost use Rattle.result_laws.specs.Schedules.{members_by};
 
-use command_laws::a_script_has_a_report;
-use result_bank_laws::sums_are_kept;
-use result_row_laws::{rows_have_their_items, sources_are_never_answered_0};
+use crate::{rows_have_their_items, sources_are_never_answered_0, sums_are_kept};
+use command_spec::a_script_has_a_report;
 
 /// Where the descriptions of a script that was run are rows, and its changes keep or move the source and the sink, the
 /// last sink in the report of that run has the items that the last source counted. Each is what became of its value in

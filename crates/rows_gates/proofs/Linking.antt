@@ -1,6 +1,6 @@
 -- What the change may link in the systems of the rows.
 use Rattle.std.proofs.Common.{◌≡◌, ℕ, [], ◌∷◌, ◌++◌, inl, inr, refl, sym, subst}
-use Rattle.quiesce_commit_laws.specs.Steps.{IsNoted}
+use Rattle.quiesce_laws.specs.Steps.{IsNoted}
 use Rattle.config_graph.specs.declared.kind.Kind.TheVariants as kind
 use Rattle.config_graph.specs.declared.node.Node.{Node}
 use Rattle.txn_records.specs.Entries.{config_of}

@@ -5,7 +5,7 @@ use Rattle.config_graph.specs.declared.kind.Kind.TheVariants.{Source, Sink, Aske
 use Rattle.config_graph.specs.declared.node.Node.{Node}
 use Rattle.txn_records.specs.declared.entry.Entry.{Entry}
 use Rattle.txn_records.specs.declared.entry.Entry.TheVariants.{Did, Looked}
-use Rattle.txn_law.specs.declared.view.NodeView.{NodeView}
+use Rattle.txn_spec.specs.declared.view.NodeView.{NodeView}
 use Rattle.quiesce_core.specs.Knowledge.{nothing_known}
 use Rattle.quiesce_core.specs.declared.event.Event.TheVariants.{Close, Link, Make, Remove, Reopen, Unlink}
 

@@ -1,7 +1,7 @@
 //! Rows of an asker and an adder at the gates, and the calls by which messages within a transaction go to and fro.
 
 ghost use Rattle.std.specs.Prelude.{◌≡◌, IfErr};
-ghost use Rattle.txn_law.specs.Views.{node_at};
+ghost use Rattle.txn_spec.specs.Views.{node_at};
 ghost use Rattle.node_gate.specs.Seats.{MayAsk, MayHear, MaySendMore};
 ghost use Rattle.txn_gate.specs.Seats.{IsSeatOf, node_in, table_of_node};
 

@@ -2,12 +2,12 @@
 //! of its calls at least once.
 
 ghost use Rattle.std.specs.Prelude.{◌≡◌, ℕ, false, bytes_eq, IfOk, IsTrue};
-ghost use Rattle.quiesce_commit_laws.specs.Steps.{IsNoted};
+ghost use Rattle.quiesce_laws.specs.Steps.{IsNoted};
 ghost use Rattle.config_graph.specs.declared.kind.Kind.TheVariants as kind;
 ghost use Rattle.txn_records.specs.Entries.{config_of};
 ghost use Rattle.txn_records.specs.Notes.{is_noted};
-ghost use Rattle.txn_law.specs.Merging.{MergeIntoRun};
-ghost use Rattle.txn_law.specs.Views.{is_among};
+ghost use Rattle.txn_spec.specs.Merging.{MergeIntoRun};
+ghost use Rattle.txn_spec.specs.Views.{is_among};
 ghost use Rattle.rows_gates.specs.Made.{closed_two, made_again, opened_two, removed_second};
 ghost use Rattle.txn_gate.specs.Seats.{IsChangeSeatOf, IsSeatOf, collected_in, record_of, table_of_change, table_of_node};
 

@@ -5,7 +5,7 @@ ghost use Rattle.std.specs.Prelude.{◌≡◌, ◌≤◌, ◌↔◌, ℕ, [], fa
 ghost use Rattle.config_graph.specs.declared.kind.Kind.TheVariants as kind;
 ghost use Rattle.txn_records.specs.Entries.{config_of};
 ghost use Rattle.txn_records.specs.Records.{AreAllNoted};
-ghost use Rattle.txn_law.specs.Merging.{MergeIntoRun};
+ghost use Rattle.txn_spec.specs.Merging.{MergeIntoRun};
 ghost use Rattle.quiesce_core.specs.Rules.{is_live_port};
 ghost use Rattle.rows_gates.specs.Made.{made_three, opened_two};
 ghost use Rattle.txn_gate.specs.Seats.{IsChangeSeatOf, IsSeatOf, collected_in, node_in, record_of, table_of_change, table_of_node};

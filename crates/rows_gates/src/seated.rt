@@ -3,7 +3,7 @@
 
 ghost use Rattle.std.specs.Prelude.{◌≡◌, ◌<◌, ◌↔◌, IfOk, IfErr, IsTrue, slice_index_or};
 ghost use Rattle.quiesce_core.specs.Knowledge.{port_at_start};
-ghost use Rattle.txn_law.specs.Views.{node_at};
+ghost use Rattle.txn_spec.specs.Views.{node_at};
 ghost use Rattle.node_gate.specs.Seats as seats;
 ghost use Rattle.node_gate.specs.Seats.{HasEndedCalls, IsOwn, MayBegin, MayCallAt, MayEnd, MayGive, MaySee, MayTake};
 ghost use Rattle.txn_gate.specs.Seats.{IsSeatOf, node_in, table_of_node};

@@ -1,7 +1,7 @@
 //! A row of turns: a source and the sink that it leads to take turns at the gates until neither moves.
 
 ghost use Rattle.std.specs.Prelude.{◌≡◌, ◌≤◌, IfOk};
-ghost use Rattle.txn_law.specs.Views.{node_at};
+ghost use Rattle.txn_spec.specs.Views.{node_at};
 ghost use Rattle.node_host.specs.Hosted.{node_of};
 ghost use Rattle.rows_gates.specs.Made.{DidNothing};
 ghost use Rattle.txn_gate.specs.Seats.{IsSeatOf, node_in, table_of_node};
@@ -10,6 +10,7 @@ use crate::seated::Seated;
 use crate::systems::{node, open_two};
 use component_trait::{Component, VALUE_LIMIT};
 use config_graph::{Kind, NoMemory};
+use live_hall::turn_at_gates;
 use node_host::{HostNode, Turn};
 use port_queue::PlainHints;
 use quiesce_core::Event;
@@ -18,7 +19,6 @@ use std::alloc::Global;
 use std::process::Abort;
 use std::test::Fail;
 use txn_gate::{Gates, NodeSeat};
-use txn_turns::turn_at_gates;
 
 type Host = HostNode<AnyNode, NodeSeat>;
 

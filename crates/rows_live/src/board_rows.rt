@@ -2,15 +2,14 @@
 //! rounds of a finish.
 
 ghost use Rattle.std.specs.Prelude.{◌≡◌, [], IfOk};
-ghost use Rattle.command_files.specs.Preparing.{CanRun};
+ghost use Rattle.command_program.specs.Preparing.{CanRun};
 ghost use Rattle.report_writing.specs.Reports.{LogsAreMade};
 ghost use Rattle.txn_gate.specs.Seats.{IsChangeSeatOf, change_in, collected_in};
-ghost use Rattle.txn_law.specs.Views.{nothing_done};
+ghost use Rattle.txn_spec.specs.Views.{nothing_done};
 
 use cfg_io::{MemShelf, MemSink};
 use change_runner::{NoOne, run_statements};
-use command_files::{Prepared, prepare};
-use command_program::still;
+use command_program::{Prepared, prepare, still};
 use live_board::{Free, LiveBoard, Signs};
 use live_hall::{Hall, Named};
 use live_hands::Inboxes;

@@ -3,17 +3,17 @@
 ghost use Rattle.std.specs.Prelude.{◌≡◌, [], List, IfOk, OnOk};
 ghost use Rattle.change_board.specs.Transcripts.{Item};
 ghost use Rattle.change_engine.specs.Engines.{IsIdle};
-ghost use Rattle.change_law.specs.Asked.{CanStart};
+ghost use Rattle.change_spec.specs.Asked.{CanStart};
 ghost use Rattle.live_hall.specs.Houses.{IsAt, tables_of};
 ghost use Rattle.txn_gate.specs.Seats.{IsChangeSeatOf, change_in, collected_in};
-ghost use Rattle.txn_law.specs.Views.{nothing_done};
+ghost use Rattle.txn_spec.specs.Views.{nothing_done};
 
 use crate::board_rows::SYSTEM;
 use cfg_io::MemShelf;
 use change_board::Board;
 use change_engine::Engine;
-use change_law::Start;
-use command_files::prepare;
+use change_spec::Start;
+use command_program::prepare;
 use config_graph::NoMemory;
 use live_board::{LiveBoard, Signs, Turnstile};
 use live_hall::{BoxedGuest, Door, Hall, Named};

@@ -1,7 +1,7 @@
 //! Rows of `parts`: which nodes change together, which parts that makes, and the moves of each.
 
 ghost use Rattle.config_graph.specs.Sound.{Sound};
-ghost use Rattle.change_parts_laws.specs.Parts.{ArePlansWithin};
+ghost use Rattle.change_parts.specs.Parts.{ArePlansWithin};
 
 use crate::plan_rows::{Planned, planned, push_moves, refusal};
 use crate::systems::{LINE, graph_after};

@@ -2,10 +2,10 @@
 //! them ones that can't.
 
 ghost use Rattle.std.specs.Prelude.{◌≤◌, length};
-ghost use Rattle.command_files.specs.Preparing.{CanRun};
+ghost use Rattle.command_program.specs.Preparing.{CanRun};
 
 use cfg_io::MemShelf;
-use command_files::{Prepared, prepare};
+use command_program::{Prepared, prepare};
 use report_check::check_report;
 use report_texts::{MAX_REPORT, parse_report};
 use std::alloc::Global;

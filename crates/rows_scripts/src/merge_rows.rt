@@ -2,7 +2,7 @@
 
 ghost use Rattle.std.specs.Prelude.{◌≤◌, length};
 
-use report_merges::leads_to_the_end;
+use report_check::leads_to_the_end;
 use report_texts::{MAX_REPORT, parse_report};
 use std::alloc::Global;
 use std::process::Abort;

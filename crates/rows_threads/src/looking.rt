@@ -26,7 +26,12 @@ impl Awaited for AtomicBool {
 pub fn word_of(gates: &Gates, port: u32) -> Word
     requires { port < MAX_PORTS }
 {
-    Word::of(gates.words.shared.peek(((port % 512) * 8 + port / 512) as usize))
+    Word::of(
+        gates
+            .words
+            .shared
+            .peek(((port % 512) * 8 + port / 512) as usize),
+    )
 }
 
 /// Waits until that has come, and sets the flag where it never does. Nobody waits any more once the flag is set.

@@ -3,7 +3,7 @@
 use crate::looking::{Awaited, await_it};
 use live_board::Turnstile;
 use std::sync::atomic::{AtomicBool, Ordering};
-use watch_threads::Observers;
+use watch_view::Observers;
 
 /// One of them noted the first commit.
 impl Awaited for Observers {

@@ -15,7 +15,7 @@ use std::sync::Wait;
 use std::test::Fail;
 use std::thread::Threads;
 use txn_gate::Gates;
-use watch_threads::{Observers, Sighting};
+use watch_view::{Observers, Sighting};
 
 const TABLE: &str = "component philosopher(int meals) { require dine; }
 component place(int first) { provide dine; require left, right; }

@@ -2,12 +2,11 @@
 
 ghost use Rattle.std.specs.Prelude.{◌≡◌, ◌≤◌, []};
 ghost use Rattle.txn_gate.specs.Seats.{IsChangeSeatOf, change_in, collected_in};
-ghost use Rattle.txn_law.specs.Views.{nothing_done};
+ghost use Rattle.txn_spec.specs.Views.{nothing_done};
 
 use cfg_io::{MemShelf, MemSink, Shelf};
-use command_files::prepare;
 use command_live::live;
-use command_program::{Status, still};
+use command_program::{Status, prepare, still};
 use config_graph::List;
 use live_board::{Free, Turnstile};
 use live_run::run_on_threads;
@@ -17,7 +16,7 @@ use std::sync::Wait;
 use std::test::Fail;
 use std::thread::Threads;
 use txn_gate::{ChangeSeat, Gates};
-use watch_threads::{Observers, Sighting};
+use watch_view::{Observers, Sighting};
 
 /// Room for the text of a report. Places ask for their forks again and again, so it may be long where a thread stands
 /// still that holds one.

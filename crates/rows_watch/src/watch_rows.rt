@@ -2,7 +2,7 @@
 
 ghost use Rattle.std.specs.Prelude.{◌≡◌, ◌≤◌, [], List as Items, OnOk};
 ghost use Rattle.config_graph.specs.Graph.{Graph as Shape};
-ghost use Rattle.watch_threads.specs.Hearing.{HasHeard};
+ghost use Rattle.watch_view.specs.Hearing.{HasHeard};
 
 use crate::graphs::one_sink;
 use change_runner::Listener;
@@ -13,7 +13,7 @@ use std::sync::atomic::Ordering;
 use std::test::Fail;
 use std::thread;
 use std::thread::Threads;
-use watch_threads::{Observers, Sighting, Watch};
+use watch_view::{Observers, Sighting, Watch};
 
 /// How often a row looks for what observers noted at most. So it ends, and fails, where they note nothing.
 const LOOKS: u32 = 10_000_000;

@@ -4,10 +4,10 @@ ghost use Rattle.std.specs.Prelude.{◌≤◌, ◌<◌, ◌+◌, ◌^◌};
 
 use crate::lanes::{SCRIPT_NAME, files_of};
 use crate::unmeasured::Unmeasured;
-use command_files::{Prepared, prepare};
+use command_program::{Prepared, prepare};
 use live_board::Free;
 use live_run::{Observers, run_on_threads};
-use node_events::Deed;
+use quiesce_core::Deed;
 use report_types::Report;
 use std::alloc::Global;
 use std::rt::Clock;

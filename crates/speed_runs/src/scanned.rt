@@ -1,18 +1,17 @@
 //! A run on one thread, from its first scan to its last.
 
 ghost use Rattle.std.specs.Prelude.{IfOk};
-ghost use Rattle.change_law.specs.Asked.{CanStart};
+ghost use Rattle.change_spec.specs.Asked.{CanStart};
 
 use crate::lanes::{SCRIPT_NAME, files_of};
 use crate::unmeasured::Unmeasured;
 use change_engine::Engine;
-use change_law::Start;
-use command_files::{Prepared, prepare};
-use node_table::NodeTable;
+use change_spec::Start;
+use command_program::{Prepared, prepare};
 use std::alloc::Global;
 use std::rt::Clock;
 use std::time::{Duration, Instant};
-use step_board::StepBoard;
+use step_board::{NodeTable, StepBoard};
 
 const LANES: u32 = 4;
 

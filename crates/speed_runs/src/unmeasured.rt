@@ -1,6 +1,6 @@
 //! Why nothing was measured.
 
-use command_files::Stop;
+use command_program::Stop;
 use std::alloc::{AllocError, AllocFailed};
 use std::io;
 use thiserror::Error;

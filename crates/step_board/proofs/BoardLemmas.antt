@@ -12,8 +12,8 @@ use Rattle.txn_records.specs.declared.entry.Entry.{Entry}
 use Rattle.txn_records.specs.Records.{Adds}
 use Rattle.change_board.specs.Scans.{SightsAll, all_ports, is_idle_if_live, is_seen_at_rest, live_nodes, look_entry, ports_of, scan_entries}
 use Rattle.change_board.specs.Sights.{Sight, is_seen_done, seen_in, sight_entry}
-use Rattle.change_law.specs.Lawful.{EndsAs}
-use Rattle.change_law.specs.Opening.{fold_of_node}
+use Rattle.change_spec.specs.Lawful.{EndsAs}
+use Rattle.change_spec.specs.Opening.{fold_of_node}
 use Rattle.report_types.specs.declared.report.NodeLog.{NodeLog}
 use Rattle.quiesce_core.specs.Runs.{done_by}
 use Rattle.quiesce_core.specs.State.{State}

@@ -9,7 +9,7 @@ use Rattle.std.proofs.lemmas.List.Elements.{All-append, All-cons, All-nil}
 use Rattle.std.proofs.lemmas.List.FromFn.{length-map-range_with_len}
 use Rattle.base.proofs.PlaceLaws.{slice_get-there}
 use Rattle.change_board.specs.Collecting.{heir_of}
-use Rattle.change_law.specs.Lawful.{EndsAs}
+use Rattle.change_spec.specs.Lawful.{EndsAs}
 use Rattle.report_types.specs.declared.report.Last.TheVariants as last
 use Rattle.report_types.specs.declared.report.NodeLog.{NodeLog}
 use Rattle.component_trait.specs.States.{NodeState}

@@ -18,7 +18,7 @@ use Rattle.node_turn_laws.specs.Reached.{IsReached}
 use Rattle.node_turn_laws.specs.Round.{is_done}
 use Rattle.node_turn_laws.specs.World.{World, state_of}
 use Rattle.step_board.specs.Seeing.{found_at, sight_of, sights_of}
-use Rattle.change_law.specs.Opening.{fold_of_node}
+use Rattle.change_spec.specs.Opening.{fold_of_node}
 use Rattle.step_board.specs.RunFacts.{machine_is}
 use Rattle.step_board.proofs.StandingLemmas.{AreSeen}
 

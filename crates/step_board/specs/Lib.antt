@@ -7,3 +7,10 @@ pub mod TurnFacts
 pub mod RunFacts
 pub mod Agreeing
 pub mod TableFacts
+pub mod Entries
+pub mod Lines
+pub mod Holding
+pub mod Rooms
+pub mod Seen
+pub mod Table
+pub mod Worlds

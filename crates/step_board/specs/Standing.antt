@@ -5,7 +5,7 @@ use Rattle.change_board.specs.Collecting.{heir_of}
 use Rattle.txn_records.specs.Entries.{config_of}
 use Rattle.txn_records.specs.declared.entry.Entry.{Entry}
 use Rattle.txn_records.specs.Records.{IsRecordOf, Moment, events}
-use Rattle.change_law.specs.Lawful.{EndsAs}
+use Rattle.change_spec.specs.Lawful.{EndsAs}
 use Rattle.report_types.specs.declared.report.NodeLog.{NodeLog}
 use Rattle.quiesce_core.specs.Runs.{done_by}
 use Rattle.quiesce_core.specs.State.{State}

@@ -2,7 +2,7 @@
 
 ghost use Rattle.std.specs.Prelude.{◌≡◌, ◌<◌, IfOk, length, slice_index_or, []};
 ghost use Rattle.change_board.specs.Collecting.{heir_of};
-ghost use Rattle.change_law.specs.Lawful.{EndsAs};
+ghost use Rattle.change_spec.specs.Lawful.{EndsAs};
 ghost use Rattle.step_board.specs.Going.{ShowsSome};
 ghost use Rattle.step_board.specs.Heirs.{AreHeirs, with_heir};
 ghost use Rattle.step_board.specs.Standing.{AreLogs};

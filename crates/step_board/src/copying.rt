@@ -3,7 +3,7 @@
 ghost use Rattle.std.specs.Prelude.{◌≡◌, IfOk};
 
 use config_graph::NoMemory;
-use node_events::NodeEvent;
+use quiesce_core::NodeEvent;
 use std::alloc::Global;
 
 /// The same events again.

@@ -22,7 +22,7 @@ ghost use Rattle.node_turn_laws.specs.Round.{is_done};
 ghost use Rattle.node_turn_laws.specs.World.{World, state_of, with_event};
 
 use config_graph::{Made, NoMemory, Node};
-use node_events::NodeEvent;
+use quiesce_core::NodeEvent;
 use quiesce_word::Word;
 use std::alloc::Global;
 

@@ -2,18 +2,18 @@
 
 ghost use Rattle.std.specs.Prelude.{◌≡◌, IfOk, [], is_some};
 ghost use Rattle.component_trait.specs.Moves as moves;
-ghost use Rattle.node_table.specs.Table as table;
+ghost use Rattle.step_board.specs.Table as table;
 ghost use Rattle.step_board.specs.TableFacts as facts;
 
+use crate::NodeTable;
 use crate::nodes::Nodes;
 use crate::standing::StepBoard;
 use change_board::Board;
 use component_trait::Component;
 use config_graph::{Made, NoMemory, Node};
 use node_host::Turn;
-use node_table::NodeTable;
 use port_queue::{Hints, PlainHints};
-use node_events::NodeEvent;
+use quiesce_core::NodeEvent;
 use quiesce_word::Word;
 use state_handover::AnyNode;
 use std::alloc::Global;

@@ -14,9 +14,9 @@ use Rattle.change_board.specs.Sights.{sight_entry}
 use Rattle.change_board.specs.Transcripts.{Item, said, entries, entry_in, lines}
 use Rattle.change_engine.specs.Finishing.{EndsAfter, EndsWith, ScansGoOn, IsScanIn, ScanSeen, all_entries, count_of, rounds_in, seen_entries}
 use Rattle.change_engine.specs.Passivating.{silent_items}
-use Rattle.change_law.specs.Opening.{fold_of_node}
-use Rattle.change_law.specs.Serial.{finish_ends}
-use Rattle.change_law.specs.Statements.{finish}
+use Rattle.change_spec.specs.Opening.{fold_of_node}
+use Rattle.change_spec.specs.Serial.{finish_ends}
+use Rattle.change_spec.specs.Statements.{finish}
 use Rattle.report_types.specs.declared.report.HistoryLine.TheVariants as to
 use Rattle.change_transcript_laws.specs.Pieces.{AreFinishItems, config_at}
 use Rattle.quiesce_core.specs.State.{Configuration}

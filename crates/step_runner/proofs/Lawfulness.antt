@@ -2,10 +2,10 @@
 use Rattle.std.proofs.Common.{◌≡◌, ◌∙◌, Bool, true, List, sym, ap, subst}
 use Rattle.std.specs.Prelude.{All}
 use Rattle.report_types.specs.declared.report.Report.{Report}
-use Rattle.change_law.specs.Lawful.{IsLawfulBy}
-use Rattle.change_law.specs.Members.{Member}
-use Rattle.change_law.specs.Serial.{Serial}
-use Rattle.change_law.specs.Statements.{Statement}
+use Rattle.change_spec.specs.Lawful.{IsLawfulBy}
+use Rattle.change_spec.specs.Members.{Member}
+use Rattle.change_spec.specs.Serial.{Serial}
+use Rattle.change_spec.specs.Statements.{Statement}
 use Rattle.change_board.specs.Collecting.{IsEndOf, first_undone}
 use Rattle.change_board.specs.declared.board.Board.{Ghosts as BoardWords}
 use Rattle.txn_records.specs.Records.{IsRecordOf, Moment}

@@ -7,3 +7,7 @@ pub mod RestedLaws
 pub mod FinishLaws
 pub mod SerialLaws
 mod Lawfulness
+pub mod RollLemmas
+pub mod BeginLemmas
+pub mod PieceLemmas
+pub mod PlayedLemmas

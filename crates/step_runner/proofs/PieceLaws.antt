@@ -7,12 +7,12 @@ use Rattle.change_board.specs.Transcripts.{Item, said, entries, lines}
 use Rattle.change_engine.specs.Carrying.{deed_items, sight_item}
 use Rattle.change_engine.specs.Passivating.{left_after, passivation_items, root_ports}
 use Rattle.change_engine.specs.declared.passivating.LeftRoot.{LeftRoot}
-use Rattle.change_law.specs.Changes.{commit_lines, drained_lines, opening_lines, pending_lines}
-use Rattle.change_law.specs.Members.{lines_of_events}
-use Rattle.quiesce_commit_laws.specs.Steps.{live_ports}
-use Rattle.change_law.specs.Scene.{root_line}
-use Rattle.change_law.specs.Serial.{ChangesTo, Looks, after_changes, is_none_left, looks_after, seen_at, wait_ends}
-use Rattle.change_law.specs.Statements.{change, show, start}
+use Rattle.change_spec.specs.Changes.{commit_lines, drained_lines, opening_lines, pending_lines}
+use Rattle.change_spec.specs.Members.{lines_of_events}
+use Rattle.quiesce_laws.specs.Steps.{live_ports}
+use Rattle.change_spec.specs.Scene.{root_line}
+use Rattle.change_spec.specs.Serial.{ChangesTo, Looks, after_changes, is_none_left, looks_after, seen_at, wait_ends}
+use Rattle.change_spec.specs.Statements.{change, show, start}
 use Rattle.change_plan.specs.declared.plan_data.Move.{Move}
 use Rattle.report_types.specs.declared.report.HistoryLine.{HistoryLine}
 use Rattle.report_types.specs.declared.report.HistoryLine.TheVariants as to
@@ -30,7 +30,7 @@ use Rattle.step_runner.proofs.WaitLaws.{Passed, left_ports, passes, some_there}
 use Rattle.step_runner.proofs.WorldLaws.{AreSo, behind_both, config_behind, front_of_rounds, play_both, play_deeds, play_items, play_sights, reached_behind, so_behind, so_items}
 use Rattle.change_engine.proofs.ItemLaws.{lines_both, sight_lines, carried_lines}
 use Rattle.change_engine.proofs.PassivationLaws.{looks_of, passivation_lines, seen_root, root_lines}
-use Rattle.change_law.proofs.ClosingLaws.{reopen_lines}
+use Rattle.change_spec.proofs.ClosingLaws.{reopen_lines}
 use Rattle.change_board.specs.Steps.{events_of}
 
 -- ---- starts and shows

@@ -7,7 +7,7 @@ use Rattle.base.proofs.FindLaws.{find-map}
 use Rattle.txn_records.specs.Looks.{is_idle_word}
 use Rattle.change_board.specs.Scans.{Found, SightsAll, all_ports, is_idle_if_live, is_seen_at_rest, live_nodes, ports_of}
 use Rattle.change_board.specs.Sights.{Sight, is_seen_done, seen_in, sight_entry}
-use Rattle.change_law.specs.Opening.{fold_of_node}
+use Rattle.change_spec.specs.Opening.{fold_of_node}
 use Rattle.quiesce_word.specs.Phases.{is_idle}
 use Rattle.quiesce_word.specs.declared.word.Word.{Word}
 use Rattle.quiesce_core.proofs.RunLaws.{runs_are_consistent}

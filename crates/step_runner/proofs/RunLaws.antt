@@ -14,8 +14,8 @@ use Rattle.change_board.specs.Transcripts.{Item, said, entries, entry_in, lines}
 use Rattle.change_engine.specs.Finishing.{IsScanIn, ScanSeen, all_entries, seen_entries}
 use Rattle.change_engine.specs.Passivating.{silent_items}
 use Rattle.change_engine.specs.Running as engine
-use Rattle.change_law.specs.Serial.{run_ends}
-use Rattle.change_law.specs.Statements.{run}
+use Rattle.change_spec.specs.Serial.{run_ends}
+use Rattle.change_spec.specs.Statements.{run}
 use Rattle.report_types.specs.declared.report.HistoryLine.TheVariants as to
 use Rattle.change_transcript_laws.specs.Pieces.{AreRunItems, config_at}
 use Rattle.quiesce_core.specs.State.{Configuration}

@@ -10,13 +10,13 @@ use Rattle.std.proofs.lemmas.List.Sums.{fold_push}
 use Rattle.base.specs.Each.{EachAfter}
 use Rattle.txn_records.specs.Records.{IsRecordOf, Moment}
 use Rattle.change_board.specs.Transcripts.{Item, entries, lines}
-use Rattle.change_law.specs.Endings.{moved_to, status_of}
-use Rattle.change_law.specs.Lawful.{EndsAs, IsFolded, IsLawfulBy, is_unfinished, unfinished_of}
-use Rattle.change_law.specs.Members as members
-use Rattle.change_law.specs.Members.{Member}
-use Rattle.change_law.specs.Opening.{fold_of_node}
-use Rattle.change_law.specs.Serial.{IsPlayed, Played, Plays, Serial, StopsAt, is_left_undone, lines_played, log_of, report_of, unfinished_in, world_after}
-use Rattle.change_law.specs.Statements.{Statement, change, finish, run, show, start, is_finish}
+use Rattle.change_spec.specs.Endings.{moved_to, status_of}
+use Rattle.change_spec.specs.Lawful.{EndsAs, IsFolded, IsLawfulBy, is_unfinished, unfinished_of}
+use Rattle.change_spec.specs.Members as members
+use Rattle.change_spec.specs.Members.{Member}
+use Rattle.change_spec.specs.Opening.{fold_of_node}
+use Rattle.change_spec.specs.Serial.{IsPlayed, Played, Plays, Serial, StopsAt, is_left_undone, lines_played, log_of, report_of, unfinished_in, world_after}
+use Rattle.change_spec.specs.Statements.{Statement, change, finish, run, show, start, is_finish}
 use Rattle.report_types.specs.declared.report.HistoryLine.{HistoryLine}
 use Rattle.report_types.specs.declared.report.Last.{Last}
 use Rattle.report_types.specs.declared.report.Last.TheVariants as last

@@ -8,8 +8,8 @@ use Rattle.change_board.specs.Scans.{Found, look_entry, ports_of, scan_entries}
 use Rattle.change_board.specs.Transcripts.{entries}
 use Rattle.change_engine.specs.Passivating.{IsPassivation, IsRound, Passivation, WaitingRound, close_item, is_busy, left_after, look_item, passivation_items, root_of, root_ports, roots_of, round_items, silent_items}
 use Rattle.change_engine.specs.declared.passivating.LeftRoot.{LeftRoot}
-use Rattle.change_law.specs.Scene.{Seen}
-use Rattle.change_law.specs.Serial.{after_changes, is_none_left, looks_after, seen_at}
+use Rattle.change_spec.specs.Scene.{Seen}
+use Rattle.change_spec.specs.Serial.{after_changes, is_none_left, looks_after, seen_at}
 use Rattle.quiesce_word.specs.Words as words
 use Rattle.quiesce_word.specs.declared.word.Word.{Word}
 use Rattle.quiesce_core.proofs.RunLaws.{runs_are_well_formed}

@@ -15,8 +15,8 @@ use Rattle.change_board.specs.Steps.{Deed, events_of}
 use Rattle.change_board.specs.Transcripts.{Item, silent, told, entries, entry_in}
 use Rattle.change_engine.specs.Carrying.{deed_items, sight_item}
 use Rattle.change_engine.specs.Passivating.{close_item, look_item, silent_items}
-use Rattle.change_law.specs.Members.{line_of}
-use Rattle.change_law.specs.Serial.{after_changes}
+use Rattle.change_spec.specs.Members.{line_of}
+use Rattle.change_spec.specs.Serial.{after_changes}
 use Rattle.report_types.specs.declared.report.HistoryLine.{HistoryLine}
 use Rattle.report_types.specs.declared.report.HistoryLine.TheVariants as to
 use Rattle.change_transcript_laws.specs.Pieces.{config_at}

@@ -1,8 +1,8 @@
 -- Transcripts of a board of one thread: the worlds behind their items.
 use Rattle.std.specs.Prelude.{List, ◌++◌}
 use Rattle.change_board.specs.Transcripts.{Item, entries, lines}
-use Rattle.change_law.specs.Serial.{Plays, StopsAt}
-use Rattle.change_law.specs.Statements.{Statement}
+use Rattle.change_spec.specs.Serial.{Plays, StopsAt}
+use Rattle.change_spec.specs.Statements.{Statement}
 use Rattle.step_board.specs.Playing.{HasWholeRounds, played}
 use Rattle.node_turn_laws.specs.World.{World}
 

@@ -3,8 +3,8 @@
 ghost use Rattle.std.specs.Prelude.{ℕ, ℤ, Bool, true, List, ◌++◌};
 ghost use Rattle.txn_records.specs.Records.{Moment};
 ghost use Rattle.change_board.specs.Transcripts.{Item, entries};
-ghost use Rattle.change_law.specs.Serial.{Serial};
-ghost use Rattle.change_law.specs.Statements.{Statement, change, finish, run, show, start};
+ghost use Rattle.change_spec.specs.Serial.{Serial};
+ghost use Rattle.change_spec.specs.Statements.{Statement, change, finish, run, show, start};
 ghost use Rattle.change_plan.specs.declared.plan_data.Move.{Move};
 ghost use Rattle.report_types.specs.declared.report.Report.{Report};
 ghost use Rattle.config_graph.specs.Graph.{Graph};

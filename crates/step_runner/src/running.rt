@@ -1,17 +1,17 @@
 //! A script on nodes of one thread, from its start to its report.
 
 ghost use Rattle.std.specs.Prelude.{List, [], IfOk};
-ghost use Rattle.change_law.specs.Follows.{Follows};
-ghost use Rattle.change_law.specs.Lawful.{IsLawfulBy};
-ghost use Rattle.change_law.specs.Members.{Member};
-ghost use Rattle.change_law.specs.Serial.{Serial};
+ghost use Rattle.change_spec.specs.Follows.{Follows};
+ghost use Rattle.change_spec.specs.Lawful.{IsLawfulBy};
+ghost use Rattle.change_spec.specs.Members.{Member};
+ghost use Rattle.change_spec.specs.Serial.{Serial};
 ghost use Rattle.report_writing.specs.Reports.{LogsAreMade};
-ghost use Rattle.change_law.specs.Asked.{CanDoAll, CanStart, after_start, statements_of};
+ghost use Rattle.change_spec.specs.Asked.{CanDoAll, CanStart, after_start, statements_of};
 
 use crate::reports_are_those_of_rounds;
 use change_board::Board;
-use change_law::{Start, Step};
 use change_runner::{NoOne, run_statements};
+use change_spec::{Start, Step};
 use change_transcript_laws::joined_members_make_a_report_lawful;
 use config_graph::NoMemory;
 use report_types::Report;

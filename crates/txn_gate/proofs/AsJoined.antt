@@ -2,14 +2,14 @@
 use Rattle.std.proofs.Common.{◌≡◌, ◌∙◌, ℕ, ◌<◌, List, [], ◌∷◌, sym, ap, subst}
 use Rattle.atomic_table.specs.Table.{Allows, Joins, Splits, step}
 use Rattle.config_graph.specs.declared.TheConstants.{MAX_PORTS}
-use Rattle.txn_law.specs.Merging.{AreAllAmong, Learns, Meets, Merges, MergesBy}
-use Rattle.txn_law.specs.Steps.{IsChange, IsNode, Seat}
-use Rattle.txn_law.specs.Views.{change_of, given_out, node_of, nobody, of_change, of_node, seat_again, with_seat, with_sight}
-use Rattle.txn_law.specs.Traces.{Holds, port_place}
+use Rattle.txn_spec.specs.Merging.{AreAllAmong, Learns, Meets, Merges, MergesBy}
+use Rattle.txn_spec.specs.Steps.{IsChange, IsNode, Seat}
+use Rattle.txn_spec.specs.Views.{change_of, given_out, node_of, nobody, of_change, of_node, seat_again, with_seat, with_sight}
+use Rattle.txn_spec.specs.Traces.{Holds, port_place}
 use Rattle.txn_gate.proofs.AsSeats as seats
-use Rattle.txn_law.specs.declared.view.NodeView.{NodeView}
-use Rattle.txn_law.proofs.MergingLaws as merging
-use Rattle.txn_law.proofs.SeatStepLaws as seat_
+use Rattle.txn_spec.specs.declared.view.NodeView.{NodeView}
+use Rattle.txn_spec.proofs.MergingLaws as merging
+use Rattle.txn_spec.proofs.SeatStepLaws as seat_
 use mathlib.Core.Option.{none}
 
 module _ (id : ℕ) (me : Seat) (is : IsChange me) where

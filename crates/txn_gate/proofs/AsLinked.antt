@@ -10,10 +10,10 @@ use Rattle.quiesce_word.specs.Operands.{link_difference}
 use Rattle.quiesce_core.specs.State.{target}
 use Rattle.quiesce_core.specs.declared.event.Event.{Event}
 use Rattle.quiesce_core.specs.declared.event.Event.TheVariants.{Link, Unlink, Remove}
-use Rattle.txn_law.specs.Steps.{IsChange, MarksScan, Seat, noted}
-use Rattle.txn_law.specs.Views.{change_of, of_change}
-use Rattle.txn_law.specs.Traces.{Holds, port_place}
-use Rattle.txn_law.proofs.ChangeStepLaws as change_
+use Rattle.txn_spec.specs.Steps.{IsChange, MarksScan, Seat, noted}
+use Rattle.txn_spec.specs.Views.{change_of, of_change}
+use Rattle.txn_spec.specs.Traces.{Holds, port_place}
+use Rattle.txn_spec.proofs.ChangeStepLaws as change_
 use mathlib.Core.Option.{none}
 
 module _ (slots id : ℕ) (me : Seat) (is : IsChange me) where

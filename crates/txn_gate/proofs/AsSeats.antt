@@ -17,13 +17,13 @@ use Rattle.quiesce_core.specs.Rules.{last_serial}
 use Rattle.quiesce_core.specs.declared.event.Event.{Event}
 use Rattle.quiesce_core.specs.declared.event.Event.TheVariants.{Begin, Call, Give, End, More, Ask, Close, Reopen, Make}
 use Rattle.node_gate.specs.Seats.{MayAsk, MayBegin, MayCallAt, MayEnd, MayGive, MayHear, MaySee, MaySendMore, MayTake, port_known, serial_served, value_seen}
-use Rattle.txn_law.specs.Steps.{Adopts, ExchangesBy, ExchangesFor, Hears, HearsBy, IsChange, IsNode, LoadsWord, LoadsWordBy, LooksAt, LooksAtBy, LooksToCall, LooksToCallBy, Seat, Sees, SeesBy, Takes, TakesBy, did, noted, value_served}
-use Rattle.txn_law.specs.Views.{change_of, new_seat, node_at, node_of, of_change, of_node, without_seat}
-use Rattle.txn_law.specs.Traces.{Holds, port_at, port_place}
-use Rattle.txn_law.proofs.TraceLaws.{at_place}
-use Rattle.txn_law.proofs.ChangeStepLaws as change_
-use Rattle.txn_law.proofs.NodeStepLaws as node_
-use Rattle.txn_law.proofs.SeatStepLaws as seat_
+use Rattle.txn_spec.specs.Steps.{Adopts, ExchangesBy, ExchangesFor, Hears, HearsBy, IsChange, IsNode, LoadsWord, LoadsWordBy, LooksAt, LooksAtBy, LooksToCall, LooksToCallBy, Seat, Sees, SeesBy, Takes, TakesBy, did, noted, value_served}
+use Rattle.txn_spec.specs.Views.{change_of, new_seat, node_at, node_of, of_change, of_node, without_seat}
+use Rattle.txn_spec.specs.Traces.{Holds, port_at, port_place}
+use Rattle.txn_spec.proofs.TraceLaws.{at_place}
+use Rattle.txn_spec.proofs.ChangeStepLaws as change_
+use Rattle.txn_spec.proofs.NodeStepLaws as node_
+use Rattle.txn_spec.proofs.SeatStepLaws as seat_
 use mathlib.Core.Option.{none}
 use prog.Atomic.{either}
 

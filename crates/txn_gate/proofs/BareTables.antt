@@ -9,7 +9,7 @@ use Rattle.std.proofs.lemmas.Option.{slice_get-map}
 use Rattle.base.proofs.OptionLaws.{map_or_at, map_or_true}
 use Rattle.base.proofs.PlaceLaws.{slice_get-map_at, slice_get-map_some}
 use Rattle.base.proofs.RangeLaws.{all_in_range, range_all}
-use Rattle.quiesce_commit_laws.specs.Steps.{IsNoted}
+use Rattle.quiesce_laws.specs.Steps.{IsNoted}
 use Rattle.config_graph.specs.Kinds.{depends_on, row}
 use Rattle.config_graph.specs.Wiring.{MayCall, Reach, direct, through}
 use Rattle.config_graph.specs.declared.node.Node.{Node}

@@ -24,10 +24,10 @@ use Rattle.node_gate.specs.declared.answers.HearAnswer.TheVariants as hear
 use Rattle.node_gate.specs.declared.answers.SeeAnswer.TheVariants as see
 use Rattle.node_gate.specs.declared.answers.TakeAnswer.TheVariants.{Stale, Taken}
 use Rattle.node_gate.proofs.AllowedLaws.{not_yet_by_word}
-use Rattle.txn_law.specs.Steps.{WasShown, seen_in}
-use Rattle.txn_law.specs.Views.{node_at}
-use Rattle.txn_law.specs.declared.view.NodeView.{NodeView}
-use Rattle.txn_law.proofs.FittingLaws as fitting
+use Rattle.txn_spec.specs.Steps.{WasShown, seen_in}
+use Rattle.txn_spec.specs.Views.{node_at}
+use Rattle.txn_spec.specs.declared.view.NodeView.{NodeView}
+use Rattle.txn_spec.proofs.FittingLaws as fitting
 use Rattle.txn_gate.specs.Calls.{heard_in, provision_in, taken_in}
 
 module _ (n : NodeView) (p w : ℕ) (shown : WasShown n p w) where

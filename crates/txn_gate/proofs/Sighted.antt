@@ -4,16 +4,16 @@ use Rattle.std.proofs.lemmas.List.{append-nil}
 use Rattle.std.proofs.lemmas.List.Elements.{filter_map-append}
 use Rattle.std.specs.List.{cons_option}
 use Rattle.std.specs.Option.{option_map}
-use Rattle.quiesce_commit_laws.specs.Steps.{change_all}
+use Rattle.quiesce_laws.specs.Steps.{change_all}
 use Rattle.txn_records.specs.Entries.{config_of, event_in, events_in}
 use Rattle.txn_records.specs.Records.{IsRecord}
 use Rattle.txn_records.specs.declared.entry.Entry.{Entry}
 use Rattle.txn_records.specs.declared.entry.Entry.TheVariants.{Sighted}
 use Rattle.quiesce_core.specs.State.{Configuration, empty, is_live, slot}
 use Rattle.quiesce_core.specs.Words.{slot_fields_of}
-use Rattle.txn_law.specs.Merging.{IsOfRecord}
-use Rattle.txn_law.specs.Steps.{Seat, noted}
-use Rattle.txn_law.specs.Views.{change_of, given_out, node_of, with_seat, with_sight}
+use Rattle.txn_spec.specs.Merging.{IsOfRecord}
+use Rattle.txn_spec.specs.Steps.{Seat, noted}
+use Rattle.txn_spec.specs.Views.{change_of, given_out, node_of, with_seat, with_sight}
 
 -- an entry that is no event leaves the configuration
 pub config_seen : (r : List Entry) (x : Entry) → event_in x ≡ None → config_of (r ++ x ∷ []) ≡ config_of r

@@ -26,9 +26,9 @@ use Rattle.quiesce_core.proofs.TableLaws.{new_gates_length}
 use Rattle.quiesce_core.specs.State.{Configuration, slot}
 use Rattle.quiesce_core.specs.declared.event.Event.{Event}
 use Rattle.quiesce_core.specs.declared.event.Event.TheVariants.{Close, Reopen, Make, Link, Unlink, Remove}
-use Rattle.txn_law.specs.Steps.{IsChange, Seat, noted}
-use Rattle.txn_law.specs.Views.{change_of, new_seat, newest, notes, of_node, unknown, without_seat}
-use Rattle.txn_law.specs.declared.view.ChangeView.{ChangeView}
+use Rattle.txn_spec.specs.Steps.{IsChange, Seat, noted}
+use Rattle.txn_spec.specs.Views.{change_of, new_seat, newest, notes, of_node, unknown, without_seat}
+use Rattle.txn_spec.specs.declared.view.ChangeView.{ChangeView}
 use Rattle.txn_gate.specs.TablesOf.{IsTableOf}
 use Rattle.txn_gate.specs.Tabled.{Tabled}
 use Rattle.txn_records.proofs.EntryLaws.{config_did, config_looked}

@@ -17,11 +17,11 @@ use Rattle.node_gate.specs.declared.answers.CallAnswer.{CallAnswer}
 use Rattle.node_gate.specs.declared.answers.CallAnswer.TheVariants.{Called, Missed}
 use Rattle.node_gate.specs.declared.answers.SeeAnswer.{SeeAnswer}
 use Rattle.node_gate.specs.declared.answers.SeeAnswer.TheVariants as see
-use Rattle.txn_law.specs.Steps.{seen_in}
-use Rattle.txn_law.specs.Views.{does, load_step, node_at, reads}
-use Rattle.txn_law.specs.declared.view.LoadKind.TheVariants as kinds
-use Rattle.txn_law.specs.declared.view.LoadStep.{LoadStep}
-use Rattle.txn_law.specs.declared.view.NodeView.{NodeView}
+use Rattle.txn_spec.specs.Steps.{seen_in}
+use Rattle.txn_spec.specs.Views.{does, load_step, node_at, reads}
+use Rattle.txn_spec.specs.declared.view.LoadKind.TheVariants as kinds
+use Rattle.txn_spec.specs.declared.view.LoadStep.{LoadStep}
+use Rattle.txn_spec.specs.declared.view.NodeView.{NodeView}
 use Rattle.txn_gate.specs.Calls.{ByWord, ByWords, after, begin_loads, begin_reads, called_in, exchanged_in, leads_in, refused_in}
 use Rattle.txn_gate.specs.Told.{loads_by, loads_next, loads_of, next_load, no_loads, with_found}
 

@@ -19,11 +19,11 @@ use Rattle.quiesce_core.specs.Knowledge.{nothing_known}
 use Rattle.quiesce_core.specs.declared.event.Event.{Event}
 use Rattle.quiesce_core.specs.declared.known.Known.{Known}
 use Rattle.quiesce_core.specs.declared.known.Served.{Served}
-use Rattle.txn_law.specs.Views.{does, load_step, reads}
-use Rattle.txn_law.specs.declared.view.LoadKind.{LoadKind}
-use Rattle.txn_law.specs.declared.view.LoadKind.TheVariants.{Own, Exchange}
-use Rattle.txn_law.specs.declared.view.LoadStep.{LoadStep}
-use Rattle.txn_law.specs.declared.view.NodeView.{NodeView}
+use Rattle.txn_spec.specs.Views.{does, load_step, reads}
+use Rattle.txn_spec.specs.declared.view.LoadKind.{LoadKind}
+use Rattle.txn_spec.specs.declared.view.LoadKind.TheVariants.{Own, Exchange}
+use Rattle.txn_spec.specs.declared.view.LoadStep.{LoadStep}
+use Rattle.txn_spec.specs.declared.view.NodeView.{NodeView}
 
 -- the node did these events more
 abbrev pub after : NodeView → List Event → NodeView

@@ -5,8 +5,8 @@ use Rattle.atomic_table.specs.Seated.{TableId}
 use Rattle.config_graph.specs.Kinds.{row}
 use Rattle.config_graph.specs.declared.TheConstants.{MAX_NODES, MAX_PORTS}
 use Rattle.node_gate.specs.Seats.{IsWithinLimits}
-use Rattle.txn_law.specs.Views.{node_at}
-use Rattle.txn_law.specs.declared.view.NodeView.{NodeView}
+use Rattle.txn_spec.specs.Views.{node_at}
+use Rattle.txn_spec.specs.declared.view.NodeView.{NodeView}
 
 -- the seat is of this table, which has a word for each port and one for each slot
 pub record IsHere (seat gates : TableId) : Type 0 where

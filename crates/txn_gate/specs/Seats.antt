@@ -3,9 +3,9 @@
 use Rattle.std.specs.Prelude.{◌≡◌, List}
 use Rattle.atomic_table.specs.Seated.{TableId}
 use Rattle.txn_records.specs.declared.entry.Entry.{Entry}
-use Rattle.txn_law.specs.Views.{change_of, node_of}
-use Rattle.txn_law.specs.declared.view.ChangeView.{ChangeView}
-use Rattle.txn_law.specs.declared.view.NodeView.{NodeView}
+use Rattle.txn_spec.specs.Views.{change_of, node_of}
+use Rattle.txn_spec.specs.declared.view.ChangeView.{ChangeView}
+use Rattle.txn_spec.specs.declared.view.NodeView.{NodeView}
 use Rattle.txn_gate.specs.declared.change_seat.ChangeSeat.{ChangeSeat}
 use Rattle.txn_gate.specs.declared.gates.Gates.{Gates}
 use Rattle.txn_gate.specs.declared.node_seat.NodeSeat.{NodeSeat}

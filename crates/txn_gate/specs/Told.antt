@@ -2,9 +2,9 @@
 -- of the last `take` and the last `hear`.
 use Rattle.std.specs.Prelude.{ℕ, ◌+◌, ◌==◌, List, Some, None, fold, if◌then◌else◌, option_map}
 use Rattle.node_gate.specs.Loads.{Load, Loads}
-use Rattle.txn_law.specs.declared.view.LoadKind.{LoadKind}
-use Rattle.txn_law.specs.declared.view.LoadKind.TheVariants.{Own, Exchange, Take, Hear}
-use Rattle.txn_law.specs.declared.view.LoadStep.{LoadStep}
+use Rattle.txn_spec.specs.declared.view.LoadKind.{LoadKind}
+use Rattle.txn_spec.specs.declared.view.LoadKind.TheVariants.{Own, Exchange, Take, Hear}
+use Rattle.txn_spec.specs.declared.view.LoadStep.{LoadStep}
 
 abbrev pub no_loads : Loads
 no_loads = record { steps = 0; at = λ q. None; take = None; hear = None }

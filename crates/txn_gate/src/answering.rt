@@ -3,7 +3,7 @@
 ghost use Rattle.std.specs.Prelude.{◌≡◌, None};
 ghost use Rattle.quiesce_word.specs.Words as words;
 ghost use Rattle.quiesce_word.specs.Words.{unpack};
-ghost use Rattle.txn_law.specs.Steps.{seen_in};
+ghost use Rattle.txn_spec.specs.Steps.{seen_in};
 ghost use Rattle.txn_gate.specs.Calls.{called_in, exchanged_in, heard_in, refused_in, taken_in};
 
 use node_gate::{BeginAnswer, CallAnswer, HearAnswer, SeeAnswer, TakeAnswer};

@@ -1,7 +1,7 @@
 //! The calls of the change at the gates.
 
 ghost use Rattle.std.specs.Prelude.{◌≡◌, ◌⊎◌, ◌+◌, ◌<◌, ◌≤◌, ℕ, [], IfOk, IsOk, IsTrue, OnOk, length, replicate};
-ghost use Rattle.quiesce_commit_laws.specs.Steps.{MayLink, MayRemove, MayUnlink};
+ghost use Rattle.quiesce_laws.specs.Steps.{MayLink, MayRemove, MayUnlink};
 ghost use Rattle.config_graph.specs.Kinds.{row};
 ghost use Rattle.config_graph.specs.declared.TheConstants.{MAX_NODES, MAX_PORTS};
 ghost use Rattle.txn_records.specs.Entries.{config_of};
@@ -13,11 +13,11 @@ ghost use Rattle.quiesce_core.specs.Knowledge.{nothing_known};
 ghost use Rattle.quiesce_core.specs.Legal.{CanMake};
 ghost use Rattle.quiesce_core.specs.Rules.{is_live_port};
 ghost use Rattle.quiesce_core.specs.declared.event.Event.TheVariants as event;
-ghost use Rattle.txn_law.specs.Views.{notes, nothing_done, of_node};
-ghost use Rattle.txn_law.specs.declared.view.NodeView.{NodeView as NodeFields};
+ghost use Rattle.txn_spec.specs.Views.{notes, nothing_done, of_node};
+ghost use Rattle.txn_spec.specs.declared.view.NodeView.{NodeView as NodeFields};
 ghost use Rattle.txn_gate.specs.Calls.{made_node};
 ghost use Rattle.txn_gate.specs.Seats.{IsChangeSeatOf, change_in, collected_in, node_in, record_of, table_of_change, table_of_node};
-ghost use Rattle.txn_law.specs.Traces.{first_words};
+ghost use Rattle.txn_spec.specs.Traces.{first_words};
 
 use crate::change_seat::ChangeSeat;
 use crate::gates::Gates;

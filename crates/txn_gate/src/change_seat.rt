@@ -1,12 +1,12 @@
 //! The seat of the change at the gates.
 
 ghost use Rattle.std.specs.Prelude.{◌≡◌, ◌≤◌, ◌↔◌, IsTrue, length};
-ghost use Rattle.quiesce_commit_laws.specs.Steps.{IsNoted};
+ghost use Rattle.quiesce_laws.specs.Steps.{IsNoted};
 ghost use Rattle.config_graph.specs.declared.TheConstants.{MAX_PORTS};
 ghost use Rattle.txn_records.specs.Entries.{config_of};
 ghost use Rattle.txn_records.specs.Notes.{is_noted};
-ghost use Rattle.txn_law.specs.Steps.{IsChange};
-ghost use Rattle.txn_law.specs.Views.{change_of};
+ghost use Rattle.txn_spec.specs.Steps.{IsChange};
+ghost use Rattle.txn_spec.specs.Views.{change_of};
 ghost use Rattle.quiesce_core.specs.Rules.{is_live_port};
 ghost use Rattle.quiesce_core.specs.State.{is_live, target};
 ghost use Rattle.txn_gate.specs.TablesOf.{IsTableOf};
@@ -74,7 +74,7 @@ impl ChangeSeat {
     }
 
     /// Whether the node is live, and each port of it and each that reaches it is noted: then it is settled, and stays
-    /// so until a port is reopened or linked, or it is removed (`notes_tell_of_the_state` of txn_law).
+    /// so until a port is reopened or linked, or it is removed (`notes_tell_of_the_state` of txn_spec).
     pub fn settled(&self, node: u32) -> bool
         ensures { IsTrue result ↔ IsNoted (is_noted (change_of self.now.seat.me.0).entries)
             (config_of (change_of self.now.seat.me.0).entries) node }

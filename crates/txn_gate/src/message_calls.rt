@@ -9,9 +9,9 @@ ghost use Rattle.node_gate.specs.Answers.{CallSays, HearSays};
 ghost use Rattle.node_gate.specs.Moves as moves;
 ghost use Rattle.node_gate.specs.Moves.{Does};
 ghost use Rattle.node_gate.specs.Seats.{MayAsk, MayCallAt, MayHear, MaySendMore, serial_served};
-ghost use Rattle.txn_law.specs.Steps.{WasShown, looks};
-ghost use Rattle.txn_law.specs.Views.{does, node_at, reads};
-ghost use Rattle.txn_law.specs.declared.view.LoadKind.TheVariants as kinds;
+ghost use Rattle.txn_spec.specs.Steps.{WasShown, looks};
+ghost use Rattle.txn_spec.specs.Views.{does, node_at, reads};
+ghost use Rattle.txn_spec.specs.declared.view.LoadKind.TheVariants as kinds;
 ghost use Rattle.txn_gate.specs.Calls.{ByWord, after, called_in, heard_in};
 ghost use Rattle.txn_gate.specs.Seats.{IsSeatOf, node_in, table_of_node};
 

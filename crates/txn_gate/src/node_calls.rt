@@ -11,9 +11,9 @@ ghost use Rattle.node_gate.specs.Answers.{BeginSays, SeeSays, TakeSays};
 ghost use Rattle.node_gate.specs.Moves as moves;
 ghost use Rattle.node_gate.specs.Moves.{Does};
 ghost use Rattle.node_gate.specs.Seats.{MayBegin, MayEnd, MayGive, MaySee, MayTake};
-ghost use Rattle.txn_law.specs.Steps.{WasShown, seen_in};
-ghost use Rattle.txn_law.specs.Views.{does, node_at, reads};
-ghost use Rattle.txn_law.specs.declared.view.LoadKind.TheVariants as kinds;
+ghost use Rattle.txn_spec.specs.Steps.{WasShown, seen_in};
+ghost use Rattle.txn_spec.specs.Views.{does, node_at, reads};
+ghost use Rattle.txn_spec.specs.declared.view.LoadKind.TheVariants as kinds;
 ghost use Rattle.txn_gate.specs.Calls.{ByWord, ByWords, after, exchanged_in, refused_in, taken_in};
 ghost use Rattle.txn_gate.specs.Seats.{IsSeatOf, node_in, table_of_node};
 

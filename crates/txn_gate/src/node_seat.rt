@@ -5,8 +5,8 @@ ghost use Rattle.config_graph.specs.Kinds.{row};
 ghost use Rattle.config_graph.specs.declared.TheConstants.{MAX_NODES, MAX_PORTS};
 ghost use Rattle.quiesce_core.specs.Knowledge as knowledge;
 ghost use Rattle.node_gate.specs.Seats.{serial_served, value_seen};
-ghost use Rattle.txn_law.specs.Steps.{IsNode, value_served};
-ghost use Rattle.txn_law.specs.Views.{node_of};
+ghost use Rattle.txn_spec.specs.Steps.{IsNode, value_served};
+ghost use Rattle.txn_spec.specs.Views.{node_of};
 ghost use Rattle.txn_gate.specs.Calls.{is_served_within};
 ghost use Rattle.txn_gate.specs.Told.{loads_of};
 

@@ -2,7 +2,7 @@
 
 use atomic_table::{Play, Split};
 use std::marker::{Brand, PhantomData};
-use txn_law::View;
+use txn_spec::View;
 
 /// Names an event whose parts a step's operands don't have.
 pub trait Names {
@@ -40,7 +40,7 @@ impl Marks for Brand {
 pub struct Loading;
 
 impl Play<(), View> for Loading {
-    ghost use Rattle.txn_law.specs.Steps.{LoadsWord};
+    ghost use Rattle.txn_spec.specs.Steps.{LoadsWord};
 
     ghost then = { LoadsWord };
 }
@@ -51,7 +51,7 @@ pub struct Beginning<E> {
 }
 
 impl<E: Names> Play<(), View> for Beginning<E> {
-    ghost use Rattle.txn_law.specs.Steps.{ExchangesFor};
+    ghost use Rattle.txn_spec.specs.Steps.{ExchangesFor};
 
     ghost then = { ExchangesFor E.event };
 }
@@ -60,7 +60,7 @@ impl<E: Names> Play<(), View> for Beginning<E> {
 pub struct Taking;
 
 impl Play<(), View> for Taking {
-    ghost use Rattle.txn_law.specs.Steps.{Takes};
+    ghost use Rattle.txn_spec.specs.Steps.{Takes};
 
     ghost then = { Takes };
 }
@@ -69,7 +69,7 @@ impl Play<(), View> for Taking {
 pub struct Seeing;
 
 impl Play<(), View> for Seeing {
-    ghost use Rattle.txn_law.specs.Steps.{Sees};
+    ghost use Rattle.txn_spec.specs.Steps.{Sees};
 
     ghost then = { Sees };
 }
@@ -78,7 +78,7 @@ impl Play<(), View> for Seeing {
 pub struct Hearing;
 
 impl Play<(), View> for Hearing {
-    ghost use Rattle.txn_law.specs.Steps.{Hears};
+    ghost use Rattle.txn_spec.specs.Steps.{Hears};
 
     ghost then = { Hears };
 }
@@ -87,7 +87,7 @@ impl Play<(), View> for Hearing {
 pub struct LookingToCall;
 
 impl Play<(), View> for LookingToCall {
-    ghost use Rattle.txn_law.specs.Steps.{LooksToCall};
+    ghost use Rattle.txn_spec.specs.Steps.{LooksToCall};
 
     ghost then = { LooksToCall };
 }
@@ -99,7 +99,7 @@ pub struct Acting<E> {
 
 impl<E: Names> Play<(), View> for Acting<E> {
     ghost use Rattle.std.specs.Prelude.{◌≡◌};
-    ghost use Rattle.txn_law.specs.Steps.{did};
+    ghost use Rattle.txn_spec.specs.Steps.{did};
 
     ghost then = { λ st me found new. new ≡ did me E.event };
 }
@@ -108,7 +108,7 @@ impl<E: Names> Play<(), View> for Acting<E> {
 pub struct Adopting;
 
 impl Play<(), View> for Adopting {
-    ghost use Rattle.txn_law.specs.Steps.{Adopts};
+    ghost use Rattle.txn_spec.specs.Steps.{Adopts};
 
     ghost then = { Adopts };
 }
@@ -121,7 +121,7 @@ pub struct Changing<E> {
 impl<E: Names> Play<(), View> for Changing<E> {
     ghost use Rattle.std.specs.Prelude.{◌≡◌};
     ghost use Rattle.txn_records.specs.declared.entry.Entry.TheVariants.{Did};
-    ghost use Rattle.txn_law.specs.Steps.{noted};
+    ghost use Rattle.txn_spec.specs.Steps.{noted};
 
     ghost then = { λ st me found new. new ≡ noted me (Did E.event) };
 }
@@ -130,7 +130,7 @@ impl<E: Names> Play<(), View> for Changing<E> {
 pub struct Looking;
 
 impl Play<(), View> for Looking {
-    ghost use Rattle.txn_law.specs.Steps.{LooksAt};
+    ghost use Rattle.txn_spec.specs.Steps.{LooksAt};
 
     ghost then = { LooksAt };
 }
@@ -141,7 +141,7 @@ pub struct Marking<M> {
 }
 
 impl<M: Marks> Play<(), View> for Marking<M> {
-    ghost use Rattle.txn_law.specs.Steps.{MarksScan};
+    ghost use Rattle.txn_spec.specs.Steps.{MarksScan};
 
     ghost then = { MarksScan M.begins M.moved };
 }
@@ -150,7 +150,7 @@ impl<M: Marks> Play<(), View> for Marking<M> {
 pub struct NewSeat;
 
 impl Split<View> for NewSeat {
-    ghost use Rattle.txn_law.specs.Views.{new_seat, without_seat};
+    ghost use Rattle.txn_spec.specs.Views.{new_seat, without_seat};
 
     ghost left = { without_seat };
 

@@ -3,8 +3,8 @@
 ghost use Rattle.std.specs.Prelude.{◌≡◌};
 ghost use Rattle.txn_records.specs.Records.{IsRecord};
 ghost use Rattle.txn_records.specs.declared.entry.Entry.TheVariants.{Scanned};
-ghost use Rattle.txn_law.specs.Traces.{HaveOwnSlots};
-ghost use Rattle.txn_law.specs.Views.{notes};
+ghost use Rattle.txn_spec.specs.Traces.{HaveOwnSlots};
+ghost use Rattle.txn_spec.specs.Views.{notes};
 ghost use Rattle.txn_gate.specs.Seats.{IsChangeSeatOf, change_in, collected_in, record_of, table_of_change};
 
 use crate::change_seat::ChangeSeat;

@@ -2,7 +2,7 @@
 
 ghost use Rattle.std.specs.Prelude.{◌≡◌, ◌-◌, ◌<◌, ◌≤◌, ◌↔◌, ◌++◌, ◌∷◌, ◌||◌, not, ℕ, [], Some, List, IfOk, IsTrue, length};
 ghost use Rattle.std.specs.List.{list_all, range_with_len};
-ghost use Rattle.quiesce_commit_laws.specs.Steps.{IsNoted};
+ghost use Rattle.quiesce_laws.specs.Steps.{IsNoted};
 ghost use Rattle.config_graph.specs.declared.TheConstants.{MAX_NODES, MAX_PORTS};
 ghost use Rattle.txn_records.specs.Entries.{config_of};
 ghost use Rattle.txn_records.specs.Notes.{is_noted};

@@ -4,22 +4,22 @@ ghost use Rattle.std.specs.Prelude.{◌≡◌, [], ◌∷◌, ◌<◌, List};
 ghost use Rattle.config_graph.specs.declared.TheConstants.{MAX_PORTS};
 ghost use Rattle.txn_records.specs.Records.{IsRecord};
 ghost use Rattle.txn_records.specs.declared.entry.Entry.TheVariants.{Looked};
-ghost use Rattle.txn_law.specs.Merging.{AreAllAmong, IsOfRecord, MergeIntoRun};
-ghost use Rattle.txn_law.specs.Steps.{IsChange, IsNode, noted};
-ghost use Rattle.txn_law.specs.Traces.{HaveOwnSlots};
-ghost use Rattle.txn_law.specs.Views.{change_of, given_out, node_of, seat_again, with_seat, with_sight};
-ghost use Rattle.txn_law.specs.declared.view.NodeView.{NodeView};
+ghost use Rattle.txn_spec.specs.Merging.{AreAllAmong, IsOfRecord, MergeIntoRun};
+ghost use Rattle.txn_spec.specs.Steps.{IsChange, IsNode, noted};
+ghost use Rattle.txn_spec.specs.Traces.{HaveOwnSlots};
+ghost use Rattle.txn_spec.specs.Views.{change_of, given_out, node_of, seat_again, with_seat, with_sight};
+ghost use Rattle.txn_spec.specs.declared.view.NodeView.{NodeView};
 ghost use Rattle.txn_gate.specs.Places.{IsHere};
 
 use crate::steps::{AnySeat, Words, place_of_port};
 use atomic_table::{Join, Play, Split};
-use txn_law::View;
+use txn_spec::View;
 
 /// A node's seat is taken in.
 pub struct TakingIn;
 
 impl Join<View> for TakingIn {
-    ghost use Rattle.txn_law.specs.Views.{nobody, with_seat};
+    ghost use Rattle.txn_spec.specs.Views.{nobody, with_seat};
 
     ghost both = { with_seat };
 
@@ -30,7 +30,7 @@ impl Join<View> for TakingIn {
 pub struct Sighting;
 
 impl Join<View> for Sighting {
-    ghost use Rattle.txn_law.specs.Views.{nobody, with_sight};
+    ghost use Rattle.txn_spec.specs.Views.{nobody, with_sight};
 
     ghost both = { with_sight };
 
@@ -41,7 +41,7 @@ impl Join<View> for Sighting {
 pub struct GivingOut;
 
 impl Split<View> for GivingOut {
-    ghost use Rattle.txn_law.specs.Views.{given_out, seat_again};
+    ghost use Rattle.txn_spec.specs.Views.{given_out, seat_again};
 
     ghost left = { given_out };
 
@@ -52,7 +52,7 @@ impl Split<View> for GivingOut {
 pub struct Leaving;
 
 impl Split<View> for Leaving {
-    ghost use Rattle.txn_law.specs.Views.{nobody};
+    ghost use Rattle.txn_spec.specs.Views.{nobody};
 
     ghost left = { λ v. nobody };
 
@@ -63,7 +63,7 @@ impl Split<View> for Leaving {
 pub struct Learning;
 
 impl Play<(), View> for Learning {
-    ghost use Rattle.txn_law.specs.Merging.{Learns};
+    ghost use Rattle.txn_spec.specs.Merging.{Learns};
 
     ghost then = { Learns };
 }
@@ -72,7 +72,7 @@ impl Play<(), View> for Learning {
 pub struct Meeting;
 
 impl Play<(), View> for Meeting {
-    ghost use Rattle.txn_law.specs.Merging.{Meets};
+    ghost use Rattle.txn_spec.specs.Merging.{Meets};
 
     ghost then = { Meets };
 }
@@ -81,7 +81,7 @@ impl Play<(), View> for Meeting {
 pub struct Merging;
 
 impl Play<(), View> for Merging {
-    ghost use Rattle.txn_law.specs.Merging.{Merges};
+    ghost use Rattle.txn_spec.specs.Merging.{Merges};
 
     ghost then = { Merges };
 }

@@ -6,8 +6,8 @@ ghost use Rattle.txn_records.specs.Records.{AreAllNoted, IsRecord};
 ghost use Rattle.txn_records.specs.declared.entry.Entry.TheVariants.{Looked, Sighted};
 ghost use Rattle.quiesce_core.specs.State.{is_live, slot};
 ghost use Rattle.quiesce_core.specs.Words.{slot_fields_of};
-ghost use Rattle.txn_law.specs.Merging.{MergeIntoRun};
-ghost use Rattle.txn_law.specs.Views.{is_among, notes};
+ghost use Rattle.txn_spec.specs.Merging.{MergeIntoRun};
+ghost use Rattle.txn_spec.specs.Views.{is_among, notes};
 ghost use Rattle.txn_gate.specs.Seats.{IsChangeSeatOf, IsSeatOf, change_in, collected_in, node_in, record_of, table_of_change, table_of_node};
 
 use crate::change_seat::ChangeSeat;

@@ -14,10 +14,10 @@ ghost use Rattle.txn_records.specs.declared.entry.Entry.TheVariants.{Did, Looked
 ghost use Rattle.quiesce_core.specs.Rules.{last_serial};
 ghost use Rattle.quiesce_core.specs.declared.event.Event.TheVariants as event;
 ghost use Rattle.node_gate.specs.Seats.{MayAsk, MayBegin, MayCallAt, MayEnd, MayGive, MayHear, MaySee, MaySendMore, MayTake, port_known, serial_served, value_seen};
-ghost use Rattle.txn_law.specs.Steps.{IsChange, IsNode, WasShown, did, looks, noted, read, sees, value_served};
-ghost use Rattle.txn_law.specs.Traces.{port_place};
-ghost use Rattle.txn_law.specs.Views.{change_of, new_seat, node_at, node_of, of_node, without_seat};
-ghost use Rattle.txn_law.specs.declared.view.LoadKind.TheVariants as kinds;
+ghost use Rattle.txn_spec.specs.Steps.{IsChange, IsNode, WasShown, did, looks, noted, read, sees, value_served};
+ghost use Rattle.txn_spec.specs.Traces.{port_place};
+ghost use Rattle.txn_spec.specs.Views.{change_of, new_seat, node_at, node_of, of_node, without_seat};
+ghost use Rattle.txn_spec.specs.declared.view.LoadKind.TheVariants as kinds;
 ghost use Rattle.txn_gate.specs.Places.{IsHere};
 
 use crate::plays::{
@@ -28,7 +28,7 @@ use atomic_table::{Seat, Table};
 use config_graph::{MAX_PORTS, Node};
 use quiesce_word::{ALL_BUT_CLOSED, CLOSED};
 use std::alloc::Global;
-use txn_law::{GateRule, View};
+use txn_spec::{GateRule, View};
 
 /// One word for each port, and one for each slot after them.
 pub type Words = Table<(), View, (), GateRule, Global>;
@@ -44,7 +44,7 @@ fn place_of(slot: u32) -> usize
 }
 
 /// The index of the word of a port. Those of neighbours lie in cache lines of their own.
-#[tactic(auto, unfolding(txn_law::specs::Traces::port_place))]
+#[tactic(auto, unfolding(txn_spec::specs::Traces::port_place))]
 pub fn place_of_port(port: u32) -> usize
     requires { port < MAX_PORTS }
     ensures place { result ≡ port_place port }

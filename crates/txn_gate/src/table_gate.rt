@@ -1,7 +1,7 @@
 //! The gates as one worker's gate, at which nodes take their turns.
 
 ghost use Rattle.std.specs.Prelude.{◌≡◌, None};
-ghost use Rattle.txn_law.specs.Views.{node_at};
+ghost use Rattle.txn_spec.specs.Views.{node_at};
 ghost use Rattle.txn_gate.specs.Places.{within_limits};
 ghost use Rattle.txn_gate.specs.Seats.{IsSeatOf, node_in};
 
@@ -19,7 +19,7 @@ pub trait Makes {
 
 /// A call that passes `Brand` picks what it names; this one is never meant.
 impl Makes for Brand {
-    ghost use Rattle.txn_law.specs.Views.{unknown};
+    ghost use Rattle.txn_spec.specs.Views.{unknown};
 
     ghost made = { unknown.made };
 }

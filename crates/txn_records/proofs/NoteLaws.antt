@@ -7,8 +7,8 @@ use Rattle.std.proofs.lemmas.List.{append-nil}
 use Rattle.std.proofs.lemmas.List.Elements.{filter_map-append}
 use Rattle.std.proofs.lemmas.List.Sums.{fold_push}
 use Rattle.base.specs.Each.{EachAfter}
-use Rattle.quiesce_commit_laws.specs.Steps.{MayStep}
-use Rattle.quiesce_commit_laws.proofs.MeanwhileLaws.{allowed_meanwhile, none_reopened}
+use Rattle.quiesce_laws.specs.Steps.{MayStep}
+use Rattle.quiesce_laws.proofs.MeanwhileLaws.{allowed_meanwhile, none_reopened}
 use Rattle.quiesce_core.specs.declared.event.Event.{Event}
 use Rattle.quiesce_core.specs.declared.event.Event.TheVariants.{Begin, Call, Take, Give, End, More, Ask, Hear, Miss, Close, Reopen, Make, Link, Unlink, Remove}
 use Rattle.quiesce_core.specs.Rules.{denial}

@@ -6,8 +6,8 @@ use Rattle.std.proofs.lemmas.List.{append-nil}
 use Rattle.std.proofs.lemmas.List.Elements.{filter_map-append}
 use Rattle.base.specs.Each.{EachAfter}
 use Rattle.base.proofs.EachLaws.{each_pushed}
-use Rattle.quiesce_commit_laws.proofs.MeanwhileLaws.{config_after}
-use Rattle.quiesce_commit_laws.specs.Steps.{change_all}
+use Rattle.quiesce_laws.proofs.MeanwhileLaws.{config_after}
+use Rattle.quiesce_laws.specs.Steps.{change_all}
 use Rattle.quiesce_core.specs.declared.event.Event.{Event}
 use Rattle.quiesce_core.specs.Doers.{is_of_change}
 use Rattle.quiesce_core.specs.Rules.{denial}

@@ -1,7 +1,7 @@
 -- To be believed (docs/definitions.md).
 -- What is done and seen by a change, in order, and the configuration that its events make.
 use Rattle.std.specs.Prelude.{List, filter_map, Option, Some, None}
-use Rattle.quiesce_commit_laws.specs.Steps.{change_all}
+use Rattle.quiesce_laws.specs.Steps.{change_all}
 use Rattle.quiesce_core.specs.State.{Configuration, empty}
 use Rattle.quiesce_core.specs.declared.event.Event.{Event}
 use Rattle.txn_records.specs.declared.entry.Entry.{Entry}

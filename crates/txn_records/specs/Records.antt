@@ -3,7 +3,7 @@
 -- by them.
 use Rattle.std.specs.Prelude.{◌≡◌, ⊤, ℕ, true, false, List, ◌++◌, All, filter_map, Option, Some, None, IsTrue}
 use Rattle.base.specs.Each.{Each}
-use Rattle.quiesce_commit_laws.specs.Steps.{MayStep}
+use Rattle.quiesce_laws.specs.Steps.{MayStep}
 use Rattle.quiesce_core.specs.declared.event.Event.{Event}
 use Rattle.quiesce_core.specs.Doers.{is_of_change}
 use Rattle.quiesce_core.specs.Rules.{is_live_port}

@@ -9,7 +9,7 @@ use Rattle.std.proofs.lemmas.List.Kept.{AllPairs-cons}
 use Rattle.base.proofs.OptionLaws.{map_or_at, map_or_true}
 use Rattle.base.proofs.PlaceLaws.{slice_get-below, slice_get-front, slice_get-last, slice_get-push_cases, slice_get-there}
 use Rattle.config_graph.specs.Graph.{Graph}
-use Rattle.watch_view.specs.Lists.{no_graph}
+use Rattle.watch_lines.specs.Lists.{no_graph}
 use Rattle.watch_lines.specs.Counts.{AreCountsOf, before_all, is_counted, is_next, lines_from, lines_of}
 use Rattle.watch_lines.specs.Sightings.{AreSightingsOf, CountsOf, IsBelow, IsSightingOf}
 use Rattle.watch_lines.specs.declared.sighting.Sighting.{Sighting}

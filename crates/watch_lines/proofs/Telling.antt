@@ -6,9 +6,9 @@ use Rattle.base.proofs.PlaceLaws.{one_at, slice_get-below}
 use Rattle.config_graph.specs.Graph.{Graph}
 use Rattle.report_types.specs.declared.report.HistoryLine.{HistoryLine}
 use Rattle.report_types.specs.declared.report.HistoryLine.TheVariants as to
-use Rattle.change_law.specs.Members.{is_commit}
-use Rattle.change_transcript_laws.specs.Hearing.{AreCommitted, commit_count}
-use Rattle.watch_view.specs.Lists.{no_graph}
+use Rattle.change_spec.specs.Members.{is_commit}
+use Rattle.change_spec.specs.Heard.{AreCommitted, commit_count}
+use Rattle.watch_lines.specs.Lists.{no_graph}
 use Rattle.watch_lines.specs.Observers.{AreToldOf, IsToldOf, StandsAt, at_none, at_commit}
 use Rattle.watch_lines.specs.Sightings.{AreSightingsOf, IsSightingOf}
 use Rattle.watch_lines.specs.declared.sighting.Sighting.{Sighting}

@@ -8,9 +8,9 @@ use Rattle.report_types.specs.declared.report.HistoryLine.{HistoryLine}
 use Rattle.report_types.specs.declared.report.HistoryLine.TheVariants as to
 use Rattle.report_types.specs.declared.report.Report.{Report}
 use Rattle.report_writing.specs.Reports.{report_text}
-use Rattle.change_law.specs.Members.{is_commit}
-use Rattle.change_law.specs.Scene.{config_after}
-use Rattle.watch_view.specs.Lists.{no_graph}
+use Rattle.change_spec.specs.Members.{is_commit}
+use Rattle.change_spec.specs.Scene.{config_after}
+use Rattle.watch_lines.specs.Lists.{no_graph}
 use Rattle.watch_lines.specs.Sightings.{CountsOf, IsBelow}
 use Rattle.watch_lines.specs.WatchText.{watch_text}
 use Rattle.watch_lines.specs.declared.sighting.Sighting.{Sighting}

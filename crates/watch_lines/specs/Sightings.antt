@@ -3,7 +3,7 @@
 -- them. Here these graphs are a list, in the order of their commits.
 use Rattle.std.specs.Prelude.{◌≡◌, ◌<◌, List, [], ◌∷◌, ◌++◌, All, AllPairs, length, slice_get, Some}
 use Rattle.config_graph.specs.Graph.{Graph}
-use Rattle.watch_view.specs.Lists.{no_graph}
+use Rattle.watch_lines.specs.Lists.{no_graph}
 use Rattle.watch_lines.specs.declared.sighting.Sighting.{Sighting}
 
 -- so many nodes and links a graph has

@@ -3,7 +3,7 @@
 ghost use Rattle.std.specs.Prelude.{List};
 ghost use Rattle.config_graph.specs.Graph.{Graph};
 ghost use Rattle.report_types.specs.declared.report.HistoryLine.{HistoryLine};
-ghost use Rattle.change_transcript_laws.specs.Hearing.{AreCommitted};
+ghost use Rattle.change_spec.specs.Heard.{AreCommitted};
 ghost use Rattle.watch_lines.specs.Observers.{AreToldOf};
 ghost use Rattle.watch_lines.specs.Sightings.{AreSightingsOf};
 ghost use Rattle.watch_lines.specs.declared.sighting.Sighting.{Sighting};

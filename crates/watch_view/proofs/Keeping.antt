@@ -9,7 +9,7 @@ use Rattle.atomic_table.proofs.Lists.{at_set, at_snoc}
 use Rattle.crossbeam_utils.specs.Register.{Admits, Turns, TurnsAt}
 use Rattle.config_graph.specs.Graph.{Graph}
 use Rattle.watch_view.specs.declared.seen.Seen.{Seen}
-use Rattle.watch_view.specs.Lists.{BeginsWith, no_graph}
+use Rattle.watch_lines.specs.Lists.{BeginsWith, no_graph}
 use Rattle.watch_view.specs.Rule.{IsLast, Keeps, Looks, Publishes}
 
 -- ---- lists that begin with one another

@@ -6,7 +6,7 @@ use Rattle.left_right.specs.declared.part.Part.{Part}
 use Rattle.left_right.specs.Sides.{view}
 use Rattle.config_graph.specs.Graph.{Graph}
 use Rattle.watch_view.specs.declared.seen.Seen.{Seen}
-use Rattle.watch_view.specs.Lists.{BeginsWith}
+use Rattle.watch_lines.specs.Lists.{BeginsWith}
 
 -- the writer: all graphs that it published, and whether a commit answered that there is no memory
 pub record Writing : Type 0 where

@@ -1,3 +1,4 @@
 pub mod Known
-pub mod Lists
 pub mod Rule
+pub mod Hearing
+pub mod Noted

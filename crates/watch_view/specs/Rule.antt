@@ -5,7 +5,7 @@ use mathlib.Core.Option.{some}
 use lib.ListN.{get_elem?}
 use Rattle.config_graph.specs.Graph.{Graph}
 use Rattle.watch_view.specs.declared.seen.Seen.{Seen}
-use Rattle.watch_view.specs.Lists.{BeginsWith, last_of}
+use Rattle.watch_lines.specs.Lists.{BeginsWith, last_of}
 
 abbrev pub IsLast : List Graph → Seen → Type 0
 IsLast list s = (s.commits ≡ length list) × (s.graph ≡ last_of list)

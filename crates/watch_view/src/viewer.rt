@@ -2,7 +2,7 @@
 
 ghost use Rattle.std.specs.Prelude.{◌≡◌, ◌≤◌, length, max, [], IfOk};
 ghost use Rattle.watch_view.specs.Known.{Reads, known_by};
-ghost use Rattle.watch_view.specs.Lists.{BeginsWith};
+ghost use Rattle.watch_lines.specs.Lists.{BeginsWith};
 ghost use Rattle.watch_view.specs.Rule.{IsLast, Looks};
 
 use crate::rule::{GraphReader, GraphReading, Looking};

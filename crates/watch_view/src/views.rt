@@ -2,7 +2,7 @@
 
 ghost use Rattle.std.specs.Prelude.{◌≡◌, ◌<◌, ◌≤◌, false, length, [], All, IfOk, vec_capacity};
 ghost use Rattle.watch_view.specs.Known.{IsNew};
-ghost use Rattle.watch_view.specs.Lists.{no_graph};
+ghost use Rattle.watch_lines.specs.Lists.{no_graph};
 
 use crate::rule::GraphWriter;
 use crate::{Seen, ViewWriter, Viewer};

@@ -2,7 +2,7 @@
 
 ghost use Rattle.std.specs.Prelude.{◌≡◌, ◌+◌, false, true, length, ◌++◌, ◌∷◌, [], drop, IfOk, IfErr};
 ghost use Rattle.watch_view.specs.Known.{known_by};
-ghost use Rattle.watch_view.specs.Lists.{no_graph};
+ghost use Rattle.watch_lines.specs.Lists.{no_graph};
 ghost use Rattle.watch_view.specs.Rule.{IsLast};
 
 use crate::Seen;

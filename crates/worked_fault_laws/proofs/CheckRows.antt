@@ -8,7 +8,7 @@ use Rattle.darwin_types.specs.declared.error.TypeError.{TypeError}
 use Rattle.darwin_types.specs.Faults.{FaultIn}
 use Rattle.darwin_types.specs.Faults as fault
 use Rattle.config_graph.specs.declared.kind.Kind.TheVariants.{Sink}
-use Rattle.worked_fault_laws.specs.Trees.{here, idle, inner, outer}
+use Rattle.darwin_parser.specs.Trees.{here, idle, inner, outer}
 use Rattle.darwin_types.specs.FaultCases.{Case, case_in}
 use Rattle.darwin_types.specs.FaultCases as case
 use Rattle.darwin_types.proofs.CheckTestLaws.{alone, leaves_alone}

@@ -16,7 +16,7 @@ use Rattle.elaborator.proofs.InstanceLaws.{instances-listed}
 use Rattle.elaborator.proofs.TwiceLaws.{twice_places}
 use Rattle.std.proofs.lemmas.Option.{slice_get_within}
 use Rattle.worked_fault_laws.proofs.CycleLemmas.{the_graph, is_graph, is_first, map_node}
-use Rattle.worked_fault_laws.specs.Trees.{here, idle, component, instance, row}
+use Rattle.darwin_parser.specs.Trees.{here, idle, component, instance, row}
 use Rattle.darwin_types.proofs.CheckTestLaws as checks
 use Rattle.elaborator.specs.FaultCases.{Case, FaultOf, case_of}
 use Rattle.elaborator.specs.FaultCases as case

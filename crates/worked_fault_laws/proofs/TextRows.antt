@@ -9,7 +9,7 @@ use Rattle.darwin_parser.specs.Reading as reading
 use Rattle.darwin_parser.specs.Refusals.{IsUnexpected, IsTooNested}
 use Rattle.darwin_parser.proofs.UnitLaws.{too_nested_read, unexpected_read}
 use Rattle.worked_fault_laws.specs.Texts.{parentheses, ranges, signs, text_of, too_nested, unexpected, unfinished, without_braces}
-use Rattle.worked_fault_laws.specs.Trees.{at}
+use Rattle.darwin_parser.specs.Trees.{at}
 
 pub faults : (fault : LexicalFault) → (at : At) × FirstFault (text_of fault) fault at
 faults BadByte = (_, (0, [], ended 0, refl, refl))

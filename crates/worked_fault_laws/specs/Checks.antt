@@ -6,7 +6,7 @@ use Rattle.darwin_types.specs.declared.error.TypeError.{TypeError}
 use Rattle.darwin_types.specs.FaultCases.{Case, case_of}
 use Rattle.darwin_types.specs.FaultCases as fault_case
 use Rattle.darwin_types.specs.Faults.{HasFault}
-use Rattle.worked_fault_laws.specs.Trees.{here, port, array, component, instance, instance_at, inner, outer, binding, row, unreached, idle}
+use Rattle.darwin_parser.specs.Trees.{here, port, array, component, instance, instance_at, inner, outer, binding, row, unreached, idle}
 
 -- a fault stands in the description by this case, and none by another
 pub record StandsAlone (t : Tree) (case : Case) : Type 0 where

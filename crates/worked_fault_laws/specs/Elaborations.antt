@@ -7,7 +7,7 @@ use Rattle.darwin_types.specs.Faults.{NoFault}
 use Rattle.elaborator.specs.FaultCases.{Case, FaultOf, Query, case_of}
 use Rattle.elaborator.specs.FaultCases as fault_case
 use Rattle.elaborator.specs.declared.error.ElabError.{ElabError}
-use Rattle.worked_fault_laws.specs.Trees.{here, port, array, component, instance, instance_at, inner, outer, binding, row, unreached, idle}
+use Rattle.darwin_parser.specs.Trees.{here, port, array, component, instance, instance_at, inner, outer, binding, row, unreached, idle}
 
 -- nothing is wrong with the names of the description, a fault of its elaboration holds by this case, and none by
 -- another

@@ -1,4 +1,3 @@
-pub mod Trees
 pub mod Checks
 pub mod Elaborations
 pub mod Texts

@@ -8,7 +8,7 @@ use Rattle.darwin_lexer.specs.declared.token.Sign.TheVariants.{Colon, DotDot, Mi
 use Rattle.darwin_lexer.specs.declared.token.Token.{Token}
 use Rattle.darwin_lexer.specs.declared.token.TokenKind.{TokenKind}
 use Rattle.darwin_lexer.specs.declared.token.TokenKind.TheVariants.{Name, Number, Word, Sign}
-use Rattle.worked_fault_laws.specs.Trees.{here}
+use Rattle.darwin_parser.specs.Trees.{here}
 
 -- the text of a fault
 abbrev pub text_of : LexicalFault → List ℕ

@@ -19,7 +19,7 @@ ghost use Rattle.worked_fault_laws.specs.Plans.{IsRefused, a_to_c, b_to_c, empty
 ghost use Rattle.report_texts.specs.Stages.{IsReportFault};
 ghost use Rattle.report_texts.specs.declared.error.ReportFault.TheVariants as faults;
 ghost use Rattle.worked_fault_laws.specs.Texts.{parentheses, ranges, signs, text_of, too_nested, unexpected, unfinished, without_braces};
-ghost use Rattle.worked_fault_laws.specs.Trees.{at};
+ghost use Rattle.darwin_parser.specs.Trees.{at};
 
 /// For each fault of a text there is one whose first fault it is, and texts that have it otherwise: a comment that only
 /// its own star closes, a name of digits, a byte that is half a sign, and a fault behind a token or a comment. By

@@ -7,12 +7,12 @@ use Rattle.quiesce_core.specs.declared.event.Event.TheVariants.{Close}
 use Rattle.quiesce_laws.specs.Starts.{start_of}
 use Rattle.node_turn_laws.specs.Round.{after_rounds}
 use Rattle.node_turn_laws.specs.World.{World, nowhere, with_event}
-use Rattle.change_law.specs.Members.{is_pending}
-use Rattle.change_law.specs.Planning.{planned}
-use Rattle.change_law.specs.Serial.{ChangesTo, Serial, after_changes, end_events, is_none_left, looks_after, run_ends, wait_ends}
-use Rattle.change_law.specs.Statements.{change, run, start}
-use Rattle.change_law.proofs.PlanningLaws.{moves_lead_so, planned_so}
-use Rattle.change_law.proofs.StandingLaws.{graph_by}
+use Rattle.change_spec.specs.Members.{is_pending}
+use Rattle.change_spec.specs.Planning.{planned}
+use Rattle.change_spec.specs.Serial.{ChangesTo, Serial, after_changes, end_events, is_none_left, looks_after, run_ends, wait_ends}
+use Rattle.change_spec.specs.Statements.{change, run, start}
+use Rattle.change_spec.proofs.PlanningLaws.{moves_lead_so, planned_so}
+use Rattle.change_spec.proofs.StandingLaws.{graph_by}
 use Rattle.worked_report_laws.specs.Aside.{history, lanes, report, script}
 use Rattle.worked_report_laws.proofs.SerialLemmas.{first_at}
 

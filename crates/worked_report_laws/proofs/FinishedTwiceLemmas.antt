@@ -18,12 +18,12 @@ use Rattle.node_turn_laws.specs.World.{World}
 use Rattle.report_types.specs.declared.report.HistoryLine.{HistoryLine}
 use Rattle.report_types.specs.declared.report.HistoryLine.TheVariants as to
 use Rattle.report_types.specs.declared.report.Report.{Report}
-use Rattle.change_law.specs.Lawful.{CameToRest, IsFinishAt, Merge, is_done}
-use Rattle.change_law.specs.Members.{Member, of_history}
-use Rattle.change_law.specs.Serial.{Serial, after_changes, finish_ends, is_none_left}
-use Rattle.change_law.specs.Statements.{finish, start}
-use Rattle.change_law.proofs.MemberLaws.{at_line}
-use Rattle.change_law.proofs.SerialLaws.{one_serial}
+use Rattle.change_spec.specs.Lawful.{CameToRest, IsFinishAt, Merge, is_done}
+use Rattle.change_spec.specs.Members.{Member, of_history}
+use Rattle.change_spec.specs.Serial.{Serial, after_changes, finish_ends, is_none_left}
+use Rattle.change_spec.specs.Statements.{finish, start}
+use Rattle.change_spec.proofs.MemberLaws.{at_line}
+use Rattle.change_spec.proofs.SerialLaws.{one_serial}
 use Rattle.worked_report_laws.specs.FinishedTwice.{finished_at_once, finished_later, report, script}
 use Rattle.worked_report_laws.specs.Ran as ran
 use Rattle.worked_report_laws.specs.WrongRuns.{rested_partly}

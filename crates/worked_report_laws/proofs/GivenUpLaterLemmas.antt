@@ -2,9 +2,9 @@
 use Rattle.std.proofs.Common.{drop, take, refl}
 use Rattle.report_types.specs.declared.report.HistoryLine.TheVariants as to
 use Rattle.quiesce_core.specs.Reach.{has_no_cycle, reaches}
-use Rattle.change_law.specs.Found.{IsFound}
-use Rattle.change_law.specs.Lawful.{LawfulOnThreads}
-use Rattle.change_law.proofs.FoundLaws.{found_on_threads, none_open, open_then, stood_at}
+use Rattle.change_spec.specs.Found.{IsFound}
+use Rattle.change_spec.specs.Lawful.{LawfulOnThreads}
+use Rattle.change_spec.proofs.FoundLaws.{found_on_threads, none_open, open_then, stood_at}
 use Rattle.worked_report_laws.specs.GivenUpLater.{history, members, report, script, stopped, tells}
 
 is_found : IsFound script tells stopped members report

@@ -41,3 +41,5 @@ mod WrongCloseLemmas
 mod ThreadsAloneLemmas
 mod UndoneLemmas
 mod AsideLemmas
+mod EarlyLemmas
+mod MisleadingReportLemmas

@@ -13,9 +13,9 @@ use Rattle.quiesce_core.specs.Runs.{done_by, done_from, is_doer, state_after}
 use Rattle.quiesce_core.specs.State.{Configuration}
 use Rattle.quiesce_core.specs.declared.event.Event.{Event}
 use Rattle.quiesce_core.proofs.RunLaws.{changes_make_the_configuration, state_more}
-use Rattle.change_law.specs.Lawful.{IsOfItsKind}
-use Rattle.change_law.specs.Members.{Member, event_of, events, lines}
-use Rattle.change_law.proofs.MemberLaws.{changes_are_lines}
+use Rattle.change_spec.specs.Lawful.{IsOfItsKind}
+use Rattle.change_spec.specs.Members.{Member, event_of, events, lines}
+use Rattle.change_spec.proofs.MemberLaws.{changes_are_lines}
 
 -- the place at which a node did an event, behind others
 pub record DoneAt (n : ℕ) (xs es : List Event) (e : Event) : Type 0 where

@@ -2,9 +2,9 @@
 use Rattle.std.proofs.Common.{[], ◌∷◌, refl, arith}
 use Rattle.std.specs.Prelude.{codes, pos}
 use Rattle.change_plan.specs.Refusals.{CanPlan}
-use Rattle.change_law.specs.Scripts.{Above, StatementsOf, more_made, nothing_above}
-use Rattle.change_law.specs.Statements.{change, finish, run, start}
-use Rattle.change_law.proofs.PlanningLaws.{moves_lead_so, planned_so}
+use Rattle.change_spec.specs.Scripts.{Above, StatementsOf, more_made, nothing_above}
+use Rattle.change_spec.specs.Statements.{change, finish, run, start}
+use Rattle.change_spec.proofs.PlanningLaws.{moves_lead_so, planned_so}
 use Rattle.worked_report_laws.specs.Said.{elaborates, script}
 use Rattle.change_plan_laws.specs.Systems.{line}
 use Rattle.worked_report_laws.specs.Waited as waited

@@ -1,9 +1,9 @@
 -- The report of a sink that is shown is lawful.
 use Rattle.std.proofs.Common.{[], refl}
 use Rattle.quiesce_core.specs.Reach.{has_no_cycle, reaches}
-use Rattle.change_law.specs.Found.{IsFound}
-use Rattle.change_law.specs.Lawful.{LawfulOnThreads}
-use Rattle.change_law.proofs.FoundLaws.{found_on_threads, none_open}
+use Rattle.change_spec.specs.Found.{IsFound}
+use Rattle.change_spec.specs.Lawful.{LawfulOnThreads}
+use Rattle.change_spec.proofs.FoundLaws.{found_on_threads, none_open}
 use Rattle.worked_report_laws.specs.Shown.{history, members, report, script, stopped, tells}
 
 is_found : IsFound script tells stopped members report

@@ -10,12 +10,12 @@ use Rattle.change_plan.specs.declared.plan_data.Plan.{Plan}
 use Rattle.change_plan_laws.specs.Commit.{ports_to_close}
 use Rattle.quiesce_core.specs.Live.{AreLinked, IsGraphOf, IsLiveNode}
 use Rattle.report_types.specs.declared.report.HistoryLine.{HistoryLine}
-use Rattle.change_law.specs.Changes.{IsChange, IsCommitted, IsGivenUp, opening_lines}
-use Rattle.change_law.specs.Follows.{AreRight, Follows, IsRight, IsStop, Part, lines_of, start_lines}
-use Rattle.change_law.specs.Planning.{can_be_planned, planned}
-use Rattle.change_law.specs.Scene.{config_after}
-use Rattle.change_law.specs.Statements.{Statement, start}
-use Rattle.change_law.proofs.PlanningLaws.{planned_so}
+use Rattle.change_spec.specs.Changes.{IsChange, IsCommitted, IsGivenUp, opening_lines}
+use Rattle.change_spec.specs.Follows.{AreRight, Follows, IsRight, IsStop, Part, lines_of, start_lines}
+use Rattle.change_spec.specs.Planning.{can_be_planned, planned}
+use Rattle.change_spec.specs.Scene.{config_after}
+use Rattle.change_spec.specs.Statements.{Statement, start}
+use Rattle.change_spec.proofs.PlanningLaws.{planned_so}
 use Rattle.change_plan.proofs.PlanLaws.{one_plan}
 
 -- the lines of a script's second statement, behind those of its start

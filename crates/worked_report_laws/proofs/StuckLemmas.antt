@@ -1,13 +1,13 @@
 -- The report of the rounds of a source that leads nowhere is lawful, where a run ends with its first round.
 use Rattle.std.proofs.Common.{◌≡◌, ◌∙◌, [], refl, sym, ap}
 use Rattle.quiesce_core.specs.Reach.{has_no_cycle, reaches}
-use Rattle.change_law.specs.Found.{IsFound}
-use Rattle.change_law.specs.Lawful.{LawfulInRounds}
-use Rattle.change_law.specs.Members.{events}
-use Rattle.change_law.specs.Serial.{Serial}
+use Rattle.change_spec.specs.Found.{IsFound}
+use Rattle.change_spec.specs.Lawful.{LawfulInRounds}
+use Rattle.change_spec.specs.Members.{events}
+use Rattle.change_spec.specs.Serial.{Serial}
 use Rattle.node_turn_laws.specs.World.{World}
-use Rattle.change_law.proofs.FoundLaws.{found_in_rounds, none_open}
-use Rattle.change_law.proofs.SerialLaws.{one_world}
+use Rattle.change_spec.proofs.FoundLaws.{found_in_rounds, none_open}
+use Rattle.change_spec.proofs.SerialLaws.{one_world}
 use Rattle.worked_report_laws.proofs.LaterSerialLemmas.{lone_closed, stuck_is_serial, stuck_world}
 use Rattle.worked_report_laws.specs.Stuck.{history, members, report, script, stopped, tells}
 

@@ -8,9 +8,9 @@ use Rattle.node_turn_laws.specs.World.{World, nowhere, with_event}
 use Rattle.report_types.specs.declared.report.HistoryLine.{HistoryLine}
 use Rattle.report_types.specs.declared.report.HistoryLine.TheVariants as to
 use Rattle.report_types.specs.declared.report.Report.{Report}
-use Rattle.change_law.specs.Serial.{Serial, after_changes, finish_ends, is_none_left, report_of}
-use Rattle.change_law.specs.Statements.{finish, start}
-use Rattle.change_law.proofs.SerialLaws.{one_serial}
+use Rattle.change_spec.specs.Serial.{Serial, after_changes, finish_ends, is_none_left, report_of}
+use Rattle.change_spec.specs.Statements.{finish, start}
+use Rattle.change_spec.proofs.SerialLaws.{one_serial}
 use Rattle.worked_report_laws.specs.Filled as filled
 use Rattle.worked_report_laws.specs.Systems.{small}
 use Rattle.worked_report_laws.proofs.SerialLemmas.{first_at}

@@ -17,13 +17,13 @@ use Rattle.quiesce_core.specs.State.{Configuration}
 use Rattle.change_plan_laws.specs.Commit.{commit_events, ports_to_close}
 use Rattle.report_types.specs.declared.report.HistoryLine.{HistoryLine}
 use Rattle.report_types.specs.declared.report.HistoryLine.TheVariants as to
-use Rattle.change_law.specs.Changes.{AreLooks, IsChange, IsCommitted, IsGivenUp, PortsRise, commit_lines, drained_lines, opening_lines, pending_lines, seen_in_all}
-use Rattle.change_law.specs.Follows.{Follows, start_lines}
-use Rattle.change_law.specs.Members.{lines_of_events}
-use Rattle.change_law.specs.Planning.{planned}
-use Rattle.change_law.specs.Scene.{Seen, config_after, drained_line, root_line}
-use Rattle.change_law.specs.Statements.{change}
-use Rattle.change_law.proofs.StandingLaws.{graph_by}
+use Rattle.change_spec.specs.Changes.{AreLooks, IsChange, IsCommitted, IsGivenUp, PortsRise, commit_lines, drained_lines, opening_lines, pending_lines, seen_in_all}
+use Rattle.change_spec.specs.Follows.{Follows, start_lines}
+use Rattle.change_spec.specs.Members.{lines_of_events}
+use Rattle.change_spec.specs.Planning.{planned}
+use Rattle.change_spec.specs.Scene.{Seen, config_after, drained_line, root_line}
+use Rattle.change_spec.specs.Statements.{change}
+use Rattle.change_spec.proofs.StandingLaws.{graph_by}
 use Rattle.change_plan_laws.specs.Systems.{line}
 use Rattle.worked_report_laws.specs.Systems.{one, pair}
 use Rattle.worked_report_laws.specs.WrongChanges.{closed_for_nothing, keeping_line, keeping_sink, looked_again, looking_once, m_to_m, moving_nowhere, skipped_for_nothing}

@@ -12,14 +12,14 @@ use Rattle.change_plan_laws.specs.Commit.{ports_to_close}
 use Rattle.quiesce_core.specs.Live.{AreLinked, IsGraphOf, IsLiveNode}
 use Rattle.report_types.specs.declared.report.HistoryLine.{HistoryLine}
 use Rattle.report_types.specs.declared.report.HistoryLine.TheVariants as to
-use Rattle.change_law.specs.Closings.{IsClosedFor}
-use Rattle.change_law.specs.Follows.{Part, lines_of}
-use Rattle.change_law.specs.Planning.{planned}
-use Rattle.change_law.specs.Scene.{config_after}
-use Rattle.change_law.specs.Statements.{Statement, start, change}
-use Rattle.change_law.proofs.PlanningLaws.{planned_so}
+use Rattle.change_spec.specs.Closings.{IsClosedFor}
+use Rattle.change_spec.specs.Follows.{Part, lines_of}
+use Rattle.change_spec.specs.Planning.{planned}
+use Rattle.change_spec.specs.Scene.{config_after}
+use Rattle.change_spec.specs.Statements.{Statement, start, change}
+use Rattle.change_spec.proofs.PlanningLaws.{planned_so}
 use Rattle.change_plan.proofs.PlanLaws.{one_plan}
-use Rattle.change_law.proofs.StandingLaws.{graph_by}
+use Rattle.change_spec.proofs.StandingLaws.{graph_by}
 use Rattle.change_plan_laws.specs.Systems.{line}
 use Rattle.worked_report_laws.specs.WrongChanges.{closed_for_nothing, parts_for_nothing}
 

@@ -11,13 +11,13 @@ use Rattle.quiesce_core.specs.Live.{IsGraphOf}
 use Rattle.quiesce_core.specs.State.{Configuration}
 use Rattle.report_types.specs.declared.report.HistoryLine.{HistoryLine}
 use Rattle.report_types.specs.declared.report.HistoryLine.TheVariants as to
-use Rattle.change_law.specs.Changes.{IsCommitted, IsGivenUp, commit_lines, drained_lines, opening_lines, pending_lines, seen_in_all}
-use Rattle.change_law.specs.Follows.{Follows, IsFinishLine, IsShowLine, IsStop, start_lines}
-use Rattle.change_law.specs.Members.{is_close, is_pending}
-use Rattle.change_law.specs.Planning.{planned}
-use Rattle.change_law.specs.Scene.{Seen, config_after, drained_line, root_line}
-use Rattle.change_law.specs.Statements.{change, finish, show}
-use Rattle.change_law.proofs.StandingLaws.{graph_by}
+use Rattle.change_spec.specs.Changes.{IsCommitted, IsGivenUp, commit_lines, drained_lines, opening_lines, pending_lines, seen_in_all}
+use Rattle.change_spec.specs.Follows.{Follows, IsFinishLine, IsShowLine, IsStop, start_lines}
+use Rattle.change_spec.specs.Members.{is_close, is_pending}
+use Rattle.change_spec.specs.Planning.{planned}
+use Rattle.change_spec.specs.Scene.{Seen, config_after, drained_line, root_line}
+use Rattle.change_spec.specs.Statements.{change, finish, show}
+use Rattle.change_spec.proofs.StandingLaws.{graph_by}
 use Rattle.worked_report_laws.specs.Alone as alone
 use Rattle.worked_report_laws.specs.Shown as shown
 use Rattle.worked_report_laws.specs.Systems.{lone, lone_of, one, three}

@@ -18,10 +18,10 @@ use Rattle.quiesce_laws.specs.Roots.{has_root, is_open_root_after}
 use Rattle.quiesce_laws.proofs.OrderLaws.{begun_count, in_order, was_begun}
 use Rattle.node_turn_laws.specs.Round.{ends_transaction}
 use Rattle.report_types.specs.declared.report.HistoryLine.TheVariants as to
-use Rattle.change_law.specs.Lawful.{EndedSince, IsDrainedAt, IsEndedAt, Merge}
-use Rattle.change_law.specs.Members.{Member, of_history, event_of, events, lines, without_roots}
-use Rattle.change_law.proofs.MemberLaws.{at_line, events_parts, lines_parts}
-use Rattle.quiesce_commit_laws.proofs.MemberLaws.{any_if, any_of}
+use Rattle.change_spec.specs.Lawful.{EndedSince, IsDrainedAt, IsEndedAt, Merge}
+use Rattle.change_spec.specs.Members.{Member, of_history, event_of, events, lines, without_roots}
+use Rattle.change_spec.proofs.MemberLaws.{at_line, events_parts, lines_parts}
+use Rattle.quiesce_laws.proofs.MemberLaws.{any_if, any_of}
 use Rattle.base.proofs.ListLaws.{count_by-some}
 use Rattle.worked_report_laws.specs.WrongLooks.{hasty}
 use Rattle.worked_report_laws.proofs.PlaceLemmas.{passes_there}

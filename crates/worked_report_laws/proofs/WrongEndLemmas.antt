@@ -11,11 +11,11 @@ use Rattle.quiesce_core.specs.Runs.{done_by, state_after}
 use Rattle.quiesce_core.specs.State.{Configuration, is_live, slot}
 use Rattle.quiesce_core.specs.declared.state.Slot.{Slot}
 use Rattle.report_types.specs.declared.report.Last.TheVariants as last
-use Rattle.change_law.specs.Lawful.{EndsAs, IsFolded, Merge, is_done, is_unfinished, unfinished_of}
-use Rattle.change_law.specs.Members.{Member, events, state_at}
-use Rattle.change_law.specs.Opening.{fold_of_node}
-use Rattle.change_law.specs.Scene.{config_after}
-use Rattle.change_law.proofs.MemberLaws.{config_of_lines}
+use Rattle.change_spec.specs.Lawful.{EndsAs, IsFolded, Merge, is_done, is_unfinished, unfinished_of}
+use Rattle.change_spec.specs.Members.{Member, events, state_at}
+use Rattle.change_spec.specs.Opening.{fold_of_node}
+use Rattle.change_spec.specs.Scene.{config_after}
+use Rattle.change_spec.proofs.MemberLaws.{config_of_lines}
 use Rattle.change_plan_laws.specs.Systems.{sink_t}
 use Rattle.worked_report_laws.specs.Ran as ran
 use Rattle.worked_report_laws.specs.WrongEnds.{disordered, finishing_at_once, misheard, mishearing, second_named, sending_off, sent_off}

@@ -25,16 +25,16 @@ use Rattle.quiesce_core.specs.State.{Configuration, State, empty, is_live, slot}
 use Rattle.report_types.specs.declared.report.HistoryLine.{HistoryLine}
 use Rattle.report_types.specs.declared.report.HistoryLine.TheVariants as to
 use Rattle.report_types.specs.declared.report.Report.{Report}
-use Rattle.change_law.specs.Follows.{AreRight, Follows, IsFinishLine, IsRight, IsStop, Part, lines_of, start_lines}
-use Rattle.change_law.specs.Lawful.{CameToRest, IsFewAt, IsFinishAt, IsGraphAt, IsLogIn, IsOfItsKind, Merge, is_done, is_unfinished, unfinished_of}
-use Rattle.change_law.specs.Members.{Member, by_node, of_history, events, lines, state_at}
-use Rattle.change_law.specs.Scene.{Seen, config_after, drained_line}
-use Rattle.change_law.specs.Serial.{Serial}
-use Rattle.change_law.specs.Statements.{Statement, finish, start}
-use Rattle.change_law.proofs.SerialLaws.{one_serial}
-use Rattle.change_law.proofs.MemberLaws.{all_parts, at_line, config_of_lines, events_parts, lines_of_nodes, lines_parts}
-use Rattle.change_law.proofs.StandingLaws.{graph_by}
-use Rattle.change_law.proofs.TestLaws.{counted_some}
+use Rattle.change_spec.specs.Follows.{AreRight, Follows, IsFinishLine, IsRight, IsStop, Part, lines_of, start_lines}
+use Rattle.change_spec.specs.Lawful.{CameToRest, IsFewAt, IsFinishAt, IsGraphAt, IsLogIn, IsOfItsKind, Merge, is_done, is_unfinished, unfinished_of}
+use Rattle.change_spec.specs.Members.{Member, by_node, of_history, events, lines, state_at}
+use Rattle.change_spec.specs.Scene.{Seen, config_after, drained_line}
+use Rattle.change_spec.specs.Serial.{Serial}
+use Rattle.change_spec.specs.Statements.{Statement, finish, start}
+use Rattle.change_spec.proofs.SerialLaws.{one_serial}
+use Rattle.change_spec.proofs.MemberLaws.{all_parts, at_line, config_of_lines, events_parts, lines_of_nodes, lines_parts}
+use Rattle.change_spec.proofs.StandingLaws.{graph_by}
+use Rattle.change_spec.proofs.TestLaws.{counted_some}
 use Rattle.worked_report_laws.specs.Alone.{log_0, report, report_of, script, start_lines as lone_starts, stop_lines as lone_stops}
 use Rattle.worked_report_laws.specs.Ran as ran
 use Rattle.worked_report_laws.specs.Shown as shown

@@ -30,10 +30,10 @@ use Rattle.node_turn_laws.specs.Round.{ends_transaction}
 use Rattle.report_types.specs.declared.report.HistoryLine.TheVariants as to
 use Rattle.report_types.specs.declared.report.Last.TheVariants as last
 use Rattle.report_types.specs.declared.report.NodeLog.{NodeLog}
-use Rattle.change_law.specs.Lawful.{EndedSince, IsEndedAt, Merge}
-use Rattle.change_law.specs.Members.{Member, by_node, of_history, event_of, events}
-use Rattle.change_law.proofs.MemberLaws.{at_line, events_of_nodes, events_parts, parted_at}
-use Rattle.change_law.proofs.TestLaws.{counted_some}
+use Rattle.change_spec.specs.Lawful.{EndedSince, IsEndedAt, Merge}
+use Rattle.change_spec.specs.Members.{Member, by_node, of_history, event_of, events}
+use Rattle.change_spec.proofs.MemberLaws.{at_line, events_of_nodes, events_parts, parted_at}
+use Rattle.change_spec.proofs.TestLaws.{counted_some}
 use Rattle.base.proofs.ListLaws.{count_by-some}
 use Rattle.worked_report_laws.specs.WrongLogs.{altered, hurried, swapped}
 use Rattle.worked_report_laws.proofs.PlaceLemmas.{done_at, passes_there}

@@ -29,11 +29,11 @@ use Rattle.quiesce_core.proofs.PortEventLaws.{next_serial}
 use Rattle.quiesce_laws.proofs.RootLaws.{closed_stays, has_no_root}
 use Rattle.report_types.specs.declared.report.HistoryLine.{HistoryLine}
 use Rattle.report_types.specs.declared.report.HistoryLine.TheVariants as to
-use Rattle.change_law.specs.Lawful.{IsDrainedAt, IsOfItsKind, Merge, StoodOpenWhereSaid}
-use Rattle.change_law.specs.Members.{Member, of_history, event_of, events, is_close, lines, state_at}
-use Rattle.change_law.specs.Roots.{StoodSinceClose}
-use Rattle.change_law.proofs.StoodLaws.{stood_since}
-use Rattle.change_law.proofs.MemberLaws.{all_parts, at_line, events_parts, line_there, lines_parts, none_happens, parted_at}
+use Rattle.change_spec.specs.Lawful.{IsDrainedAt, IsOfItsKind, Merge, StoodOpenWhereSaid}
+use Rattle.change_spec.specs.Members.{Member, of_history, event_of, events, is_close, lines, state_at}
+use Rattle.change_spec.specs.Roots.{StoodSinceClose}
+use Rattle.change_spec.proofs.StoodLaws.{stood_since}
+use Rattle.change_spec.proofs.MemberLaws.{all_parts, at_line, events_parts, line_there, lines_parts, none_happens, parted_at}
 use Rattle.worked_report_laws.specs.WrongLooks.{early, outdated}
 use Rattle.worked_report_laws.proofs.PlaceLemmas.{done_at}
 use Rattle.worked_report_laws.proofs.WrongLogLemmas.{begun_before, log_of_s, some_log}

@@ -27,11 +27,11 @@ use Rattle.quiesce_laws.proofs.OrderLaws.{in_order}
 use Rattle.node_turn_laws.specs.Round.{ends_transaction}
 use Rattle.report_types.specs.declared.report.HistoryLine.{HistoryLine}
 use Rattle.report_types.specs.declared.report.HistoryLine.TheVariants as to
-use Rattle.change_law.specs.Lawful.{CameToRest, EndedSince, IsFinishAt, IsOfItsKind, IsRunAt, Merge, is_done}
-use Rattle.change_law.specs.Members.{Member, by_node, of_history, event_of, events, lines, state_at}
-use Rattle.change_law.specs.Opening.{fold_at}
-use Rattle.change_law.specs.Scene.{config_after}
-use Rattle.change_law.proofs.MemberLaws.{AtLine, all_parts, at_line, config_of_lines, events_parts, lines_of_nodes, lines_parts, parted_at}
+use Rattle.change_spec.specs.Lawful.{CameToRest, EndedSince, IsFinishAt, IsOfItsKind, IsRunAt, Merge, is_done}
+use Rattle.change_spec.specs.Members.{Member, by_node, of_history, event_of, events, lines, state_at}
+use Rattle.change_spec.specs.Opening.{fold_at}
+use Rattle.change_spec.specs.Scene.{config_after}
+use Rattle.change_spec.proofs.MemberLaws.{AtLine, all_parts, at_line, config_of_lines, events_parts, lines_of_nodes, lines_parts, parted_at}
 use Rattle.base.proofs.ListLaws.{count_by-some}
 use Rattle.worked_report_laws.specs.Filled.{log_0, log_1}
 use Rattle.worked_report_laws.specs.Systems.{buffer_at}

@@ -20,12 +20,12 @@ use Rattle.report_types.specs.declared.report.HistoryLine.{HistoryLine}
 use Rattle.report_types.specs.declared.report.HistoryLine.TheVariants as to
 use Rattle.report_types.specs.declared.report.Last.TheVariants as last
 use Rattle.report_types.specs.declared.report.Report.{Report}
-use Rattle.change_law.specs.Lawful.{CameToRest, EndedSince, EndsAs, IsEndedAt, IsFolded, IsRunAt, Merge, is_done}
-use Rattle.change_law.specs.Members.{Member, by_node, of_history, event_of, events}
-use Rattle.change_law.specs.Opening.{fold_of_node}
-use Rattle.change_law.specs.Serial.{Serial}
-use Rattle.change_law.proofs.MemberLaws.{at_line, events_of_nodes, events_parts, parted_at}
-use Rattle.change_law.proofs.SerialLaws.{one_serial}
+use Rattle.change_spec.specs.Lawful.{CameToRest, EndedSince, EndsAs, IsEndedAt, IsFolded, IsRunAt, Merge, is_done}
+use Rattle.change_spec.specs.Members.{Member, by_node, of_history, event_of, events}
+use Rattle.change_spec.specs.Opening.{fold_of_node}
+use Rattle.change_spec.specs.Serial.{Serial}
+use Rattle.change_spec.proofs.MemberLaws.{at_line, events_of_nodes, events_parts, parted_at}
+use Rattle.change_spec.proofs.SerialLaws.{one_serial}
 use Rattle.worked_report_laws.specs.RunOut.{history, report, script}
 use Rattle.change_plan_laws.specs.Systems.{source_at}
 use Rattle.worked_report_laws.specs.WrongRuns.{counted_twice, ended_idly, logged_twice, misleading, misled, unlogged}

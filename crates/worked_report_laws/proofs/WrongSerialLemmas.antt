@@ -23,11 +23,11 @@ use Rattle.quiesce_laws.specs.Roots.{has_root}
 use Rattle.quiesce_laws.proofs.OrderLaws.{begun_count, ended_count, in_order, was_begun}
 use Rattle.report_types.specs.declared.report.HistoryLine.{HistoryLine}
 use Rattle.report_types.specs.declared.report.HistoryLine.TheVariants as to
-use Rattle.change_law.specs.Lawful.{IsDrainedAt, Merge, StoodOpenWhereSaid}
-use Rattle.change_law.specs.Members.{Member, of_history, events, is_close, lines, state_at, without_roots}
-use Rattle.change_law.specs.Roots.{StoodSinceClose}
-use Rattle.change_law.proofs.StoodLaws.{stood_since}
-use Rattle.change_law.proofs.MemberLaws.{at_line, events_parts, lines_parts, parted_at}
+use Rattle.change_spec.specs.Lawful.{IsDrainedAt, Merge, StoodOpenWhereSaid}
+use Rattle.change_spec.specs.Members.{Member, of_history, events, is_close, lines, state_at, without_roots}
+use Rattle.change_spec.specs.Roots.{StoodSinceClose}
+use Rattle.change_spec.proofs.StoodLaws.{stood_since}
+use Rattle.change_spec.proofs.MemberLaws.{at_line, events_parts, lines_parts, parted_at}
 use Rattle.base.proofs.ListLaws.{count_by-some}
 use Rattle.worked_report_laws.specs.WrongSerials.{ahead, between, late, log_of_a}
 use Rattle.worked_report_laws.proofs.PlaceLemmas.{DoneAt}

@@ -14,13 +14,13 @@ use Rattle.quiesce_core.specs.Live.{IsGraphOf}
 use Rattle.quiesce_core.specs.State.{Configuration}
 use Rattle.report_types.specs.declared.report.HistoryLine.{HistoryLine}
 use Rattle.report_types.specs.declared.report.HistoryLine.TheVariants as to
-use Rattle.change_law.specs.Changes.{IsCommitted, IsGivenUp, commit_lines, opening_lines, seen_in_all}
-use Rattle.change_law.specs.Follows.{Follows, IsFinishLine, IsStop, start_lines}
-use Rattle.change_law.specs.Members.{is_root}
-use Rattle.change_law.specs.Planning.{planned}
-use Rattle.change_law.specs.Scene.{Seen, config_after, drained_line, root_line}
-use Rattle.change_law.specs.Statements.{change, finish}
-use Rattle.change_law.proofs.StandingLaws.{graph_by}
+use Rattle.change_spec.specs.Changes.{IsCommitted, IsGivenUp, commit_lines, opening_lines, seen_in_all}
+use Rattle.change_spec.specs.Follows.{Follows, IsFinishLine, IsStop, start_lines}
+use Rattle.change_spec.specs.Members.{is_root}
+use Rattle.change_spec.specs.Planning.{planned}
+use Rattle.change_spec.specs.Scene.{Seen, config_after, drained_line, root_line}
+use Rattle.change_spec.specs.Statements.{change, finish}
+use Rattle.change_spec.proofs.StandingLaws.{graph_by}
 use Rattle.worked_report_laws.specs.Alone as alone
 use Rattle.worked_report_laws.specs.Systems.{lone, lone_of, pair}
 use Rattle.worked_report_laws.specs.WrongSights.{closing, given_up_idly, given_up_late, replacing, replacing_pair, seen_both_ways, seen_neither_way, seen_twice, stopped_twice, unseen}

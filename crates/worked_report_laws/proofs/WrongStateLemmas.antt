@@ -11,11 +11,11 @@ use Rattle.quiesce_core.specs.declared.event.Event.{Event}
 use Rattle.quiesce_core.specs.declared.event.Event.TheVariants as event
 use Rattle.quiesce_core.specs.declared.state.Slot.{Slot}
 use Rattle.report_types.specs.declared.report.Last.TheVariants as last
-use Rattle.change_law.specs.Lawful.{EndsAs, IsFolded, Merge}
-use Rattle.change_law.specs.Members.{Member, events, state_at}
-use Rattle.change_law.specs.Opening.{argument_of, fold_at, fold_of_node, fold_within}
-use Rattle.change_law.specs.Scene.{config_after}
-use Rattle.change_law.proofs.MemberLaws.{config_of_lines}
+use Rattle.change_spec.specs.Lawful.{EndsAs, IsFolded, Merge}
+use Rattle.change_spec.specs.Members.{Member, events, state_at}
+use Rattle.change_spec.specs.Opening.{argument_of, fold_at, fold_of_node, fold_within}
+use Rattle.change_spec.specs.Scene.{config_after}
+use Rattle.change_spec.proofs.MemberLaws.{config_of_lines}
 use Rattle.change_plan_laws.specs.Systems.{account_at}
 use Rattle.worked_report_laws.specs.WrongLogs.{forgetting, forgotten, keeping_back, kept_back}
 use Rattle.worked_report_laws.proofs.WrongLogLemmas.{some_log}

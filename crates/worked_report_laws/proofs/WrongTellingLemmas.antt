@@ -17,14 +17,14 @@ use Rattle.change_plan.specs.declared.plan_data.Plan.{Plan}
 use Rattle.report_types.specs.declared.report.HistoryLine.{HistoryLine}
 use Rattle.report_types.specs.declared.report.HistoryLine.TheVariants as to
 use Rattle.report_types.specs.declared.report.Last.TheVariants as last
-use Rattle.change_law.specs.Changes.{IsChange, IsCommitted, IsGivenUp, commit_lines, drained_lines, opening_lines, pending_lines}
-use Rattle.change_law.specs.Follows.{AreRight, Follows, IsFinishLine, IsRight, IsRunLine, Part, lines_of, start_lines}
-use Rattle.change_law.specs.Lawful.{EndsAs, IsFolded, IsOfItsKind, Merge}
-use Rattle.change_law.specs.Members.{Member, events, is_commit, is_pending, lines, lines_of_events, state_at}
-use Rattle.change_law.specs.Opening.{fold_at, fold_of_node}
-use Rattle.change_law.specs.Scene.{config_after}
-use Rattle.change_law.specs.Statements.{Statement, change, finish, run, start}
-use Rattle.change_law.proofs.MemberLaws.{config_of_lines}
+use Rattle.change_spec.specs.Changes.{IsChange, IsCommitted, IsGivenUp, commit_lines, drained_lines, opening_lines, pending_lines}
+use Rattle.change_spec.specs.Follows.{AreRight, Follows, IsFinishLine, IsRight, IsRunLine, Part, lines_of, start_lines}
+use Rattle.change_spec.specs.Lawful.{EndsAs, IsFolded, IsOfItsKind, Merge}
+use Rattle.change_spec.specs.Members.{Member, events, is_commit, is_pending, lines, lines_of_events, state_at}
+use Rattle.change_spec.specs.Opening.{fold_at, fold_of_node}
+use Rattle.change_spec.specs.Scene.{config_after}
+use Rattle.change_spec.specs.Statements.{Statement, change, finish, run, start}
+use Rattle.change_spec.proofs.MemberLaws.{config_of_lines}
 use Rattle.worked_report_laws.specs.Alone as alone
 use Rattle.change_plan_laws.specs.Systems.{bank, source_at}
 use Rattle.worked_report_laws.specs.Systems.{lone, lone_of, two}

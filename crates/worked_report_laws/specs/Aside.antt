@@ -10,7 +10,7 @@ use Rattle.report_types.specs.declared.report.HistoryLine.TheVariants as to
 use Rattle.report_types.specs.declared.report.Last.TheVariants as last
 use Rattle.report_types.specs.declared.report.NodeLog.{NodeLog}
 use Rattle.report_types.specs.declared.report.Report.{Report}
-use Rattle.change_law.specs.Statements.{Statement, start, change, run}
+use Rattle.change_spec.specs.Statements.{Statement, start, change, run}
 use Rattle.change_plan_laws.specs.Systems.{leads, map_m, sink_t, source_at}
 
 abbrev pub map_n : Node

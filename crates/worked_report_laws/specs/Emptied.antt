@@ -5,10 +5,10 @@ use Rattle.report_types.specs.declared.report.HistoryLine.TheVariants as to
 use Rattle.report_types.specs.declared.report.Last.TheVariants as last
 use Rattle.report_types.specs.declared.report.NodeLog.{NodeLog}
 use Rattle.report_types.specs.declared.report.Report.{Report}
-use Rattle.change_law.specs.Members.{Member, of_history}
-use Rattle.change_law.specs.Scene.{Seen}
-use Rattle.change_law.specs.Statements.{Statement, start, change, finish, show}
-use Rattle.change_law.specs.Told.{Told, no_more, counted, shown_graph, looked}
+use Rattle.change_spec.specs.Members.{Member, of_history}
+use Rattle.change_spec.specs.Scene.{Seen}
+use Rattle.change_spec.specs.Statements.{Statement, start, change, finish, show}
+use Rattle.change_spec.specs.Told.{Told, no_more, counted, shown_graph, looked}
 use Rattle.change_plan_laws.specs.Systems.{sink_t}
 use Rattle.worked_report_laws.specs.Systems.{one_or_none}
 

@@ -2,7 +2,7 @@
 use Rattle.std.specs.Prelude.{List, Some, [], ◌∷◌, ◌++◌, codes, drop, pos, take}
 use Rattle.report_types.specs.declared.report.HistoryLine.TheVariants as to
 use Rattle.report_types.specs.declared.report.Report.{Report}
-use Rattle.change_law.specs.Statements.{Statement, start, finish}
+use Rattle.change_spec.specs.Statements.{Statement, start, finish}
 use Rattle.worked_report_laws.specs.Systems.{two_of}
 use Rattle.worked_report_laws.specs.RunOut as run_out
 use Rattle.worked_report_laws.specs.WrongRuns.{ended_idly}

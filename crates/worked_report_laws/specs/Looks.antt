@@ -1,6 +1,6 @@
 -- What looks saw.
 use Rattle.std.specs.Prelude.{ℕ}
-use Rattle.change_law.specs.Scene.{Seen}
+use Rattle.change_spec.specs.Scene.{Seen}
 
 -- a port that a look saw, with its serial
 abbrev pub found : ℕ → ℕ → Seen

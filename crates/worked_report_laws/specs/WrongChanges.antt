@@ -3,8 +3,8 @@ use Rattle.std.specs.Prelude.{List, [], ◌∷◌, codes, drop, pos, take, None}
 use Rattle.report_types.specs.declared.report.HistoryLine.{HistoryLine}
 use Rattle.report_types.specs.declared.report.HistoryLine.TheVariants as to
 use Rattle.change_plan.specs.declared.plan_data.Move.{Move}
-use Rattle.change_law.specs.Follows.{Part}
-use Rattle.change_law.specs.Statements.{Statement, start, change}
+use Rattle.change_spec.specs.Follows.{Part}
+use Rattle.change_spec.specs.Statements.{Statement, start, change}
 use Rattle.change_plan_laws.specs.Systems.{line, map_m, sink_t, source_at}
 use Rattle.worked_report_laws.specs.Systems.{one, pair}
 use Rattle.worked_report_laws.specs.SecondLook as second_look

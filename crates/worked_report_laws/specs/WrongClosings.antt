@@ -2,7 +2,7 @@
 use Rattle.std.specs.Prelude.{List, [], ◌∷◌, ◌++◌, codes, pos, Some, None}
 use Rattle.report_types.specs.declared.report.HistoryLine.{HistoryLine}
 use Rattle.report_types.specs.declared.report.HistoryLine.TheVariants as to
-use Rattle.change_law.specs.Statements.{Statement, start, change}
+use Rattle.change_spec.specs.Statements.{Statement, start, change}
 use Rattle.change_plan_laws.specs.Systems.{sink_t, source_at}
 use Rattle.worked_report_laws.specs.Systems.{three}
 use Rattle.worked_report_laws.specs.Alone as alone

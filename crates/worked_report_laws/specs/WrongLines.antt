@@ -4,7 +4,7 @@ use Rattle.report_types.specs.declared.report.HistoryLine.{HistoryLine}
 use Rattle.report_types.specs.declared.report.HistoryLine.TheVariants as to
 use Rattle.report_types.specs.declared.report.Report.{Report}
 use Rattle.config_graph.specs.Graph.{Graph}
-use Rattle.change_law.specs.Statements.{Statement, start, finish}
+use Rattle.change_spec.specs.Statements.{Statement, start, finish}
 use Rattle.change_plan_laws.specs.Systems.{map_m, sink_t, sink_u, source_at}
 use Rattle.worked_report_laws.specs.Systems.{lone, two}
 use Rattle.worked_report_laws.specs.Shown as shown

@@ -5,7 +5,7 @@ use Rattle.report_types.specs.declared.report.HistoryLine.TheVariants as to
 use Rattle.report_types.specs.declared.report.Last.TheVariants as last
 use Rattle.report_types.specs.declared.report.NodeLog.{NodeLog}
 use Rattle.report_types.specs.declared.report.Report.{Report}
-use Rattle.change_law.specs.Statements.{Statement, start, run}
+use Rattle.change_spec.specs.Statements.{Statement, start, run}
 use Rattle.change_plan_laws.specs.Systems.{map_m, sink_t, sink_u, source_at}
 use Rattle.worked_report_laws.specs.Systems.{two}
 use Rattle.worked_report_laws.specs.Moved as moved

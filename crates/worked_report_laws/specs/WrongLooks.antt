@@ -4,7 +4,7 @@ use Rattle.quiesce_core.specs.declared.event.Event.TheVariants as event
 use Rattle.report_types.specs.declared.report.HistoryLine.TheVariants as to
 use Rattle.report_types.specs.declared.report.Last.TheVariants as last
 use Rattle.report_types.specs.declared.report.Report.{Report}
-use Rattle.change_law.specs.Statements.{Statement, start, change, run}
+use Rattle.change_spec.specs.Statements.{Statement, start, change, run}
 use Rattle.change_plan_laws.specs.Systems.{map_m, sink_t, source_at}
 use Rattle.worked_report_laws.specs.Systems.{pair}
 

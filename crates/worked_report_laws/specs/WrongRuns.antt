@@ -4,7 +4,7 @@ use Rattle.report_types.specs.declared.report.HistoryLine.TheVariants as to
 use Rattle.report_types.specs.declared.report.Last.TheVariants as last
 use Rattle.report_types.specs.declared.report.NodeLog.{NodeLog}
 use Rattle.report_types.specs.declared.report.Report.{Report}
-use Rattle.change_law.specs.Statements.{Statement, start, run, finish}
+use Rattle.change_spec.specs.Statements.{Statement, start, run, finish}
 use Rattle.worked_report_laws.specs.Filled as filled
 use Rattle.worked_report_laws.specs.Moved as moved
 use Rattle.worked_report_laws.specs.Ran as ran

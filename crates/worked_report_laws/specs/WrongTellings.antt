@@ -7,7 +7,7 @@ use Rattle.report_types.specs.declared.report.HistoryLine.TheVariants as to
 use Rattle.report_types.specs.declared.report.Last.TheVariants as last
 use Rattle.report_types.specs.declared.report.NodeLog.{NodeLog}
 use Rattle.report_types.specs.declared.report.Report.{Report}
-use Rattle.change_law.specs.Statements.{Statement, start, change}
+use Rattle.change_spec.specs.Statements.{Statement, start, change}
 use Rattle.worked_report_laws.specs.Alone as alone
 use Rattle.change_plan_laws.specs.Systems.{bank}
 use Rattle.worked_report_laws.specs.Systems.{lone, lone_of}

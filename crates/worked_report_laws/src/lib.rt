@@ -1,10 +1,12 @@
 //! Worked reports of runs with changes, each found lawful, and wrong ones, each refuted.
 #![tactic(auto)]
 
+mod misleading;
 mod reports;
 mod unlawful;
 mod wrong;
 
+pub use misleading::{lawful_reports_need_each_wait, rest_at_different_places_agrees_with_no_seat};
 pub use reports::{
     a_balance_goes_on, a_balance_goes_on_twice, a_change_after_one_that_was_given_up_is_skipped,
     a_change_may_be_given_up, a_change_may_be_given_up_after_rounds, a_change_may_wait,

@@ -1,8 +1,8 @@
 //! Reports that are lawful.
 
-ghost use Rattle.change_law.specs.Lawful.{LawfulInRounds, LawfulOnThreads};
-ghost use Rattle.change_law.specs.Scripts.{StatementsOf};
-ghost use Rattle.change_law.specs.Serial.{Serial};
+ghost use Rattle.change_spec.specs.Lawful.{LawfulInRounds, LawfulOnThreads};
+ghost use Rattle.change_spec.specs.Scripts.{StatementsOf};
+ghost use Rattle.change_spec.specs.Serial.{Serial};
 ghost use Rattle.worked_report_laws.specs.Alone as alone;
 ghost use Rattle.worked_report_laws.specs.Aside as aside;
 ghost use Rattle.worked_report_laws.specs.Emptied as emptied;

@@ -1,7 +1,7 @@
 //! Reports that aren't lawful, one for each part of what a report must be that doesn't follow from the others.
 
 ghost use Rattle.std.specs.Prelude.{None, Some};
-ghost use Rattle.change_law.specs.Lawful.{Lawful, LawfulOnThreads};
+ghost use Rattle.change_spec.specs.Lawful.{Lawful, LawfulOnThreads};
 ghost use Rattle.worked_report_laws.specs.Alone as alone;
 ghost use Rattle.worked_report_laws.specs.Moved as moved;
 ghost use Rattle.worked_report_laws.specs.Ran as ran;

@@ -1,6 +1,6 @@
 use Rattle.std.proofs.Common.{◌∷◌, ◌++◌, [], sym, ap, ◌∙◌, subst, arith}
 use Rattle.change_board.specs.Steps.{HasRoomForAll}
-use Rattle.change_law.specs.Members.{lines_of_events}
+use Rattle.change_spec.specs.Members.{lines_of_events}
 use Rattle.report_types.specs.declared.report.HistoryLine.TheVariants as to
 use Rattle.change_engine.proofs.StartLemmas.{began, start_fits}
 use Rattle.change_engine.proofs.launching.begin.Goals as goal

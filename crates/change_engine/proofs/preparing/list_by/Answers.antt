@@ -1,6 +1,6 @@
 use Rattle.std.proofs.Common.{◌++◌, ◌∷◌, [], length, map, sym, ap, ◌∙◌, subst, arith}
 use Rattle.std.proofs.lemmas.List.{length-map}
-use Rattle.change_law.specs.Members.{lines_of_events}
+use Rattle.change_spec.specs.Members.{lines_of_events}
 use Rattle.report_types.specs.declared.report.HistoryLine.TheVariants as to
 use Rattle.quiesce_core.specs.declared.event.Event.TheVariants as event
 use Rattle.change_lists.specs.Layouts.{place_in}

@@ -1,7 +1,7 @@
 use Rattle.std.proofs.Common.{◌≡◌, Some, sym, ap, ◌∙◌}
 use Rattle.std.specs.Prelude.{slice_get}
 use Rattle.std.proofs.lemmas.Option.{slice_get-get_or}
-use Rattle.change_law.specs.Members.{line_of}
+use Rattle.change_spec.specs.Members.{line_of}
 use Rattle.change_lists.proofs.ListingLaws.{picked_on}
 use Rattle.change_engine.proofs.telling.push_lines.Goals as goal
 

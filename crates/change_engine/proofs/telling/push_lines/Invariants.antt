@@ -1,5 +1,5 @@
 use Rattle.std.proofs.Common.{◌≡◌, ◌++◌, filter_map, take}
-use Rattle.change_law.specs.Members.{line_of}
+use Rattle.change_spec.specs.Members.{line_of}
 use Rattle.change_engine.proofs.telling.push_lines.Given as goal
 
 abbrev pub invariant-loop-event : goal.invariant-loop-event

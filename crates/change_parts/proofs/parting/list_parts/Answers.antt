@@ -6,9 +6,9 @@ use Rattle.change_plan.specs.PlanWithin.{IsPlanWithin}
 use Rattle.change_plan.specs.Plans.{IsPlanOf}
 use Rattle.change_plan.specs.Refusals.{CanPlan}
 use Rattle.change_plan.specs.Selects.{Selects}
-use Rattle.change_parts_laws.specs.Parts.{stage_after}
-use Rattle.change_parts_laws.specs.Stages.{IsAfter}
-use Rattle.change_parts_laws.specs.declared.part.Part.{Part}
+use Rattle.change_parts.specs.Parts.{stage_after}
+use Rattle.change_parts.specs.Stages.{IsAfter}
+use Rattle.change_parts.specs.declared.part.Part.{Part}
 use Rattle.change_parts.specs.Groupings.{applied_up_to}
 use Rattle.change_parts.specs.Owning.{IsOwn}
 use Rattle.change_parts.specs.Staging.{IsApplied}

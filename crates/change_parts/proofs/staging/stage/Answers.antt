@@ -3,7 +3,7 @@ use Rattle.config_graph.specs.Graph.{Graph, IsGraph, IsLinkWithin, OneLinkAPort,
 use Rattle.config_graph.specs.declared.node.Link.{Link}
 use Rattle.config_graph.specs.declared.node.Node.{Node}
 use Rattle.change_plan.specs.declared.plan_data.Move.{Move}
-use Rattle.change_parts_laws.specs.Stages.{IsAfter}
+use Rattle.change_parts.specs.Stages.{IsAfter}
 use Rattle.change_parts.specs.Members.{IsIndex}
 use Rattle.change_parts.specs.Staging.{AreLaid, IsApplied, links_in, stands}
 use Rattle.change_parts.specs.declared.members.Members.{Members}

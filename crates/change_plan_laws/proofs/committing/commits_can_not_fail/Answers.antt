@@ -1,5 +1,5 @@
 use Rattle.quiesce_core.specs.Runs.{state_after}
-use Rattle.quiesce_commit_laws.proofs.MemberLaws.{contains_in}
+use Rattle.quiesce_laws.proofs.MemberLaws.{contains_in}
 use Rattle.change_plan_laws.specs.Commit.{work}
 use Rattle.change_plan_laws.proofs.CommitLemmas.{allowed_at, events_may, runs_to_its_end, whole}
 use Rattle.change_plan_laws.proofs.TakingOverLemmas.{handed_over}

@@ -1,6 +1,6 @@
 use Rattle.change_plan_laws.specs.Commit.{ports_to_close}
 use Rattle.change_plan_laws.proofs.GateLemmas.{close_at, is_closed_for_it, unclosed}
-use Rattle.quiesce_commit_laws.proofs.MemberLaws.{contains_in}
+use Rattle.quiesce_laws.proofs.MemberLaws.{contains_in}
 use Rattle.change_plan_laws.proofs.committing.what_is_frozen_may_be_closed.Goals as goal
 
 pub returns-clause-allowed : goal.returns-clause-allowed

@@ -1,5 +1,5 @@
 use Rattle.change_plan_laws.specs.Commit.{ports_to_reopen}
-use Rattle.quiesce_commit_laws.proofs.MemberLaws.{contains_in}
+use Rattle.quiesce_laws.proofs.MemberLaws.{contains_in}
 use Rattle.change_plan_laws.proofs.WholeLemmas.{unopened}
 use Rattle.change_plan_laws.proofs.CommitLemmas.{flag_stays, target_stays}
 use Rattle.change_plan_laws.proofs.committing.what_is_not_frozen_is_left.Goals as goal

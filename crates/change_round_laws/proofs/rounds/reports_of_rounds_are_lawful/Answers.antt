@@ -1,7 +1,7 @@
 use Rattle.std.proofs.Common.{◌++◌, subst, sym}
-use Rattle.change_law.specs.Follows.{Follows}
-use Rattle.change_law.specs.Lawful.{IsLawfulBy}
-use Rattle.change_law.specs.Serial.{lines_played}
+use Rattle.change_spec.specs.Follows.{Follows}
+use Rattle.change_spec.specs.Lawful.{IsLawfulBy}
+use Rattle.change_spec.specs.Serial.{lines_played}
 use Rattle.report_types.specs.declared.report.Report.{Report}
 use Rattle.change_round_laws.proofs.CommitGraphLaws.{described_at}
 use Rattle.change_round_laws.proofs.RoundLaws.{lawful_by, numbers, whole}

@@ -1,5 +1,5 @@
 use Rattle.std.proofs.Common.{subst, sym}
-use Rattle.change_law.specs.Serial.{world_after}
+use Rattle.change_spec.specs.Serial.{world_after}
 use Rattle.change_round_laws.specs.SoundStatements.{AreSound}
 use Rattle.change_round_laws.proofs.RootLemmas.{parts_name, stop_names_none}
 use Rattle.change_round_laws.proofs.waiting.open_lines_name_what_the_last_look_saw.Goals as goal

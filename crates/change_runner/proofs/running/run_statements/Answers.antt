@@ -1,9 +1,9 @@
 use Rattle.std.proofs.Common.{◌≡◌, ◌∙◌, ◌++◌, ◌∷◌, [], append_assoc, sym, ap, subst, arith}
 use Rattle.base.proofs.MapLaws.{no_length}
 use Rattle.change_engine.specs.Calls.{HasStarted}
-use Rattle.change_law.specs.Follows.{Follows}
+use Rattle.change_spec.specs.Follows.{Follows}
 use Rattle.change_transcript_laws.specs.Pieces.{items_of}
-use Rattle.change_law.specs.Asked.{CanDoAll, after_start, statements_of}
+use Rattle.change_spec.specs.Asked.{CanDoAll, after_start, statements_of}
 use Rattle.change_runner.proofs.LogLemmas.{logs_are_made}
 use Rattle.change_runner.proofs.RunLemmas.{Progress, begun, ended, next_, ready, stop_told, stopped}
 use Rattle.change_runner.proofs.running.run_statements.Goals as goal

@@ -1,5 +1,5 @@
 use Rattle.std.proofs.Common.{sym, subst}
-use Rattle.change_law.specs.Follows.{Follows}
+use Rattle.change_spec.specs.Follows.{Follows}
 use Rattle.change_transcript_laws.proofs.FollowLaws.{fair_transcript, follows}
 use Rattle.change_transcript_laws.proofs.LawfulLaws.{drained, runs}
 use Rattle.change_transcript_laws.proofs.MergeLaws.{merge}

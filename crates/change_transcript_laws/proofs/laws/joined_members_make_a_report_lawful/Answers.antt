@@ -1,8 +1,8 @@
 use Rattle.std.proofs.Common.{sym, subst}
 use Rattle.base.specs.Each.{Each}
-use Rattle.change_law.proofs.RunningLaws.{quiet}
-use Rattle.change_law.specs.Follows.{Follows}
-use Rattle.change_law.specs.Lawful.{StoodOpenWhereSaid}
+use Rattle.change_spec.proofs.RunningLaws.{quiet}
+use Rattle.change_spec.specs.Follows.{Follows}
+use Rattle.change_spec.specs.Lawful.{StoodOpenWhereSaid}
 use Rattle.change_transcript_laws.proofs.EndLaws.{unfinished}
 use Rattle.change_transcript_laws.proofs.FoldLaws.{folds}
 use Rattle.change_transcript_laws.proofs.FollowLaws.{fair_transcript, follows}

@@ -1,6 +1,6 @@
 use Rattle.std.proofs.Common.{sym, subst}
 use Rattle.base.specs.Each.{Each}
-use Rattle.change_law.specs.Lawful.{StoodOpenWhereSaid}
+use Rattle.change_spec.specs.Lawful.{StoodOpenWhereSaid}
 use Rattle.change_transcript_laws.proofs.FollowLaws.{fair_transcript}
 use Rattle.change_transcript_laws.proofs.RootLaws.{stood_open}
 use Rattle.change_transcript_laws.proofs.laws.what_is_told_as_open_stood_open.Goals as goal

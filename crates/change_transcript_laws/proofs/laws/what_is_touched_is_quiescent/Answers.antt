@@ -1,4 +1,4 @@
-use Rattle.change_law.proofs.RunningLaws.{quiet}
+use Rattle.change_spec.proofs.RunningLaws.{quiet}
 use Rattle.change_transcript_laws.proofs.FollowLaws.{fair_transcript}
 use Rattle.change_transcript_laws.proofs.LawfulLaws.{runs}
 use Rattle.change_transcript_laws.proofs.laws.what_is_touched_is_quiescent.Goals as goal

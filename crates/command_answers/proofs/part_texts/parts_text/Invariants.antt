@@ -1,5 +1,5 @@
 use Rattle.std.proofs.Common.{◌≡◌, ◌++◌, ◌+◌, drop}
-use Rattle.change_parts_laws.specs.Parts.{ArePlansWithin}
+use Rattle.change_parts.specs.Parts.{ArePlansWithin}
 use Rattle.command_answers.specs.PartTexts.{parts_text, parts_text_from}
 use Rattle.command_answers.proofs.part_texts.parts_text.Given as goal
 

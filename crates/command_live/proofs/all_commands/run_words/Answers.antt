@@ -2,8 +2,8 @@
 use Rattle.std.proofs.Common.{map, refl, string_bytes}
 use Rattle.command_answers.specs.Answers.{no_memory, refusal}
 use Rattle.command_answers.specs.declared.status.Status.TheVariants as status
-use Rattle.command_law.specs.Known.{all_commands, on_one_thread, on_threads}
-use Rattle.command_law.specs.Runs.{not_read, run_of}
+use Rattle.command_spec.specs.Known.{all_commands, on_one_thread, on_threads}
+use Rattle.command_spec.specs.Runs.{not_read, run_of}
 use Rattle.command_program.proofs.RunningLaws.{runs_alone}
 use Rattle.command_live.proofs.Knowing.{asks_for_none, known_to_all, none_where_live, ones_are_all, threads_are_all}
 use Rattle.command_live.proofs.Returning.{ends_no_run}

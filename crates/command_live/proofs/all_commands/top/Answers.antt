@@ -1,8 +1,8 @@
 -- Each clause follows from the one relation of runs, as all commands are known.
 use Rattle.std.proofs.Common.{refl}
-use Rattle.command_law.specs.Known.{all_commands}
-use Rattle.command_law.specs.Schedules.{rounds, threads}
-use Rattle.command_law.proofs.RunLaws as laws
+use Rattle.command_spec.specs.Known.{all_commands}
+use Rattle.command_spec.specs.Schedules.{rounds, threads}
+use Rattle.command_spec.proofs.RunLaws as laws
 use Rattle.command_live.proofs.all_commands.top.Goals as goal
 
 pub returns : goal.returns

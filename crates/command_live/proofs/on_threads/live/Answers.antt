@@ -2,8 +2,8 @@
 use Rattle.std.proofs.Common.{map, refl, string_bytes}
 use Rattle.command_answers.specs.Answers.{no_memory, refusal, usage}
 use Rattle.command_answers.specs.declared.status.Status.TheVariants as status
-use Rattle.command_law.specs.Known.{on_threads}
-use Rattle.command_law.specs.Runs.{no_form, not_read, run_of}
+use Rattle.command_spec.specs.Known.{on_threads}
+use Rattle.command_spec.specs.Runs.{no_form, not_read, run_of}
 use Rattle.command_program.proofs.RunningLaws.{runs_alone}
 use Rattle.command_live.proofs.Returning.{ends_no_run}
 use Rattle.command_live.proofs.on_threads.live.Goals as goal

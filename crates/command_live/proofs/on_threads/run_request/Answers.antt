@@ -1,8 +1,8 @@
 -- What was answered is written, and the seat comes back where it is a report.
 use Rattle.std.proofs.Common.{Ok, Err, map, refl, string_bytes, subst}
-use Rattle.command_law.specs.Known.{on_threads}
-use Rattle.command_law.specs.Runs.{run_of}
-use Rattle.command_law.specs.Schedules.{IsReportBy, IsShownBy, threads}
+use Rattle.command_spec.specs.Known.{on_threads}
+use Rattle.command_spec.specs.Runs.{run_of}
+use Rattle.command_spec.specs.Schedules.{IsReportBy, IsShownBy, threads}
 use Rattle.command_words.specs.CommandLine.{Asks}
 use Rattle.command_words.specs.declared.words.Command.TheVariants as commands
 use Rattle.command_live.specs.Agreeing.{AgreesWithSeat, ComesBack}

@@ -1,8 +1,8 @@
 -- Where memory ran out before there were words, none are read.
 use Rattle.std.proofs.Common.{[], refl}
 use Rattle.command_answers.specs.Answers.{refusal, no_memory}
-use Rattle.command_law.specs.Runs.{not_read, run_of}
-use Rattle.command_law.specs.Known.{all_commands}
+use Rattle.command_spec.specs.Runs.{not_read, run_of}
+use Rattle.command_spec.specs.Known.{all_commands}
 use Rattle.command_program.proofs.RunningLaws.{runs_alone}
 use Rattle.command_live.proofs.program.run_args.Goals as goal
 

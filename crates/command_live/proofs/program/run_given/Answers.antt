@@ -2,8 +2,8 @@
 use Rattle.std.proofs.Common.{drop, map, refl, string_bytes}
 use Rattle.std.specs.Vec.Iter.{into_iter_items}
 use Rattle.command_answers.specs.Answers.{refusal, no_memory}
-use Rattle.command_law.specs.Runs.{not_read, run_of}
-use Rattle.command_law.specs.Known.{all_commands}
+use Rattle.command_spec.specs.Runs.{not_read, run_of}
+use Rattle.command_spec.specs.Known.{all_commands}
 use Rattle.command_program.proofs.RunningLaws.{runs_alone}
 use Rattle.command_live.proofs.program.run_given.Goals as goal
 

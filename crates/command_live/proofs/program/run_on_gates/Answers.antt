@@ -1,8 +1,8 @@
 -- Where there is no memory for the gates, the words aren't read.
 use Rattle.std.proofs.Common.{map, refl, string_bytes}
 use Rattle.command_answers.specs.Answers.{no_memory, refusal}
-use Rattle.command_law.specs.Known.{all_commands}
-use Rattle.command_law.specs.Runs.{not_read, run_of}
+use Rattle.command_spec.specs.Known.{all_commands}
+use Rattle.command_spec.specs.Runs.{not_read, run_of}
 use Rattle.command_program.proofs.RunningLaws.{runs_alone}
 use Rattle.command_live.proofs.program.run_on_gates.Goals as goal
 

@@ -1,7 +1,7 @@
 -- The report of the run is answered, and agrees with the seat; behind it stand the lines of its observers.
 use Rattle.std.proofs.Common.{◌++◌, ◌∙◌, Ok, ap}
-use Rattle.command_law.specs.Schedules.{IsShownBy, threads}
-use Rattle.command_files.specs.Preparing.{statements_in}
+use Rattle.command_spec.specs.Schedules.{IsShownBy, threads}
+use Rattle.command_program.specs.Preparing.{statements_in}
 use Rattle.command_live.specs.Agreeing.{AgreesWithSeat}
 use Rattle.command_program.proofs.ReportingLaws.{shown}
 use Rattle.report_writing.specs.Reports.{report_text}

@@ -1,8 +1,8 @@
 -- What was prepared of the made script is run, or refuses it.
 use Rattle.std.proofs.lemmas.Result.{err_from_is_err_and}
 use Rattle.std.proofs.Common.{Err, Ok}
-use Rattle.command_law.specs.Commands.{IsSummary}
-use Rattle.command_law.specs.Schedules.{IsReportBy, rounds}
+use Rattle.command_spec.specs.Commands.{IsSummary}
+use Rattle.command_spec.specs.Schedules.{IsReportBy, rounds}
 use Rattle.command_program.proofs.ReportingLaws.{ran_by, stopped_by}
 use Rattle.command_program.proofs.ScriptRuns.{big_by, not_made}
 use Rattle.command_program.proofs.answering.answer_big.Goals as goal

@@ -1,7 +1,7 @@
 -- What was prepared judges a report, or refuses the script.
 use Rattle.std.proofs.Common.{subst}
 use Rattle.std.proofs.lemmas.Result.{err_from_is_err_and}
-use Rattle.command_files.specs.Preparing.{Prepares}
+use Rattle.command_program.specs.Preparing.{Prepares}
 use Rattle.command_program.proofs.ScriptRuns.{judged_by, unjudged_by}
 use Rattle.command_program.proofs.answering.answer_check.Goals as goal
 

@@ -1,10 +1,10 @@
 -- One fetch, and what is answered by what it gave.
 use Rattle.std.proofs.Common.{Err, Ok}
 use Rattle.std.proofs.lemmas.Result.{err_from_is_err_and}
-use Rattle.command_law.specs.Commands.{course_of_query}
-use Rattle.command_law.specs.Fetches.{fetch_of}
-use Rattle.command_law.proofs.CourseLaws.{described_in_part, describes, undescribed}
-use Rattle.command_files.specs.declared.answer.Stop.TheVariants as stops
+use Rattle.command_spec.specs.Commands.{course_of_query}
+use Rattle.command_spec.specs.Fetches.{fetch_of}
+use Rattle.command_spec.proofs.CourseLaws.{described_in_part, describes, undescribed}
+use Rattle.command_program.specs.declared.answer.Stop.TheVariants as stops
 use Rattle.command_program.proofs.RunningLaws.{by_fetch, by_no_fetch}
 use Rattle.command_program.proofs.answering.answer_description.Goals as goal
 

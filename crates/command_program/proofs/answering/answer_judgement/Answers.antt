@@ -1,11 +1,11 @@
 -- One fetch, and what is answered by what it gave.
 use Rattle.std.proofs.Common.{Err, Ok}
 use Rattle.std.proofs.lemmas.Result.{err_from_is_err_and}
-use Rattle.command_law.specs.Commands.{judging}
-use Rattle.command_law.specs.Fetches.{report_fetch}
-use Rattle.command_law.proofs.CourseLaws.{judgement, judgement_unfetched, judgement_unread}
-use Rattle.command_files.specs.Preparing.{statements_in}
-use Rattle.command_files.specs.declared.answer.Stop.TheVariants as stops
+use Rattle.command_spec.specs.Commands.{judging}
+use Rattle.command_spec.specs.Fetches.{report_fetch}
+use Rattle.command_spec.proofs.CourseLaws.{judgement, judgement_unfetched, judgement_unread}
+use Rattle.command_program.specs.Preparing.{statements_in}
+use Rattle.command_program.specs.declared.answer.Stop.TheVariants as stops
 use Rattle.command_program.proofs.RunningLaws.{by_fetch, by_no_fetch}
 use Rattle.command_program.proofs.answering.answer_judgement.Goals as goal
 

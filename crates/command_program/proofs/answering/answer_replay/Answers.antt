@@ -1,9 +1,9 @@
 -- The file of events is fetched and read, and then the description.
 use Rattle.std.proofs.Common.{Err}
 use Rattle.std.proofs.lemmas.Result.{err_from_is_err_and}
-use Rattle.command_law.specs.Commands.{course_of}
-use Rattle.command_law.specs.Fetches.{fetch_of}
-use Rattle.command_law.proofs.CourseLaws.{script_unfetched}
+use Rattle.command_spec.specs.Commands.{course_of}
+use Rattle.command_spec.specs.Fetches.{fetch_of}
+use Rattle.command_spec.proofs.CourseLaws.{script_unfetched}
 use Rattle.command_words.specs.declared.words.Command.TheVariants as commands
 use Rattle.command_program.proofs.RunningLaws.{by_fetch, by_no_fetch, events_stop, replay_read}
 use Rattle.command_program.proofs.answering.answer_replay.Goals as goal

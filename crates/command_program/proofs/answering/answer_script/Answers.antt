@@ -1,8 +1,8 @@
 -- What was prepared is run, or refuses the script.
 use Rattle.std.proofs.Common.{subst}
 use Rattle.std.proofs.lemmas.Result.{err_from_is_err_and}
-use Rattle.command_law.specs.Schedules.{IsReportBy, IsShownBy, rounds}
-use Rattle.command_files.specs.Preparing.{Prepares}
+use Rattle.command_spec.specs.Schedules.{IsReportBy, IsShownBy, rounds}
+use Rattle.command_program.specs.Preparing.{Prepares}
 use Rattle.command_program.proofs.ReportingLaws.{ran_by, short_by, stopped_by}
 use Rattle.command_program.proofs.answering.answer_script.Goals as goal
 

@@ -1,5 +1,5 @@
 -- The report is the one of rounds, and lawful, since the statements are sound.
-use Rattle.command_files.specs.Preparing.{statements_in}
+use Rattle.command_program.specs.Preparing.{statements_in}
 use Rattle.command_program.proofs.SoundSteps.{are_sound}
 use Rattle.command_program.proofs.ScriptRuns.{reported}
 use Rattle.command_program.proofs.answering.report_of.Goals as goal

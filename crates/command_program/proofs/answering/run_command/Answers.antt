@@ -1,9 +1,9 @@
 -- Each command has its answer, and it is written.
 use Rattle.std.proofs.Common.{[], refl}
 use Rattle.command_answers.specs.Answers.{help, refusal, usage, version}
-use Rattle.command_law.specs.Known.{on_one_thread}
+use Rattle.command_spec.specs.Known.{on_one_thread}
 use Rattle.command_words.specs.declared.words.Command.TheVariants as commands
-use Rattle.command_law.specs.Runs.{asked, no_form, run_of}
+use Rattle.command_spec.specs.Runs.{asked, no_form, run_of}
 use Rattle.command_program.proofs.RunningLaws.{not_known, runs_alone, runs_by, runs_unfetched}
 use Rattle.command_program.proofs.answering.run_command.Goals as goal
 

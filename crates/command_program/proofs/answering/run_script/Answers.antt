@@ -1,6 +1,6 @@
 -- The report of the run is answered.
-use Rattle.command_law.specs.Schedules.{IsReportBy, IsShownBy, rounds}
-use Rattle.command_files.specs.Preparing.{statements_in}
+use Rattle.command_spec.specs.Schedules.{IsReportBy, IsShownBy, rounds}
+use Rattle.command_program.specs.Preparing.{statements_in}
 use Rattle.command_program.proofs.ReportingLaws.{shown}
 use Rattle.command_program.proofs.answering.run_script.Goals as goal
 

@@ -1,8 +1,8 @@
 -- Words of no form, and want of memory, have one answer each; a command has its own.
 use Rattle.std.proofs.Common.{map, refl, string_bytes}
 use Rattle.command_answers.specs.Answers.{refusal, usage, no_memory}
-use Rattle.command_law.specs.Runs.{no_form, not_read, run_of}
-use Rattle.command_law.specs.Known.{on_one_thread}
+use Rattle.command_spec.specs.Runs.{no_form, not_read, run_of}
+use Rattle.command_spec.specs.Known.{on_one_thread}
 use Rattle.command_program.proofs.RunningLaws.{runs_alone}
 use Rattle.command_program.proofs.answering.run_words.Goals as goal
 

@@ -1,7 +1,7 @@
 -- The summary of the report is answered.
-use Rattle.command_law.specs.Commands.{IsSummary}
-use Rattle.command_law.specs.Schedules.{IsReportBy, rounds}
-use Rattle.command_files.specs.Preparing.{statements_in}
+use Rattle.command_spec.specs.Commands.{IsSummary}
+use Rattle.command_spec.specs.Schedules.{IsReportBy, rounds}
+use Rattle.command_program.specs.Preparing.{statements_in}
 use Rattle.command_program.proofs.ReportingLaws.{shown}
 use Rattle.command_program.proofs.answering.sum_up.Goals as goal
 

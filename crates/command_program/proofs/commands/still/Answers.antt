@@ -1,8 +1,8 @@
 -- Each clause follows from the one relation of runs, as the command of which it speaks is known.
 use Rattle.std.proofs.Common.{refl}
-use Rattle.command_law.specs.Known.{on_one_thread}
-use Rattle.command_law.specs.Schedules.{rounds}
-use Rattle.command_law.proofs.RunLaws as laws
+use Rattle.command_spec.specs.Known.{on_one_thread}
+use Rattle.command_spec.specs.Schedules.{rounds}
+use Rattle.command_spec.proofs.RunLaws as laws
 use Rattle.command_program.proofs.commands.still.Goals as goal
 
 pub returns : goal.returns

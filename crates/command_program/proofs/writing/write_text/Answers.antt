@@ -1,6 +1,6 @@
 -- What was written is the whole text, or the front of it that the sink took before it failed.
 use Rattle.std.proofs.Common.{refl}
-use Rattle.command_law.specs.Runs.{whole, stopped}
+use Rattle.command_spec.specs.Runs.{whole, stopped}
 use Rattle.command_program.proofs.writing.write_text.Goals as goal
 
 pub returns-in-Ok : goal.returns-in-Ok

@@ -5,8 +5,8 @@ use Rattle.live_board.specs.Collecting.{Gathers, IsTakenIn}
 use Rattle.live_hall.specs.Sighting.{views_of}
 use Rattle.state_handover.specs.contracts.any_node.AnyNodeComponent.TheImpl.{ghosts}
 use Rattle.txn_gate.specs.Seats.{collected_in, node_in, record_of}
-use Rattle.txn_law.specs.Traces.{HaveOwnSlots}
-use Rattle.txn_law.specs.declared.view.ChangeView.{ChangeView}
+use Rattle.txn_spec.specs.Traces.{HaveOwnSlots}
+use Rattle.txn_spec.specs.declared.view.ChangeView.{ChangeView}
 use Rattle.txn_records.specs.Entries.{config_of}
 use Rattle.live_board.proofs.EndLemmas.{each_of, taken_end, gathers}
 use Rattle.live_board.proofs.collecting.gather.Goals as goal

@@ -1,8 +1,8 @@
 use Rattle.std.proofs.Common.{◌∙◌, ◌++◌, ◌∷◌, [], ap, map, sym}
 use Rattle.live_hall.specs.Sighting.{views_of}
 use Rattle.txn_gate.specs.Seats.{collected_in, node_in, record_of}
-use Rattle.txn_law.specs.declared.view.ChangeView.{ChangeView}
-use Rattle.txn_law.specs.declared.view.NodeView.{NodeView}
+use Rattle.txn_spec.specs.declared.view.ChangeView.{ChangeView}
+use Rattle.txn_spec.specs.declared.view.NodeView.{NodeView}
 use Rattle.txn_records.specs.Entries.{config_of}
 use Rattle.live_board.proofs.GrowLemmas.{grew_then}
 use Rattle.live_board.proofs.collecting.take_line_in.Goals as goal

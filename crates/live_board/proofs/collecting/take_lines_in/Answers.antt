@@ -5,7 +5,7 @@ use Rattle.std.proofs.lemmas.List.{append-nil}
 use Rattle.live_hall.specs.Sighting.{views_of}
 use Rattle.live_board.specs.Collecting.{LiesAt, all_views}
 use Rattle.txn_gate.specs.Seats.{collected_in, record_of}
-use Rattle.txn_law.specs.declared.view.ChangeView.{ChangeView}
+use Rattle.txn_spec.specs.declared.view.ChangeView.{ChangeView}
 use Rattle.txn_records.specs.Entries.{config_of}
 use Rattle.live_board.proofs.GrowLemmas.{grew_then}
 use Rattle.live_board.proofs.collecting.take_lines_in.Goals as goal

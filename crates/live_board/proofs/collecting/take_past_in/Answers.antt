@@ -3,8 +3,8 @@ use Rattle.std.specs.List.{AllByRecursion}
 use Rattle.std.proofs.lemmas.List.{map-append}
 use Rattle.atomic_table.specs.Seated.{TableId}
 use Rattle.txn_gate.specs.Seats.{collected_in, node_in, record_of, table_of_node}
-use Rattle.txn_law.specs.declared.view.ChangeView.{ChangeView}
-use Rattle.txn_law.specs.declared.view.NodeView.{NodeView}
+use Rattle.txn_spec.specs.declared.view.ChangeView.{ChangeView}
+use Rattle.txn_spec.specs.declared.view.NodeView.{NodeView}
 use Rattle.txn_records.specs.Entries.{config_of}
 use Rattle.live_board.proofs.GrowLemmas.{grew_then}
 use Rattle.live_board.proofs.collecting.take_past_in.Goals as goal

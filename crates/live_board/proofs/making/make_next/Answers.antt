@@ -10,7 +10,7 @@ use Rattle.quiesce_core.specs.declared.known.Known.{Known}
 use Rattle.state_handover.specs.contracts.any_node.AnyNodeComponent.TheImpl.{ghosts}
 use Rattle.txn_gate.specs.Calls.{made_node}
 use Rattle.txn_gate.specs.Seats.{node_in, record_of, table_of_node}
-use Rattle.txn_law.specs.declared.view.ChangeView.{ChangeView}
+use Rattle.txn_spec.specs.declared.view.ChangeView.{ChangeView}
 use Rattle.txn_records.specs.Entries.{config_of}
 use Rattle.txn_records.specs.declared.entry.Entry.{Entry}
 use Rattle.txn_records.specs.declared.entry.Entry.TheVariants.{Did}

@@ -3,7 +3,7 @@ use Rattle.change_board.specs.declared.board.Scan.{Scan}
 use Rattle.config_graph.specs.declared.TheConstants.{MAX_NODES}
 use Rattle.quiesce_core.specs.State.{Configuration}
 use Rattle.txn_gate.specs.Seats.{record_of}
-use Rattle.txn_law.specs.declared.view.ChangeView.{ChangeView}
+use Rattle.txn_spec.specs.declared.view.ChangeView.{ChangeView}
 use Rattle.txn_records.specs.Entries.{config_of}
 use Rattle.txn_records.specs.declared.entry.Entry.{Entry}
 use Rattle.txn_records.specs.declared.entry.Entry.TheVariants.{Scanned}

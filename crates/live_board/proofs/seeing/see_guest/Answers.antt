@@ -5,7 +5,7 @@ use Rattle.live_board.specs.Lengths.{AreLengths}
 use Rattle.live_board.specs.Seeing.{sights_of}
 use Rattle.state_handover.specs.contracts.any_node.AnyNodeComponent.TheImpl.{ghosts}
 use Rattle.txn_gate.specs.Seats.{node_in, record_of}
-use Rattle.txn_law.specs.declared.view.ChangeView.{ChangeView}
+use Rattle.txn_spec.specs.declared.view.ChangeView.{ChangeView}
 use Rattle.txn_records.specs.Entries.{config_of}
 use Rattle.live_board.proofs.SightingLaws.{saw}
 use Rattle.live_board.proofs.seeing.see_guest.Goals as goal

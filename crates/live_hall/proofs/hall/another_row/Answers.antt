@@ -1,6 +1,6 @@
 use Rattle.std.proofs.Common.{◌≡◌, ◌∙◌, ◌<◌, ap, arith, length, length-set, refl, replicate, rules}
 use Rattle.config_graph.specs.declared.TheConstants.{MAX_NODES}
-use Rattle.base_pair_laws.proofs.PairedLaws.{after, found_is_there, here, paired_second, seen_more, seen_same}
+use Rattle.base.proofs.PairedLaws.{after, found_is_there, here, paired_second, seen_more, seen_same}
 use Rattle.live_hall.specs.Doors.{Opens, missed}
 use Rattle.live_hall.specs.declared.lock.Lock.{Lock}
 use Rattle.live_hall.proofs.hall.another_row.Goals as goal

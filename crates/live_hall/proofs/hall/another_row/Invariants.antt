@@ -1,7 +1,7 @@
 use Rattle.std.proofs.Common.{◌≡◌, length, map, replicate}
 use Rattle.config_graph.specs.declared.TheConstants.{MAX_NODES}
 use Rattle.live_hall.specs.Doors.{Opens, missed}
-use Rattle.base_pair_laws.specs.Paired.{Paired}
+use Rattle.base.specs.Paired.{Paired}
 use Rattle.live_hall.proofs.hall.another_row.Given as goal
 
 abbrev pub invariant-loop-at : goal.invariant-loop-at

@@ -1,6 +1,6 @@
 use Rattle.std.proofs.Common.{◌≡◌, ◌∙◌, ap, arith, refl, replicate, rules, sym}
 use Rattle.config_graph.specs.declared.TheConstants.{MAX_NODES}
-use Rattle.base_pair_laws.proofs.PairedLaws.{paired_both, seen_more}
+use Rattle.base.proofs.PairedLaws.{paired_both, seen_more}
 use Rattle.live_hall.specs.Doors.{Opens, missed}
 use Rattle.live_hall.specs.declared.lock.Lock.{Lock}
 use Rattle.live_hall.proofs.hall.first_row.Goals as goal

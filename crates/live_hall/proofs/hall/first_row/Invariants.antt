@@ -1,6 +1,6 @@
 use Rattle.std.proofs.Common.{◌≡◌, length, map, replicate}
 use Rattle.live_hall.specs.Doors.{Opens, missed}
-use Rattle.base_pair_laws.specs.Paired.{Paired}
+use Rattle.base.specs.Paired.{Paired}
 use Rattle.live_hall.proofs.hall.first_row.Given as goal
 
 abbrev pub invariant-loop-slot : goal.invariant-loop-slot

@@ -1,6 +1,6 @@
 use Rattle.std.proofs.Common.{◌≡◌, ◌∙◌, ◌<◌, ap, arith, length, length-set, replicate, rules}
 use Rattle.config_graph.specs.declared.TheConstants.{MAX_NODES}
-use Rattle.base_pair_laws.proofs.PairedLaws.{after, found_is_there, here, paired_second, seen_more, seen_same}
+use Rattle.base.proofs.PairedLaws.{after, found_is_there, here, paired_second, seen_more, seen_same}
 use Rattle.live_hands.specs.Hands.{seen, shown, unused}
 use Rattle.live_hands.specs.Opens.{Opens}
 use Rattle.live_hands.specs.declared.entry.Entry.{Entry}

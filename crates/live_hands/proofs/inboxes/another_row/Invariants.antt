@@ -2,7 +2,7 @@ use Rattle.std.proofs.Common.{◌≡◌, length, map, replicate}
 use Rattle.config_graph.specs.declared.TheConstants.{MAX_NODES}
 use Rattle.live_hands.specs.Hands.{shown, unused}
 use Rattle.live_hands.specs.Opens.{Opens}
-use Rattle.base_pair_laws.specs.Paired.{Paired}
+use Rattle.base.specs.Paired.{Paired}
 use Rattle.live_hands.proofs.inboxes.another_row.Given as goal
 
 abbrev pub invariant-loop-at : goal.invariant-loop-at

@@ -1,6 +1,6 @@
 use Rattle.std.proofs.Common.{◌≡◌, ◌∙◌, ap, arith, replicate, rules, sym}
 use Rattle.config_graph.specs.declared.TheConstants.{MAX_NODES}
-use Rattle.base_pair_laws.proofs.PairedLaws.{paired_both, seen_more}
+use Rattle.base.proofs.PairedLaws.{paired_both, seen_more}
 use Rattle.live_hands.specs.Hands.{seen, shown, unused}
 use Rattle.live_hands.specs.Opens.{Opens}
 use Rattle.live_hands.specs.declared.entry.Entry.{Entry}

@@ -1,7 +1,7 @@
 use Rattle.std.proofs.Common.{◌≡◌, length, map, replicate}
 use Rattle.live_hands.specs.Hands.{shown, unused}
 use Rattle.live_hands.specs.Opens.{Opens}
-use Rattle.base_pair_laws.specs.Paired.{Paired}
+use Rattle.base.specs.Paired.{Paired}
 use Rattle.live_hands.proofs.inboxes.first_row.Given as goal
 
 abbrev pub invariant-loop-node : goal.invariant-loop-node

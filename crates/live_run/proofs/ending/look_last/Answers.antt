@@ -1,12 +1,12 @@
 use Rattle.std.proofs.Common.{◌≡◌, ◌<◌, ◌∷◌, ◌++◌, ℕ, IsTrue, [], ap, length, subst, sym}
-use Rattle.live_laws.specs.Ended.{AgreesWith}
+use Rattle.live_board.specs.Ended.{AgreesWith}
 use Rattle.live_run.proofs.LastLook.{agrees_still, config_kept}
 use Rattle.quiesce_core.specs.State.{Configuration}
-use Rattle.txn_law.specs.Views.{is_among}
+use Rattle.txn_spec.specs.Views.{is_among}
 use Rattle.txn_records.specs.Entries.{config_of}
 use Rattle.txn_gate.specs.Seats.{collected_in, record_of}
-use Rattle.txn_law.specs.Merging.{MergeIntoRun}
-use Rattle.txn_law.specs.declared.view.ChangeView.{ChangeView}
+use Rattle.txn_spec.specs.Merging.{MergeIntoRun}
+use Rattle.txn_spec.specs.declared.view.ChangeView.{ChangeView}
 use Rattle.txn_records.specs.declared.entry.Entry.TheVariants.{Looked}
 use Rattle.live_run.proofs.ending.look_last.Goals as goal
 

@@ -1,9 +1,9 @@
 use Rattle.std.proofs.Common.{ℕ, ◌<◌, IsTrue, length, subst, sym}
 use Rattle.std.proofs.lemmas.List.Elements.{All-weaker}
-use Rattle.change_law.specs.Asked.{statements_of}
-use Rattle.live_laws.specs.Ended.{CarriedOutOnThreads}
+use Rattle.change_spec.specs.Asked.{statements_of}
+use Rattle.live_board.specs.Ended.{CarriedOutOnThreads}
 use Rattle.txn_gate.specs.Seats.{collected_in}
-use Rattle.txn_law.specs.Views.{is_among}
+use Rattle.txn_spec.specs.Views.{is_among}
 use Rattle.txn_records.specs.Entries.{config_of}
 use Rattle.watch_lines.specs.Observers.{AreToldOf}
 use Rattle.watch_lines.specs.Sightings.{AreSightingsOf}

@@ -1,4 +1,4 @@
-use Rattle.change_law.specs.Asked.{statements_of}
+use Rattle.change_spec.specs.Asked.{statements_of}
 use Rattle.live_run.proofs.running.run_beside.Goals as goal
 
 pub returns-clause-agrees : goal.returns-clause-agrees

@@ -3,8 +3,8 @@ use Rattle.std.specs.Prelude.{◌↔◌, IfNone, IfSome, IsTrue}
 use Rattle.std.proofs.lemmas.Bool.{both_ways}
 use Rattle.std.proofs.lemmas.List.{take-append-drop, take_all}
 use Rattle.report_types.specs.declared.report.HistoryLine.{HistoryLine as Line}
-use Rattle.change_law.specs.Asked.{Above, after_start, statements_of}
-use Rattle.change_law.specs.Follows.{Follows, IsStop, lines_of, start_lines}
+use Rattle.change_spec.specs.Asked.{Above, after_start, statements_of}
+use Rattle.change_spec.specs.Follows.{Follows, IsStop, lines_of, start_lines}
 use Rattle.report_follows.specs.Fronts.{HasNoFront, LeadsTo}
 use Rattle.report_follows.specs.Readers.{IsBehind}
 use Rattle.report_follows.proofs.ScriptLemmas.{Progress, begun, can_go, ended, not_begun, not_onward, onward, steps_before, steps_from}

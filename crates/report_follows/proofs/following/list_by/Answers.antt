@@ -1,5 +1,5 @@
 use Rattle.std.proofs.Common.{◌<◌, All, length, sym, ap, subst, arith}
-use Rattle.change_law.specs.Scene.{config_after}
+use Rattle.change_spec.specs.Scene.{config_after}
 use Rattle.change_plan.specs.declared.plan_data.Plan.{Plan}
 use Rattle.change_lists.specs.Lists.{ports_after}
 use Rattle.change_lists.proofs.PlanInLaws.{plan_in}

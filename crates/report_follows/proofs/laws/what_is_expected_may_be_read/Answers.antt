@@ -1,4 +1,4 @@
-use Rattle.change_law.proofs.PortLaws.{closing_rise}
+use Rattle.change_spec.proofs.PortLaws.{closing_rise}
 use Rattle.report_follows.proofs.ExpectedLemmas.{commits_are_tellable, live_ports_rise, starts_are_tellable}
 use Rattle.report_follows.proofs.laws.what_is_expected_may_be_read.Goals as goal
 

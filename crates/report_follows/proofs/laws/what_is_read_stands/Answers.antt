@@ -1,8 +1,8 @@
 use Rattle.std.proofs.Common.{◌≡◌, true, false, subst}
 use Rattle.std.specs.List.{list_all}
 use Rattle.std.specs.List.Sorted.{IsStrictlyIncreasing}
-use Rattle.change_law.specs.Scene.{config_after}
-use Rattle.change_law.proofs.PortLaws.{closing_rise}
+use Rattle.change_spec.specs.Scene.{config_after}
+use Rattle.change_spec.proofs.PortLaws.{closing_rise}
 use Rattle.report_follows.specs.Testing.{is_tellable}
 use Rattle.report_follows.proofs.ExpectedLemmas.{commits_are_tellable}
 use Rattle.report_follows.proofs.StandingLemmas.{behind_abandon, behind_commit, behind_start, closed_are, ended_so, events_are, mid, right_so}

@@ -1,4 +1,4 @@
-use Rattle.change_law.specs.Follows.{IsFinishLine}
+use Rattle.change_spec.specs.Follows.{IsFinishLine}
 use Rattle.report_follows.specs.Fronts.{behind_first, is_finish_line}
 use Rattle.report_follows.proofs.FoundLemmas.{none_found, some_found}
 use Rattle.report_follows.proofs.StillLemmas.{finish_finds, finish_means}

@@ -1,4 +1,4 @@
-use Rattle.change_law.specs.Follows.{IsRunLine}
+use Rattle.change_spec.specs.Follows.{IsRunLine}
 use Rattle.report_follows.specs.Fronts.{behind_first, is_run_line}
 use Rattle.report_follows.proofs.FoundLemmas.{none_found, some_found}
 use Rattle.report_follows.proofs.StillLemmas.{run_finds, run_means}

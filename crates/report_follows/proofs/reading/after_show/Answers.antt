@@ -1,4 +1,4 @@
-use Rattle.change_law.specs.Follows.{IsShowLine}
+use Rattle.change_spec.specs.Follows.{IsShowLine}
 use Rattle.report_follows.specs.Fronts.{behind_first, is_show_line}
 use Rattle.report_follows.proofs.FoundLemmas.{none_found, some_found}
 use Rattle.report_follows.proofs.StillLemmas.{show_finds, show_means}

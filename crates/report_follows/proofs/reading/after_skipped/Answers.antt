@@ -1,6 +1,6 @@
 use Rattle.std.proofs.Common.{◌≡◌, ◌∙◌, List, ◌++◌, ap, refl}
 use Rattle.report_types.specs.declared.report.HistoryLine.{HistoryLine as Line}
-use Rattle.change_law.specs.Follows.{skip_lines}
+use Rattle.change_spec.specs.Follows.{skip_lines}
 use Rattle.report_follows.specs.Fronts.{behind_skipped}
 use Rattle.report_follows.proofs.FoundLemmas.{none_found, some_found}
 use Rattle.report_follows.proofs.StillLemmas.{skipped_finds, skipped_means}

@@ -1,7 +1,7 @@
 use Rattle.std.proofs.Common.{◌≡◌, ◌∙◌, List, [], ◌∷◌, ◌++◌, ap, refl}
 use Rattle.report_types.specs.declared.report.HistoryLine.{HistoryLine as Line}
 use Rattle.report_types.specs.declared.report.HistoryLine.TheVariants as to
-use Rattle.change_law.specs.Members.{lines_of_events}
+use Rattle.change_spec.specs.Members.{lines_of_events}
 use Rattle.report_follows.specs.Fronts.{behind_start}
 use Rattle.report_follows.proofs.FoundLemmas.{none_found, some_found}
 use Rattle.report_follows.proofs.OpeningLemmas.{start_finds, start_means}

@@ -1,5 +1,5 @@
 use Rattle.std.proofs.Common.{sym, subst}
-use Rattle.quiesce_commit_laws.specs.Steps.{IsNoted}
+use Rattle.quiesce_laws.specs.Steps.{IsNoted}
 use Rattle.txn_records.specs.Entries.{config_of}
 use Rattle.txn_records.specs.Notes.{is_noted}
 use Rattle.txn_records.specs.Records.{May}

@@ -1,7 +1,7 @@
 use Rattle.std.proofs.Common.{ℕ, ◌<◌, IsTrue}
 use Rattle.txn_records.specs.Entries.{config_of}
 use Rattle.txn_records.specs.Notes.{is_noted}
-use Rattle.txn_law.specs.Views.{change_of}
+use Rattle.txn_spec.specs.Views.{change_of}
 use Rattle.quiesce_core.specs.Rules.{is_live_port}
 use Rattle.rows_gates.proofs.row_systems.are_all_noted.Given as goal
 

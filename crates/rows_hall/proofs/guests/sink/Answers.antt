@@ -2,7 +2,7 @@ use Rattle.std.proofs.Common.{◌≡◌, ◌∙◌, None, [], ap, length, refl}
 use Rattle.config_graph.specs.declared.kind.Kind.TheVariants.{Sink}
 use Rattle.config_graph.specs.declared.node.Node.{Node}
 use Rattle.txn_records.specs.Entries.{config_of}
-use Rattle.txn_law.specs.Views.{change_of}
+use Rattle.txn_spec.specs.Views.{change_of}
 use Rattle.txn_gate.specs.Calls.{made_node}
 use Rattle.txn_gate.specs.Seats.{record_of}
 use Rattle.rows_hall.proofs.guests.sink.Goals as goal

@@ -1,6 +1,6 @@
 use Rattle.std.proofs.Common.{◌≡◌, ◌∙◌, ◌∷◌, ◌+◌, ◌<◌, ℕ, List, add-one, ap, get_or, length, sym, subst, drop, drop-cons}
-use Rattle.change_parts_laws.specs.Parts.{ArePlansWithin}
-use Rattle.change_parts_laws.specs.declared.part.Part.{Part}
+use Rattle.change_parts.specs.Parts.{ArePlansWithin}
+use Rattle.change_parts.specs.declared.part.Part.{Part}
 use Rattle.rows_machine.proofs.part_rows.push_parts.Goals as goal
 
 -- the rest from one place on begins with what stands there

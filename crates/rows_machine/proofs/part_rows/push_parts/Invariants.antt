@@ -1,5 +1,5 @@
 use Rattle.std.proofs.Common.{drop}
-use Rattle.change_parts_laws.specs.Parts.{ArePlansWithin}
+use Rattle.change_parts.specs.Parts.{ArePlansWithin}
 use Rattle.rows_machine.proofs.part_rows.push_parts.Given as goal
 
 abbrev pub invariant-loop-index : goal.invariant-loop-index

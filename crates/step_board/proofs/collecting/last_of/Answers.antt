@@ -1,5 +1,5 @@
 use Rattle.std.proofs.Common.{◌<◌, length, sym, subst}
-use Rattle.change_law.specs.Lawful.{EndsAs}
+use Rattle.change_spec.specs.Lawful.{EndsAs}
 use Rattle.report_types.specs.declared.report.Last.TheVariants as last
 use Rattle.quiesce_core.specs.State.{State}
 use Rattle.node_turn_laws.specs.World.{state_of}

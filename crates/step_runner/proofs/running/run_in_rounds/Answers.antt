@@ -1,6 +1,6 @@
 use Rattle.std.proofs.Common.{refl}
 use Rattle.change_board.specs.Transcripts.{entries}
-use Rattle.change_law.specs.Asked.{statements_of}
+use Rattle.change_spec.specs.Asked.{statements_of}
 use Rattle.step_runner.proofs.Lawfulness.{lawful_by, serial_by}
 use Rattle.step_runner.proofs.running.run_in_rounds.Goals as goal
 

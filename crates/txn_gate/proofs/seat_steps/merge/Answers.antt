@@ -1,7 +1,7 @@
 use Rattle.std.proofs.Common.{arith}
 use Rattle.txn_gate.proofs.AsJoined as joined
 use Rattle.txn_gate.proofs.AsSeats as seats
-use Rattle.txn_law.specs.Merging.{MergesBy}
+use Rattle.txn_spec.specs.Merging.{MergesBy}
 use Rattle.txn_gate.proofs.seat_steps.merge.Goals as goal
 
 pub load-requires : goal.load-requires

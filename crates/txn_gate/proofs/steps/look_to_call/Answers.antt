@@ -1,5 +1,5 @@
 use Rattle.std.proofs.Common.{arith}
-use Rattle.txn_law.specs.Steps.{LooksToCallBy}
+use Rattle.txn_spec.specs.Steps.{LooksToCallBy}
 use Rattle.txn_gate.proofs.AsSeats as seats
 use Rattle.txn_gate.proofs.steps.look_to_call.Goals as goal
 

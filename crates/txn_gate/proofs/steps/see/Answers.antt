@@ -1,5 +1,5 @@
 use Rattle.std.proofs.Common.{arith}
-use Rattle.txn_law.specs.Steps.{SeesBy}
+use Rattle.txn_spec.specs.Steps.{SeesBy}
 use Rattle.txn_gate.proofs.AsSeats as seats
 use Rattle.txn_gate.proofs.steps.see.Goals as goal
 

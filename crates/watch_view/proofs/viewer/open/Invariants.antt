@@ -1,5 +1,5 @@
 use Rattle.watch_view.specs.Known.{known_by}
-use Rattle.watch_view.specs.Lists.{BeginsWith}
+use Rattle.watch_lines.specs.Lists.{BeginsWith}
 use Rattle.watch_view.proofs.viewer.open.Given as goal
 
 abbrev pub invariant-loop : goal.invariant-loop

@@ -1,5 +1,5 @@
 use Rattle.std.proofs.Common.{ap, refl}
-use Rattle.txn_law.specs.declared.view.ChangeView.{ChangeView}
+use Rattle.txn_spec.specs.declared.view.ChangeView.{ChangeView}
 use Rattle.live_board.proofs.BoardLemmas.{adds_where_ok}
 use Rattle.live_board.proofs.board.LiveBoardBoard.collect.Goals as goal
 

@@ -1,5 +1,5 @@
 use Rattle.std.proofs.Common.{[], ◌∷◌, ap, refl}
-use Rattle.txn_law.specs.declared.view.ChangeView.{ChangeView}
+use Rattle.txn_spec.specs.declared.view.ChangeView.{ChangeView}
 use Rattle.txn_records.specs.declared.entry.Entry.TheVariants.{Looked}
 use Rattle.live_board.proofs.BoardLaws.{adds_seen}
 use Rattle.live_board.proofs.board.LiveBoardBoard.look.Goals as goal

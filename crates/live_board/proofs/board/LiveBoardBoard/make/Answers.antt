@@ -1,7 +1,7 @@
 use Rattle.std.proofs.Common.{◌∙◌, ap, refl, subst, sym}
 use Rattle.live_board.specs.Heirs.{with_heir}
 use Rattle.live_board.specs.Keeping.{HaveRoom}
-use Rattle.txn_law.specs.declared.view.ChangeView.{ChangeView}
+use Rattle.txn_spec.specs.declared.view.ChangeView.{ChangeView}
 use Rattle.live_board.proofs.BoardLaws.{adds_made, fits_now, sources_now}
 use Rattle.live_board.proofs.board.LiveBoardBoard.make.Goals as goal
 

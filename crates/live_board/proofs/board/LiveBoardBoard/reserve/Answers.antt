@@ -2,7 +2,7 @@ use Rattle.std.proofs.Common.{arith, ◌≡◌, ◌≤◌, ◌+◌, ◌∙◌, B
 use Rattle.std.specs.Prelude.{nat_lt}
 use Rattle.std.proofs.lemmas.Bool.{le-ltb, lt-ltb}
 use Rattle.txn_gate.specs.Seats.{record_of}
-use Rattle.txn_law.specs.Views.{change_of}
+use Rattle.txn_spec.specs.Views.{change_of}
 use Rattle.txn_records.specs.Entries.{config_of}
 use Rattle.live_board.proofs.BoardLaws.{adds_places, adds_room, same_part}
 use Rattle.live_board.proofs.board.LiveBoardBoard.reserve.Goals as goal

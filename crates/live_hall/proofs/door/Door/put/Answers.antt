@@ -1,5 +1,5 @@
 use Rattle.std.proofs.Common.{◌∙◌}
-use Rattle.base_pair_laws.proofs.PairedLaws.{seen_same}
+use Rattle.base.proofs.PairedLaws.{seen_same}
 use Rattle.live_hall.specs.Doors.{missed}
 use Rattle.live_hall.proofs.door.Door.put.Goals as goal
 

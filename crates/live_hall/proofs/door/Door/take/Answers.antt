@@ -1,5 +1,5 @@
 use Rattle.std.proofs.Common.{◌∙◌, arith, length-set, rules}
-use Rattle.base_pair_laws.proofs.PairedLaws.{after}
+use Rattle.base.proofs.PairedLaws.{after}
 use Rattle.live_hall.specs.Doors.{Opens}
 use Rattle.live_hall.specs.Houses.{FitsCell}
 use Rattle.live_hall.proofs.Missed.{taken}

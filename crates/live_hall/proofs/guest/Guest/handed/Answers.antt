@@ -2,7 +2,7 @@ use Rattle.std.proofs.Common.{◌≡◌, Some, ◌∙◌, ◌++◌, ◌∷◌, [
 use Rattle.std.specs.Prelude.{slice_get}
 use Rattle.component_trait.specs.Making.{argument_or_0, handed_over}
 use Rattle.component_trait.specs.States.{NodeState}
-use Rattle.txn_law.specs.Views.{node_at}
+use Rattle.txn_spec.specs.Views.{node_at}
 use Rattle.base.proofs.PlaceLaws.{slice_get-push_cases}
 use Rattle.state_handover.specs.contracts.any_node.AnyNodeComponent.TheImpl.{ghosts}
 use Rattle.node_host.specs.Lines as line

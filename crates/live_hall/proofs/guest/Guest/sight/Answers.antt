@@ -1,6 +1,6 @@
 use Rattle.std.proofs.Common.{◌≡◌, ◌∙◌, ◌∷◌, map, Some, refl, ap, sym}
-use Rattle.txn_law.specs.Views.{node_at}
-use Rattle.txn_law.specs.declared.view.ChangeView.{ChangeView}
+use Rattle.txn_spec.specs.Views.{node_at}
+use Rattle.txn_spec.specs.declared.view.ChangeView.{ChangeView}
 use Rattle.live_hall.specs.Lines.{seen_word}
 use Rattle.live_hall.specs.Sighting.{PastSeen, past_seen}
 use Rattle.live_hall.proofs.LineLaws.{line_with}

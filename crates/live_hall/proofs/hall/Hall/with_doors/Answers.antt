@@ -1,5 +1,5 @@
 use Rattle.std.proofs.Common.{arith, rules}
-use Rattle.base_pair_laws.proofs.PairedLaws.{all_more}
+use Rattle.base.proofs.PairedLaws.{all_more}
 use Rattle.live_hall.specs.Doors.{none_missed}
 use Rattle.live_hall.proofs.hall.Hall.with_doors.Goals as goal
 

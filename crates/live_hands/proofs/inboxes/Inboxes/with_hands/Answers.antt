@@ -1,5 +1,5 @@
 use Rattle.std.proofs.Common.{arith, rules}
-use Rattle.base_pair_laws.proofs.PairedLaws.{all_more}
+use Rattle.base.proofs.PairedLaws.{all_more}
 use Rattle.live_hands.specs.Hands.{nothing_seen}
 use Rattle.live_hands.proofs.inboxes.Inboxes.with_hands.Goals as goal
 

@@ -1,9 +1,9 @@
 use Rattle.std.proofs.Common.{◌∙◌, false, List, [], ◌∷◌, ◌++◌}
 use Rattle.report_types.specs.declared.report.HistoryLine.{HistoryLine as Line}
 use Rattle.report_types.specs.declared.report.HistoryLine.TheVariants as to
-use Rattle.change_law.specs.Asked.{after_start}
-use Rattle.change_law.specs.Follows.{start_lines}
-use Rattle.change_law.specs.Members.{lines_of_events}
+use Rattle.change_spec.specs.Asked.{after_start}
+use Rattle.change_spec.specs.Follows.{start_lines}
+use Rattle.change_spec.specs.Members.{lines_of_events}
 use Rattle.report_follows.specs.Readers.{IsBehind}
 use Rattle.report_follows.proofs.EndLemmas.{led_by}
 use Rattle.report_follows.proofs.following.Reader.begin.Goals as goal

@@ -2,8 +2,8 @@ use Rattle.std.proofs.Common.{◌∙◌, List, sym, subst}
 use Rattle.std.specs.Prelude.{◌↔◌, IsTrue}
 use Rattle.std.specs.List.Sorted.{IsStrictlyIncreasing}
 use Rattle.report_types.specs.declared.report.HistoryLine.{HistoryLine as Line}
-use Rattle.change_law.specs.Asked.{Above}
-use Rattle.change_law.specs.Follows.{IsStop}
+use Rattle.change_spec.specs.Asked.{Above}
+use Rattle.change_spec.specs.Follows.{IsStop}
 use Rattle.report_follows.specs.Fronts.{IsStopOf}
 use Rattle.report_follows.specs.Readers.{IsBehind}
 use Rattle.report_follows.proofs.StepLemmas.{at_stop, live_rise}

@@ -1,9 +1,9 @@
 use Rattle.std.proofs.Common.{◌≡◌, Bool, true, List, sym, subst}
 use Rattle.std.specs.Prelude.{IfOk}
 use Rattle.report_types.specs.declared.report.HistoryLine.{HistoryLine as Line}
-use Rattle.change_law.specs.Asked.{Above}
-use Rattle.change_law.specs.declared.steps.Step.{Step}
-use Rattle.change_law.specs.declared.steps.Step.TheVariants as steps
+use Rattle.change_spec.specs.Asked.{Above}
+use Rattle.change_spec.specs.declared.steps.Step.{Step}
+use Rattle.change_spec.specs.declared.steps.Step.TheVariants as steps
 use Rattle.report_follows.specs.Fronts.{LeadsTo}
 use Rattle.report_follows.specs.Readers.{CanGo, IsBehind, IsReadSo}
 use Rattle.report_follows.proofs.StepLemmas.{passed_to, tries}

@@ -1,8 +1,8 @@
 use Rattle.std.proofs.Common.{◌≡◌, ◌∙◌, ◌++◌, Bool, true, false, List, refl, sym, subst}
 use Rattle.std.specs.Prelude.{IfSome}
 use Rattle.report_types.specs.declared.report.HistoryLine.{HistoryLine as Line}
-use Rattle.change_law.specs.Asked.{Above, CanChange, after_change}
-use Rattle.change_law.specs.declared.steps.Step.TheVariants as steps
+use Rattle.change_spec.specs.Asked.{Above, CanChange, after_change}
+use Rattle.change_spec.specs.declared.steps.Step.TheVariants as steps
 use Rattle.change_lists.specs.Lists.{closed_by, commit_by}
 use Rattle.report_follows.specs.Fronts.{LeadsTo}
 use Rattle.report_follows.specs.Readers.{IsBehind, IsEndedSo, IsReadSo}

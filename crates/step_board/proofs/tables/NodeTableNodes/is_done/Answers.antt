@@ -1,6 +1,6 @@
 use Rattle.std.proofs.Math.Logic.{∥∥₁_map}
 use Rattle.std.proofs.Common.{refl}
-use Rattle.node_table.specs.Table as table
+use Rattle.step_board.specs.Table as table
 use Rattle.step_board.proofs.TableLemmas.{no_heir_of_live}
 use Rattle.step_board.proofs.tables.NodeTableNodes.is_done.Goals as goal
 

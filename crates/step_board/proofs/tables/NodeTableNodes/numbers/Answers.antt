@@ -1,5 +1,5 @@
 use Rattle.std.proofs.Common.{refl}
-use Rattle.node_table.specs.Table as table
+use Rattle.step_board.specs.Table as table
 use Rattle.step_board.proofs.TableLemmas.{no_heir}
 use Rattle.step_board.proofs.tables.NodeTableNodes.numbers.Goals as goal
 

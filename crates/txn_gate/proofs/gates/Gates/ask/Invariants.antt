@@ -1,4 +1,4 @@
-use Rattle.txn_law.specs.Views.{node_at, node_of}
+use Rattle.txn_spec.specs.Views.{node_at, node_of}
 use Rattle.node_gate.specs.Seats.{port_known}
 use Rattle.quiesce_core.specs.declared.event.Event.TheVariants.{Ask}
 use Rattle.txn_gate.proofs.gates.Gates.ask.Given as goal

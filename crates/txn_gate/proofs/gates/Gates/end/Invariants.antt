@@ -1,4 +1,4 @@
-use Rattle.txn_law.specs.Views.{node_at, node_of}
+use Rattle.txn_spec.specs.Views.{node_at, node_of}
 use Rattle.node_gate.specs.Seats.{port_known, value_seen}
 use Rattle.quiesce_core.specs.declared.event.Event.TheVariants.{End}
 use Rattle.txn_gate.proofs.gates.Gates.end.Given as goal

@@ -1,4 +1,4 @@
-use Rattle.txn_law.specs.Views.{node_of}
+use Rattle.txn_spec.specs.Views.{node_of}
 use Rattle.node_gate.specs.Seats.{serial_served}
 use Rattle.quiesce_core.specs.declared.event.Event.TheVariants.{Give}
 use Rattle.txn_gate.proofs.gates.Gates.give.Given as goal

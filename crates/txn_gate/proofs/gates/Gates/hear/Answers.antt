@@ -1,5 +1,5 @@
 use Rattle.std.proofs.Common.{subst, sym, None}
-use Rattle.txn_law.specs.Views.{node_of}
+use Rattle.txn_spec.specs.Views.{node_of}
 use Rattle.node_gate.specs.Answers.{HearSays}
 use Rattle.node_gate.specs.Seats.{MayHear}
 use Rattle.txn_gate.proofs.Saying.{hear_says}

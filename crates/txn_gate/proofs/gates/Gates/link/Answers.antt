@@ -1,5 +1,5 @@
 use Rattle.txn_records.specs.declared.entry.Entry.TheVariants.{Did}
-use Rattle.txn_law.specs.Views.{change_of}
+use Rattle.txn_spec.specs.Views.{change_of}
 use Rattle.quiesce_core.specs.declared.event.Event.TheVariants.{Link}
 use Rattle.txn_gate.proofs.Sizes.{linked_nodes, linked_ports, still_change, still_seats, still_tables, still_within}
 use Rattle.txn_gate.proofs.gates.Gates.link.Goals as goal

@@ -1,5 +1,5 @@
 use Rattle.txn_records.specs.declared.entry.Entry.TheVariants.{Looked}
-use Rattle.txn_law.specs.Views.{change_of}
+use Rattle.txn_spec.specs.Views.{change_of}
 use Rattle.txn_gate.proofs.Sizes.{looked_nodes, looked_ports, still_change, still_seats, still_tables, still_within}
 use Rattle.txn_gate.proofs.gates.Gates.look.Goals as goal
 

@@ -1,6 +1,6 @@
 use Rattle.std.proofs.Common.{◌∙◌, length, refl, sym}
 use Rattle.txn_records.specs.Entries.{config_of}
-use Rattle.txn_law.specs.Views.{change_of}
+use Rattle.txn_spec.specs.Views.{change_of}
 use Rattle.txn_gate.proofs.NextTables.{room_of}
 use Rattle.txn_gate.proofs.Sizes.{given_change, given_node, given_seats, given_tables, given_within, may_give}
 use Rattle.txn_gate.proofs.gates.Gates.make_slot.Goals as goal

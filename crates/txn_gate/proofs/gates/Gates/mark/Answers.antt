@@ -1,5 +1,5 @@
 use Rattle.std.proofs.Common.{length, ap}
-use Rattle.txn_law.specs.Views.{change_of}
+use Rattle.txn_spec.specs.Views.{change_of}
 use Rattle.txn_gate.proofs.Marked.{marked_config, marked_tables}
 use Rattle.txn_gate.proofs.Sizes.{still_change, still_seats, still_tables, still_within}
 use Rattle.txn_gate.proofs.gates.Gates.mark.Goals as goal

@@ -1,5 +1,5 @@
 use Rattle.std.proofs.Common.{subst, sym, None}
-use Rattle.txn_law.specs.Views.{node_at, node_of}
+use Rattle.txn_spec.specs.Views.{node_at, node_of}
 use Rattle.node_gate.specs.Answers.{SeeSays}
 use Rattle.node_gate.specs.Seats.{MaySee}
 use Rattle.txn_gate.proofs.Saying.{see_says}

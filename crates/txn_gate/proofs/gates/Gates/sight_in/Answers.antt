@@ -1,11 +1,11 @@
 use Rattle.std.proofs.Common.{◌≡◌, false, Some, None, subst, ◌∙◌, ◌∷◌, length, refl, sym, ap}
 use Rattle.std.specs.Option.{option_map}
 use Rattle.txn_records.specs.Entries.{config_of}
-use Rattle.txn_law.specs.Steps.{Seat}
+use Rattle.txn_spec.specs.Steps.{Seat}
 use Rattle.quiesce_core.specs.State.{is_live, slot}
 use Rattle.quiesce_core.specs.Words.{slot_fields_of}
 use Rattle.txn_records.specs.declared.entry.Entry.TheVariants.{Sighted}
-use Rattle.txn_law.specs.Views.{change_of, node_of}
+use Rattle.txn_spec.specs.Views.{change_of, node_of}
 use Rattle.txn_gate.proofs.NextTables.{seen_tables}
 use Rattle.txn_gate.proofs.Sighted.{config_seen, holds_sight, learned, sighted, sighted_run}
 use Rattle.txn_gate.proofs.Sizes.{still_change, still_seats, still_tables, still_within}

@@ -1,5 +1,5 @@
 use Rattle.std.proofs.Common.{◌∙◌, ap, subst, sym, None}
-use Rattle.txn_law.specs.Views.{node_at, node_of}
+use Rattle.txn_spec.specs.Views.{node_at, node_of}
 use Rattle.node_gate.specs.Answers.{TakeSays}
 use Rattle.txn_gate.specs.Calls.{taken_in}
 use Rattle.txn_gate.proofs.Saying.{take_says}

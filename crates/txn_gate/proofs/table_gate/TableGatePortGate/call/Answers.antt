@@ -1,4 +1,4 @@
-use Rattle.txn_law.specs.Views.{node_of}
+use Rattle.txn_spec.specs.Views.{node_of}
 use Rattle.txn_gate.proofs.Telling.{call_loads_told}
 use Rattle.txn_gate.proofs.table_gate.TableGatePortGate.call.Goals as goal
 

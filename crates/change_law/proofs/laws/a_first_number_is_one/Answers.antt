@@ -1,5 +1,0 @@
-use Rattle.change_law.proofs.FirstLemmas.{one_first}
-use Rattle.change_law.proofs.laws.a_first_number_is_one.Goals as goal
-
-pub returns : goal.returns
-returns c = record { one = one_first }

@@ -1,5 +1,0 @@
-use Rattle.change_law.proofs.ClosingLemmas.{closed_for}
-use Rattle.change_law.proofs.laws.only_frozen_nodes_are_closed_before_the_stop.Goals as goal
-
-pub returns : goal.returns
-returns c = record { frozen = closed_for }

@@ -1,6 +1,0 @@
-use Rattle.change_law.proofs.PlanningLaws.{moves_lead_so, planned_so}
-use Rattle.change_law.proofs.StandingLaws.{graph_by}
-use Rattle.change_law.proofs.laws.plans_and_graphs_are_found_by_tests.Goals as goal
-
-pub returns : goal.returns
-returns c = record { plan = planned_so; moves = moves_lead_so; graph = graph_by }

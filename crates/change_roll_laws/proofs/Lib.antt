@@ -1,3 +1,0 @@
-pub mod CourseLemmas
-pub mod StageLemmas
-pub mod ExistenceLemmas

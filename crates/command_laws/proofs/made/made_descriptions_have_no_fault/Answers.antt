@@ -1,5 +1,0 @@
-use Rattle.command_laws.proofs.LineLemmas.{no_faults}
-use Rattle.command_laws.proofs.made.made_descriptions_have_no_fault.Goals as goal
-
-pub returns : goal.returns
-returns c = no_faults

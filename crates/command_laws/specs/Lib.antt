@@ -1,3 +1,0 @@
-pub mod MadeScripts
-pub mod MadeTrees
-pub mod Telling

@@ -1,0 +1,83 @@
+-- What the parts of planning answer, as refusals and as changes.
+use Rattle.std.proofs.Common.{◌≡◌, ◌≢◌, false, ◌⊎◌, inl, inr, ℕ, List, [], Result, Ok, Err, IfOk, IfErr, refl, sym, subst}
+use Rattle.config_graph.specs.Graph.{Graph}
+use Rattle.config_graph.specs.declared.node.Made.{Made}
+use Rattle.change_plan.specs.Refusals.{IsRefusal}
+use Rattle.change_plan.specs.declared.error.PlanError.{PlanError}
+use Rattle.change_plan.specs.declared.error.PlanError.TheVariants.{NoMemory}
+use Rattle.command_answers.specs.DescriptionFaults.{MayRefuse, fault_words, is_no_memory}
+use Rattle.command_answers.specs.declared.error.DescriptionFault.{DescriptionFault}
+use Rattle.command_answers.specs.declared.error.DescriptionFault.TheVariants as fault
+use Rattle.command_answers.specs.declared.status.Status.{Status}
+use Rattle.command_words.specs.declared.words.TopCall.{TopCall}
+use Rattle.command_spec.specs.Descriptions.{HasGraph, IsTextRefusal, by_text}
+use Rattle.command_spec.specs.OneFile.{DescriptionAnswers, refused}
+use Rattle.command_spec.specs.Plans.{Starts, has_no_graph, HasChange, HasSteps, RefusesPlan, starts_not, gets_full, made_of_graph}
+use Rattle.command_spec.specs.Queries.{IsRefused}
+use Rattle.command_spec.specs.declared.fetched.Fetched.TheVariants.{Held}
+use Rattle.command_spec.specs.declared.query.Query.{Query}
+use Rattle.command_spec.specs.declared.query.Query.TheVariants as queries
+use Rattle.command_program.specs.Planning.{IsFull}
+use Rattle.command_program.specs.Refusals.{IsLine, IsRefusalFor}
+use Rattle.command_program.specs.declared.answer.Answer.{Answer}
+
+pub if_ok : {A E : Type 0} (r : Result A E) (P Q : A → Type 0) → ((a : A) → P a → Q a) → IfOk r P → IfOk r Q
+if_ok (Ok a) P Q leads holds = leads a holds
+if_ok (Err e) P Q leads holds = tt
+
+pub if_err : {A E : Type 0} (r : Result A E) (P Q : E → Type 0) → ((e : E) → P e → Q e) → IfErr r P → IfErr r Q
+if_err (Ok a) P Q leads holds = tt
+if_err (Err e) P Q leads holds = leads e holds
+
+-- what holds of a line and its status holds of the answer that is this line
+pub of_line :
+    {E : Type 0} (P : Status → List ℕ → Type 0) (s : Status) (line : List ℕ) (r : Result Answer E) → P s line → IfOk r (IsLine s line)
+    → IfOk r (λ answer. P answer.status answer.text.items)
+of_line P s line r holds = if_ok r (IsLine s line) (λ answer. P answer.status answer.text.items) (λ answer is. rw (is.status_is, is.text_is) holds)
+
+-- a refusal of a plan without moves
+pub full_words :
+    (old new : Graph) (made : Made) (e : PlanError) → (e ≡ NoMemory) ⊎ IsRefusal old new [] made e → MayRefuse (IsFull old new made) (fault.Plan e)
+full_words old new made e (inl memory) plain = absurd (is_memory e memory plain)
+  where
+    is_memory : (e : PlanError) → e ≡ NoMemory → is_no_memory (fault.Plan e) ≢ false
+    is_memory e none = rw none (λ is. cc)
+full_words old new made e (inr refuses) plain = record { fault = e; refuses = refuses; named = refl }
+
+pub plan_refused :
+    (text : List ℕ) (call target : TopCall) (old new : Graph) (words : List (List ℕ)) → Starts text call.top call.args old → HasGraph text target.top target.args new
+    → IsFull old new (made_of_graph old) words → RefusesPlan text call target words
+plan_refused text call target old new words starts has full =
+    subst (RefusesPlan text call target) (sym full.named) (gets_full old new full.fault starts has full.refuses)
+
+pub changed_by_steps :
+    (IsText : Graph → Graph → List ℕ → Type 0) (text : List ℕ) (call target : TopCall) (old new : Graph) (written : List ℕ) → Starts text call.top call.args old → HasGraph text target.top target.args new
+    → HasSteps IsText old new written → HasChange IsText text call target written
+changed_by_steps IsText text call target old new written starts has s = record {
+  old = old;
+  new = new;
+  starts = starts;
+  has_graph = has;
+  has_steps = s;
+}
+
+-- a refusal by way of another
+pub refused_through :
+    (P Q : List (List ℕ) → Type 0) (e : DescriptionFault) → ((words : List (List ℕ)) → P words → Q words) → MayRefuse P e → MayRefuse Q e
+refused_through P Q e leads refuses plain = leads (fault_words e) (refuses plain)
+
+-- what reading refuses, whatever is wanted
+pub reading_refused :
+    (query : Query) (text : List ℕ) (e : DescriptionFault) → MayRefuse (IsTextRefusal text) e → MayRefuse (IsRefused query text) e
+reading_refused (queries.Graph call) text e refuses plain = by_text (fault_words e) (refuses plain)
+reading_refused (queries.Change cut call target) text e refuses plain =
+    starts_not (fault_words e) (has_no_graph (fault_words e) (by_text (fault_words e) (refuses plain)))
+reading_refused (queries.Replay events) text e refuses plain = has_no_graph (fault_words e) (by_text (fault_words e) (refuses plain))
+
+-- the line that refuses what is wanted of a description
+pub query_refused :
+    {E : Type 0} (file : List ℕ) (query : Query) (text : List ℕ) (e : DescriptionFault) (r : Result Answer E) → MayRefuse (IsRefused query text) e
+    → IfOk r (IsRefusalFor file e) → IfOk r (λ answer. DescriptionAnswers file query (Held text) answer.status answer.text.items)
+query_refused file query text e r may =
+    if_ok r (IsRefusalFor file e) (λ answer. DescriptionAnswers file query (Held text) answer.status answer.text.items)
+    (λ answer is. rw (is.status_is, is.text_is) (refused text (fault_words e) (may is.plain)))

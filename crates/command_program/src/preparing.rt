@@ -1,0 +1,69 @@
+//! What a script asks of a run, before it is run.
+
+ghost use Rattle.std.specs.Prelude.{◌≡◌, ℕ, List, IfErr, IfOk, IsSome};
+ghost use Rattle.change_script.specs.ScriptFiles.{IsScript};
+ghost use Rattle.command_spec.specs.Leads.{LeadBy, falls_short};
+ghost use Rattle.command_spec.specs.Lines.{begun, FollowsLines};
+ghost use Rattle.command_spec.specs.Scripts.{lines_of_script};
+ghost use Rattle.command_program.specs.Preparing.{CanRun, IsAskedBy, Prepares, PreparesBy};
+ghost use Rattle.command_program.specs.Refusals.{EndsNoRun};
+
+use crate::taking::take_lines;
+use crate::way::Way;
+use crate::{FILE_LIMIT, Stop, fetch_file, read_script};
+use cfg_io::Shelf;
+use change_spec::{Start, Step};
+use report_types::Script;
+use std::alloc::Global;
+
+/// What a script asks for. Each step has its plan, from the graph that was named before it.
+#[derive(Debug, Drop)]
+pub struct Prepared {
+    pub start: Start,
+    pub steps: Vec<Step>,
+}
+
+/// Fetches a script and the files that it uses, and makes the graphs and plans of what it asks for.
+pub fn prepare<H: Shelf>(alloc: Global, shelf: &mut H, name: &str) -> Result<Prepared, Stop>
+    ensures prepares { Prepares (H.files shelf.old) name.now (H.failed shelf.old) (H.failed shelf.new) result }
+    ensures kept { H.files shelf.new ≡ H.files shelf.old }
+    ensures can_run { IfOk result CanRun }
+    ensures refuses { IfErr result EndsNoRun }
+{
+    let fetched = fetch_file(shelf, name, FILE_LIMIT)?;
+    let script = read_script(alloc, name, fetched)?;
+    prepare_lines(alloc, shelf, script)
+}
+
+/// The same for the lines of a script.
+fn prepare_lines<H: Shelf>(alloc: Global, shelf: &mut H, script: Script) -> Result<Prepared, Stop>
+    requires { (text : List ℕ) × IsScript text script }
+    ensures prepares { PreparesBy (LeadBy begun (lines_of_script script.lines))
+        (FollowsLines falls_short begun (lines_of_script script.lines))
+        (H.files shelf.old) (H.failed shelf.old) (H.failed shelf.new) result }
+    ensures kept { H.files shelf.new ≡ H.files shelf.old }
+    ensures can_run { IfOk result CanRun }
+    ensures refuses { IfErr result EndsNoRun }
+{
+    let mut way = Way::new(alloc);
+    take_lines(alloc, shelf, &mut way, script.lines.into_vec())?;
+    Ok(asked_by(way))
+}
+
+/// What the lines of a script asked for.
+fn asked_by(way: Way) -> Prepared
+    requires { IsSome way.start }
+    ensures { IsAskedBy way result }
+{
+    let Way {
+        start,
+        steps,
+        file: _,
+        used: _,
+        made: _,
+    } = way;
+    match start {
+        Some(start) => Prepared { start, steps },
+        None => unreachable!(),
+    }
+}

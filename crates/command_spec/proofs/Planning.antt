@@ -1,0 +1,102 @@
+-- A description isn't both refused a change and given one.
+use Rattle.std.proofs.Common.{◌≡◌, ◌∙◌, inl, inr, ℕ, ℤ, List, [], Some, length, take, slice_get, sym, ap, subst}
+use Rattle.config_graph.specs.Graph.{Graph, PathsRise, ports}
+use Rattle.config_graph.specs.declared.node.Made.{Made}
+use Rattle.config_graph.specs.declared.node.Node.{Node}
+use Rattle.change_plan.specs.Moves.{IsFit, IsGoneAt, MayMove}
+use Rattle.change_plan.specs.Refusals.{CanPlan, IsRefusal, KindsDifferIn, MoveFault}
+use Rattle.change_plan.specs.Room.{RoomFault, LacksRoomFor}
+use Rattle.change_plan.specs.declared.error.PlanError.{PlanError}
+use Rattle.change_plan.specs.declared.error.PlanError.TheVariants.{NotRemoved, NotCreated, KindsDiffer, MovedTwice, NodesFull, PortsFull, NoMemory}
+use Rattle.change_plan.specs.declared.plan_data.Move.{Move}
+use Rattle.change_plan.proofs.NodeLaws.{one_path}
+use Rattle.change_plan.proofs.RoomLaws.{no_room, one_wanted}
+use Rattle.elaborator.proofs.UniqueLaws as elaborating
+use Rattle.darwin_parser.specs.Tree.{Tree}
+use Rattle.elaborator.specs.Elaboration.{ElaboratesTo}
+use Rattle.elaborator.specs.Graph.{IsElab}
+use Rattle.elaborator.specs.Instances.{Instance, top_instance}
+use Rattle.std.proofs.lemmas.Option.{same_Some, slice_get_within}
+use Rattle.command_words.specs.declared.words.TopCall.{TopCall}
+use Rattle.command_spec.specs.Descriptions.{HasGraph}
+use Rattle.command_spec.specs.Plans.{Starts, RefusesStart, has_no_graph, is_full, HasChange, RefusesPlan, starts_not, leads_nowhere, gets_full, nothing_made, made_of_graph}
+use Rattle.command_spec.proofs.Readings as readings
+
+-- ---- room is full or not
+
+pub not_full : (old new : Graph) (made : Made) (e : PlanError) → CanPlan old new [] made → IsRefusal old new [] made e → ⊥
+not_full old new made e can (inl first) = cc (first.at)
+not_full old new made e can (inr (may, (n, p, wanted, fault))) =
+    let same = one_wanted old new n p can.nodes can.ports wanted can.wanted in
+    no_room made can.nodes can.ports e can.room (subst (λ k. RoomFault made can.nodes k e) same.1 (subst (λ k. RoomFault made k p e) same.0 fault))
+
+-- ---- moves may be made or not, where paths rise
+
+one_gone : (g h : Graph) → PathsRise g.nodes → (path : List ℕ) (i j : ℕ) → IsGoneAt g h path i → IsGoneAt g h path j → i ≡ j
+one_gone g h rise path i j a b = one_path g.nodes rise i j a.node b.node a.here b.here (a.named ∙ sym b.named)
+
+same_node : (nodes : List Node) (i j : ℕ) (m n : Node) → i ≡ j → slice_get nodes i ≡ Some m → slice_get nodes j ≡ Some n → m ≡ n
+same_node nodes i j m n same at there = same_Some m n (sym at ∙ ap (slice_get nodes) same ∙ there)
+
+module _ (old new : Graph) (old_rise : PathsRise old.nodes) (new_rise : PathsRise new.nodes) where
+  -- a move's ends have one kind each
+  not_apart : (m : Move) → IsFit old new m → KindsDifferIn old new m → ⊥
+  not_apart m fit apart =
+      let source = one_gone old new old_rise m.from fit.source apart.source fit.leads.removed apart.leads.removed in
+      let target = one_gone new old new_rise m.to fit.target apart.target fit.leads.created apart.leads.created in
+      let removed = same_node old.nodes fit.source apart.source fit.leads.removed.node apart.leads.removed.node source fit.leads.removed.here apart.leads.removed.here in
+      let created = same_node new.nodes fit.target apart.target fit.leads.created.node apart.leads.created.node target fit.leads.created.here apart.leads.created.here in
+      apart.differ (ap (λ (n : Node). n.kind) (sym removed) ∙ fit.same_kind ∙ ap (λ (n : Node). n.kind) created)
+
+  no_fault : (before : List Move) (m : Move) (e : PlanError) → MayMove old new before m → MoveFault old new before m e → ⊥
+  no_fault before m (NotRemoved p) may (is, missing) = missing (may.fit.source, may.fit.leads.removed)
+  no_fault before m (NotCreated p) may (is, gone, missing) = missing (may.fit.target, may.fit.leads.created)
+  no_fault before m (KindsDiffer p q) may (is, also, apart) = not_apart m may.fit apart
+  no_fault before m (MovedTwice p) may (fit, inl (is, from)) = may.other_source from
+  no_fault before m (MovedTwice p) may (fit, inr (is, other, to)) = may.other_target to
+  no_fault before m (NodesFull a w) may fault = fault
+  no_fault before m (PortsFull a w) may fault = fault
+  no_fault before m NoMemory may fault = fault
+
+  pub not_both : (moves : List Move) (made : Made) (e : PlanError) → CanPlan old new moves made → IsRefusal old new moves made e → ⊥
+  not_both moves made e can (inl first) =
+      no_fault (take first.count moves) first.move e (can.may_move first.count first.move (slice_get_within moves first.count first.move first.at) first.at) first.fault
+  not_both moves made e can (inr (may, (n, p, wanted, fault))) =
+      let same = one_wanted old new n p can.nodes can.ports wanted can.wanted in
+      no_room made can.nodes can.ports e can.room (subst (λ k. RoomFault made can.nodes k e) same.1 (subst (λ k. RoomFault made k p e) same.0 fault))
+
+-- ---- a description has one graph
+
+same_top : (tree : Tree) (name : List ℕ) (args : List ℤ) (t u : Instance) → top_instance tree name args ≡ Some t → top_instance tree name args ≡ Some u → t ≡ u
+same_top tree name args t u a b = same_Some t u (sym a ∙ b)
+
+pub one_graph_of : (tree : Tree) (name : List ℕ) (args : List ℤ) (g h : Graph) → ElaboratesTo tree name args g → ElaboratesTo tree name args h → g ≡ h
+one_graph_of tree name args g h a b =
+    elaborating.one_graph tree b.top g h (subst (λ t. IsElab tree t g) (same_top tree name args a.top b.top a.is_top b.is_top) a.is_elab) b.is_elab
+
+pub one_graph : (text name : List ℕ) (args : List ℤ) (g h : Graph) → HasGraph text name args g → HasGraph text name args h → g ≡ h
+one_graph text name args g h x y =
+    one_graph_of y.tree name args g h
+    (subst (λ t. ElaboratesTo t name args g) (readings.one_tree text x.tree y.tree x.checked.is_tree y.checked.is_tree) x.is.is_graph) y.is.is_graph
+
+-- ---- the laws
+
+pub never_both_start :
+    (text top : List ℕ) (args : List ℤ) (graph : Graph) (words : List (List ℕ))
+    → Starts text top args graph → RefusesStart text top args words → ⊥
+never_both_start text top args graph _ starts (has_no_graph words refuses) = readings.never_both text top args graph words starts.has_graph refuses
+never_both_start text top args graph _ starts (is_full other e has refuses) =
+    no_room nothing_made (length graph.nodes) (length (ports graph.nodes)) e starts.has_room
+    (subst (λ g. LacksRoomFor nothing_made g e) (one_graph text top args other graph has starts.has_graph) refuses)
+
+pub never_both :
+    (IsText : Graph → Graph → List ℕ → Type 0) (text : List ℕ) (call target : TopCall) (written : List ℕ) (words : List (List ℕ))
+    → HasChange IsText text call target written → RefusesPlan text call target words → ⊥
+never_both IsText text call target written _ plan (starts_not words refuses) =
+    never_both_start text call.top call.args plan.old words plan.starts refuses
+never_both IsText text call target written _ plan (leads_nowhere old words starts refuses) =
+    readings.never_both text target.top target.args plan.new words plan.has_graph refuses
+never_both IsText text call target written _ plan (gets_full old new e starts has refuses) =
+    not_full plan.old plan.new (made_of_graph plan.old) e plan.has_steps.has_room
+    (subst (λ g. IsRefusal g plan.new [] (made_of_graph g) e) (one_graph text call.top call.args old plan.old starts.has_graph plan.starts.has_graph)
+    (subst (λ g. IsRefusal old g [] (made_of_graph old) e) (one_graph text target.top target.args new plan.new has plan.has_graph) refuses))

@@ -1,9 +1,0 @@
-mod LineFolds
-mod SeenLines
-mod ApartLemmas
-mod CutLaws
-mod ThreadReports
-mod RecordLemmas
-mod CarriedLemmas
-mod FirstSights
-mod EarlyRow

@@ -1,5 +1,0 @@
-use Rattle.live_laws.proofs.CarriedLemmas.{carried}
-use Rattle.live_laws.proofs.ended.boards_carry_out_on_threads.Goals as goal
-
-pub returns : goal.returns
-returns g c = record { carried = λ statements report board r nodes alone stands taken h. carried g.B.Board statements report board r nodes alone stands taken h }

@@ -1,6 +1,0 @@
-use Rattle.std.specs.Prelude.{None}
-use Rattle.live_laws.proofs.SeenLines.{told}
-use Rattle.live_laws.proofs.laws.seats_tell_of_their_line.Goals as goal
-
-pub returns : goal.returns
-returns c = record { made = λ configuration k line seats is made. told configuration k None line seats is made }

@@ -1,5 +1,0 @@
-use Rattle.node_table.proofs.Showing.{shows_changed}
-use Rattle.node_table.proofs.table.NodeTable.perform.Goals as goal
-
-pub returns-clause-shows : goal.returns-clause-shows
-returns-clause-shows c = λ w h. shows_changed _ _ _ _ _ w c.args.event.now h c.perform.ensures.step c.requires.by_change c.requires.no_make

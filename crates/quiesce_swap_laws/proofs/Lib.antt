@@ -1,7 +1,0 @@
-pub mod DoerLaws
-mod TurnLemmas
-mod ViewLemmas
-pub mod NodeSwapLaws
-pub mod ChangeSwapLaws
-mod BarringLemmas
-mod SwapLemmas

@@ -1,5 +1,0 @@
-use Rattle.quiesce_swap_laws.proofs.BarringLemmas as laws
-use Rattle.quiesce_swap_laws.proofs.changes.closes_bar_begins.Goals as goal
-
-pub returns : goal.returns
-returns c = record { barred = laws.closes_bar_begins; free = λ s p k v allowed. allowed }

@@ -1,5 +1,0 @@
-use Rattle.quiesce_swap_laws.proofs.SwapLemmas as laws
-use Rattle.quiesce_swap_laws.proofs.swaps.independent_events_may_be_swapped.Goals as goal
-
-pub returns : goal.returns
-returns c = laws.may_be_swapped

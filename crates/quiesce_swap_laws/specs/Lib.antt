@@ -1,2 +1,0 @@
-pub mod Independence
-pub mod Swaps

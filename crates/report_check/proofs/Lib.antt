@@ -1,0 +1,15 @@
+mod DecidedLemmas
+mod LedLemmas
+mod MakingLemmas
+mod NumberLemmas
+mod OrderLemmas
+mod PartlyLemmas
+mod ReadLemmas
+mod RightLemmas
+mod ShownLemmas
+mod StandingLemmas
+mod TableLemmas
+mod AheadLemmas
+mod ClosesLemmas
+mod WayLemmas
+mod LeadingLemmas

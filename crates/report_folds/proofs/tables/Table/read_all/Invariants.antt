@@ -1,7 +1,0 @@
-use Rattle.std.proofs.Common.{◌≡◌, Some, take}
-use Rattle.report_folds.specs.Tables as tables
-use Rattle.report_folds.specs.Tables.{table_in}
-use Rattle.report_folds.proofs.tables.Table.read_all.Given as goal
-
-abbrev pub invariant-loop-line : goal.invariant-loop-line
-invariant-loop-line l = tables.read_on (table_in l.initial.self) (take l.line-index l.history) ≡ Some (table_in l.self)

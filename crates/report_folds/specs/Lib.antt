@@ -1,5 +1,0 @@
-pub mod Tables
-pub mod Makeable
-pub mod Leading
-pub mod RightAlone
-pub mod Showing

@@ -1,4 +1,0 @@
-mod AheadLemmas
-mod ClosesLemmas
-mod WayLemmas
-mod LeadingLemmas

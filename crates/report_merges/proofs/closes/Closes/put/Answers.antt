@@ -1,4 +1,0 @@
-use Rattle.report_merges.proofs.closes.Closes.put.Goals as goal
-
-pub returns : goal.returns
-returns c = λ x. rw (← c.self.view_is) (c.in_ok-insert.ensures.updates.0 x)

@@ -1,0 +1,224 @@
+-- Which transactions of a row are answered: a Begin is its source's, and a run begins a port's serial once.
+use Rattle.std.proofs.Common.{◌≡◌, ◌∙◌, ℕ, suc, ◌+◌, ◌<◌, ◌≤◌, Bool, true, false, cond, List, [], ◌∷◌, ◌++◌, append_assoc, length, Some, refl, sym, ap, subst, arith, inl, inr, ⊎_elim}
+use Rattle.std.specs.Prelude.{◌⊎◌, ◌==◌}
+use Rattle.std.specs.List.{count_by}
+use Rattle.std.proofs.lemmas.Bool.{and_from, and_parts, cases_Bool, eq-eqb, eqb-true}
+use Rattle.base.proofs.MapLaws.{count_by-append}
+use Rattle.std.proofs.lemmas.List.{append_cancel_left}
+use Rattle.std.proofs.lemmas.Option.{none-some}
+use Rattle.base.proofs.OptionLaws.{map_or_true}
+use Rattle.base.proofs.PlaceLaws.{heads_are, tails_are}
+use Rattle.config_graph.specs.declared.kind.Kind.TheVariants.{Map, Source}
+use Rattle.component_trait.specs.Fold.{after_event}
+use Rattle.component_trait.specs.States.{NodeState}
+use Rattle.quiesce_core.specs.Reach.{IsPortOf}
+use Rattle.quiesce_core.specs.Runs.{IsRun, is_begin_of, state_after}
+use Rattle.quiesce_core.specs.State.{Configuration, State, exchange, is_live, owner, slot}
+use Rattle.quiesce_core.specs.declared.event.Event.{Event}
+use Rattle.quiesce_core.specs.declared.event.Event.TheVariants.{Begin, End, Make}
+use Rattle.quiesce_core.specs.declared.state.Slot.{Slot}
+use Rattle.quiesce_core.proofs.InductionLaws.{IsNext, along, none_barred, place, unbarred}
+use Rattle.quiesce_core.proofs.AlterLaws.{reconfigured}
+use Rattle.quiesce_core.proofs.ConfigurationLaws.{owner_kept}
+use Rattle.quiesce_core.proofs.RunLaws.{runs_are_well_formed}
+use Rattle.quiesce_core.specs.Doers.{is_of_change}
+use Rattle.quiesce_core.specs.Alters.{ports_next}
+use Rattle.quiesce_core.specs.Effect.{effect}
+use Rattle.quiesce_core.specs.Legal.{Legal}
+use Rattle.config_graph.specs.declared.node.Node.{Node}
+use Rattle.quiesce_word.proofs.PhaseLaws.{answered_busy}
+use Rattle.quiesce_core.proofs.TableLaws.{gate_place}
+use Rattle.quiesce_laws.proofs.OrderLaws.{begun_count}
+use Rattle.change_round_laws.proofs.FoldLaws.{StatesAreHanded}
+use Rattle.result_laws.proofs.AtRest.{nothing_happens}
+use Rattle.result_laws.specs.Coming.{HasFolds, come}
+use Rattle.result_laws.proofs.ComingLaws.{at_place, facts, fits_of, folds_before, folds_on, stays}
+use Rattle.result_laws.proofs.Course.{Course}
+use Rattle.result_laws.proofs.Ends.{touched}
+use Rattle.result_laws.proofs.FactLaws.{of_parts}
+use Rattle.result_laws.proofs.Resting.{Begun, InRow, on_way_port, source_port}
+use Rattle.result_laws.proofs.Touching.{IsOnWay}
+
+-- ---- what is counted once stands at one place
+
+counted : {A : Type 0} (t : A → Bool) (x : A) (xs : List A) → t x ≡ true → count_by t (x ∷ xs) ≡ suc (count_by t xs)
+counted t x xs h =
+    let more_ = count_by-append t (x ∷ []) xs in
+    let one : count_by t (x ∷ []) ≡ 1 = ap (λ b. 0 + cond b 1 0) h ∙ omega arith in omega (arith, more_, one)
+
+uncounted : {A : Type 0} (t : A → Bool) (x : A) (xs : List A) → t x ≡ false → count_by t (x ∷ xs) ≡ count_by t xs
+uncounted t x xs h =
+    let more_ = count_by-append t (x ∷ []) xs in
+    let one : count_by t (x ∷ []) ≡ 0 = ap (λ b. 0 + cond b 1 0) h ∙ omega arith in omega (arith, more_, one)
+
+never_counted : {A : Type 0} (t : A → Bool) (before after : List A) (x : A) → t x ≡ true → count_by t (before ++ x ∷ after) ≡ 0 → ⊥
+never_counted t [] after x passes h = let one = counted t x after passes in absurd (omega (arith, one, h))
+never_counted t (b ∷ before) after x passes h = by (t b) refl h (never_counted t before after x passes)
+  where
+    by : (c : Bool) → t b ≡ c → count_by t (b ∷ (before ++ x ∷ after)) ≡ 0 → (count_by t (before ++ x ∷ after) ≡ 0 → ⊥) → ⊥
+    by true is h' later = let one = counted t b (before ++ x ∷ after) is in omega (arith, one, h')
+    by false is h' later = let one = uncounted t b (before ++ x ∷ after) is in later (sym one ∙ h')
+
+pub one_place_of : {A : Type 0} (t : A → Bool) (b c d e : List A) (x y : A) → b ++ x ∷ d ≡ c ++ y ∷ e → t x ≡ true → t y ≡ true → count_by t (b ++ x ∷ d) ≤ 1 → b ≡ c
+one_place_of t [] [] d e x y h tx ty few = refl
+one_place_of t [] (z ∷ c) d e x y h tx ty few =
+    let rest = tails_are x z d (c ++ y ∷ e) h in
+    let one = counted t x d tx in
+    let same : count_by t d ≡ count_by t (c ++ y ∷ e) = ap (count_by t) rest in
+    absurd (never_counted t c e y ty (omega (arith, one, few, same)))
+one_place_of t (z ∷ b) [] d e x y h tx ty few =
+    let head = heads_are z y (b ++ x ∷ d) e h in
+    let one = counted t z (b ++ x ∷ d) (ap t head ∙ ty) in
+    absurd (never_counted t b d x tx (omega (arith, one, few)))
+one_place_of t (z ∷ b) (w ∷ c) d e x y h tx ty few =
+    let rest = tails_are z w (b ++ x ∷ d) (c ++ y ∷ e) h in
+    let less : count_by t (b ++ x ∷ d) ≤ count_by t (z ∷ (b ++ x ∷ d)) = fewer (t z) refl in
+    λ i. heads_are z w (b ++ x ∷ d) (c ++ y ∷ e) h i ∷ one_place_of t b c d e x y rest tx ty (omega (arith, less, few)) i
+  where
+    fewer : (k : Bool) → t z ≡ k → count_by t (b ++ x ∷ d) ≤ count_by t (z ∷ (b ++ x ∷ d))
+    fewer true is = let one = counted t z (b ++ x ∷ d) is in omega (arith, one)
+    fewer false is = let one = uncounted t z (b ++ x ∷ d) is in omega (arith, one)
+
+-- a run begins a port's serial at one place
+pub begun_once : (es : List Event) → IsRun es → (p k v w : ℕ) (b c d e : List Event) → es ≡ b ++ Begin p k v ∷ d → es ≡ c ++ Begin p k w ∷ e → b ≡ c
+begun_once es run p k v w b c d e h h' =
+    one_place_of (is_begin_of p k) b c d e (Begin p k v) (Begin p k w) (sym h ∙ h') (begins_here v) (begins_here w)
+    (subst (λ (xs : List Event). count_by (is_begin_of p k) xs ≤ 1) h (few _ (begun_count es p k run)))
+  where
+    begins_here : (v : ℕ) → is_begin_of p k (Begin p k v) ≡ true
+    begins_here v = and_from (p == p) (k == k) (eq-eqb p p refl) (eq-eqb k k refl)
+
+    few : (q : Bool) → count_by (is_begin_of p k) es ≡ cond q 1 0 → count_by (is_begin_of p k) es ≤ 1
+    few true is = omega (arith, is)
+    few false is = omega (arith, is)
+
+-- ---- a Begin is the source's
+
+module _ (handed : StatesAreHanded) (es : List Event) (p k v : ℕ) (here : IsNext es (Begin p k v)) (run' : IsRun (es ++ Begin p k v ∷ [])) (later : HasFolds (es ++ Begin p k v ∷ [])) (past : List ℕ) where
+  pub begins_at_source : (w : InRow es past) → p ≡ w.p
+  begins_at_source w = by (w.nodes (owner (state_after es).config p) live)
+    where
+      live : is_live (state_after es).config (owner (state_after es).config p) ≡ true
+      live = (and_parts _ (is_live (state_after es).config (owner (state_after es).config p)) here.legal.live).1
+
+      port_there : IsPortOf (state_after es).config (owner (state_after es).config p) p
+      port_there = here.well.sound.ports p (gate_place (state_after es) p here.legal.live)
+
+      by : (owner (state_after es).config p ≡ w.a) ⊎ IsOnWay w.ms w.t (owner (state_after es).config p) → p ≡ w.p
+      by (inl is) = source_port handed es here.run (folds_before handed es (Begin p k v) here run' later) past w.a w.p w.row.src p (subst (λ n. IsPortOf (state_after es).config n p) is port_there)
+      by (inr on) =
+          let m = map_or_true (λ (x : Slot). x.live) (slot (state_after es).config (owner (state_after es).config p)) live in
+          let kind = on_way_port (state_after es).config (come es) w.ms w.p w.t (owner (state_after es).config p) p w.row.way on port_there in
+          let folds = folds_on handed es (Begin p k v) here run' later refl in
+          absurd (map_begins_none_of m.0.first_port p k v (come es (owner (state_after es).config p)) (come (es ++ Begin p k v ∷ []) (owner (state_after es).config p)) kind
+          (folds.mine (owner (state_after es).config p) m.0 m.1 (eq-eqb (owner (state_after es).config p) (owner (state_after es).config p) refl)))
+        where
+          map_begins_none_of : (first p j v : ℕ) (n t : NodeState) → n.kind ≡ Map → after_event first n (Begin p j v) ≡ Some t → ⊥
+          map_begins_none_of first p j v n t kind h = none-some t (sym (ap (λ x. after_event first x (Begin p j v)) (of_parts n Map n.service kind refl)) ∙ h)
+
+-- ---- a port of a source stays one
+
+pub record IsSourcePort (es : List Event) (p : ℕ) : Type 0 where
+  pub made : p < length (state_after es).config.gates
+  pub node : Slot
+  pub there : slot (state_after es).config (owner (state_after es).config p) ≡ Some node
+  pub kind : node.node.kind ≡ Source
+
+gates_grow : (c : Configuration) (e : Event) → length c.gates ≤ ports_next c e
+gates_grow c (Make n node from) = omega arith
+gates_grow c _ = omega arith
+
+source_port_next : (es : List Event) (e : Event) → IsNext es e → (p : ℕ) → IsSourcePort es p → IsSourcePort (es ++ e ∷ []) p
+source_port_next es e here p w =
+    let r = reconfigured (state_after es) e here.legal in
+    let more_ = gates_grow (state_after es).config e in
+    let long = r.ports in
+    let low = w.made in
+    let after = stays (state_after es).config (effect (state_after es) e).config e r (owner (state_after es).config p) w.node w.there in
+    let owned : owner (state_after (es ++ e ∷ [])).config p ≡ owner (state_after es).config p = ap (λ (s : State). owner s.config p) here.next ∙ owner_kept (state_after es).config (effect (state_after es) e).config e r p w.made in
+    record {
+      made = subst (λ (s : State). p < length s.config.gates) (sym here.next) (omega (arith, more_, long, low));
+      node = after.then_;
+      there = ap (slot (state_after (es ++ e ∷ [])).config) owned ∙ ap (λ (s : State). slot s.config (owner (state_after es).config p)) here.next ∙ after.there;
+      kind = ap (λ (n : Node). n.kind) after.node ∙ w.kind;
+    }
+
+pub source_port_stays : (es more_ : List Event) → IsRun (es ++ more_) → (p : ℕ) → IsSourcePort es p → IsSourcePort (es ++ more_) p
+source_port_stays es more_ run p w = along (λ xs. IsSourcePort xs p) unbarred (λ before e here free earlier. source_port_next before e here p earlier) es more_ run (none_barred more_) w
+
+-- so where it is a port of a live node, it is the row's
+pub is_port_of_row : StatesAreHanded → (es : List Event) → IsRun es → HasFolds es → (past : List ℕ) → (w : InRow es past) → (p : ℕ) → IsSourcePort es p → is_live (state_after es).config (owner (state_after es).config p) ≡ true → p ≡ w.p
+is_port_of_row handed es run folds past w p s live = by (w.nodes (owner (state_after es).config p) live)
+  where
+    port_there : IsPortOf (state_after es).config (owner (state_after es).config p) p
+    port_there = (runs_are_well_formed es run).sound.ports p s.made
+
+    by : (owner (state_after es).config p ≡ w.a) ⊎ IsOnWay w.ms w.t (owner (state_after es).config p) → p ≡ w.p
+    by (inl is) = source_port handed es run folds past w.a w.p w.row.src p (subst (λ n. IsPortOf (state_after es).config n p) is port_there)
+    by (inr on) =
+        let is_map = on_way_port (state_after es).config (come es) w.ms w.p w.t (owner (state_after es).config p) p w.row.way on port_there in
+        let is_source = (fits_of handed es run folds).kinds (owner (state_after es).config p) s.node s.there ∙ s.kind in
+        absurd (cc (sym is_map ∙ is_source))
+
+-- the transaction that an End ends in a row is the one under way there
+pub ended_here : (es : List Event) → IsRun es → (past : List ℕ) → (w : InRow es past) → (before between : List Event) (k v r : ℕ) → es ≡ before ++ Begin w.p k v ∷ between → Legal (state_after es) (End w.p k r)
+    → (b : Begun es w.p (length past + 1) w.graph) × (b.before ≡ before)
+ended_here es run past w before between k v r parts legal =
+    let b = w.begun (answered_busy (exchange (state_after es) w.p).phase legal.answered) in
+    let message = and_parts (k == (exchange (state_after es) w.p).serial) (r == (exchange (state_after es) w.p).value) legal.message in
+    let serial : k ≡ b.serial = eqb-true k (exchange (state_after es) w.p).serial message.0 ∙ b.same in
+    (b, begun_once es run w.p k (length past + 1) v b.before before b.after between (b.parts ∙ ap (λ j. b.before ++ Begin w.p j (length past + 1) ∷ b.after) (sym serial)) parts)
+
+-- ---- both ends of a transaction are in a row
+
+pub untouched_at : StatesAreHanded → (es : List Event) (e : Event) → IsNext es e → IsRun (es ++ e ∷ []) → HasFolds (es ++ e ∷ []) → is_of_change e ≡ false → (past : List ℕ) → Course es past → touched es ≡ false
+untouched_at handed es e here run' later of_node past course = ⊎_elim
+    (λ (t : touched es ≡ true).
+    absurd (nothing_happens (state_after es) (come es) (come (es ++ e ∷ [])) (facts handed es here.run (folds_before handed es e here run' later)) (course.at_rest t).still e
+    (record { legal = here.legal; of_node = of_node; folds = folds_on handed es e here run' later of_node })))
+    (λ (f : touched es ≡ false). f)
+    (cases_Bool (touched es))
+
+pub in_row_at : StatesAreHanded → (es : List Event) (e : Event) → IsNext es e → IsRun (es ++ e ∷ []) → HasFolds (es ++ e ∷ []) → is_of_change e ≡ false → (past : List ℕ) → Course es past → InRow es past
+in_row_at handed es e here run' later of_node past course = course.in_row (untouched_at handed es e here run' later of_node past course)
+
+-- two Begins at one place have one value
+value_here : (before first between after : List Event) (p k v q j w : ℕ) → before ++ Begin p k v ∷ between ≡ first ++ Begin q j w ∷ after → first ≡ before → v ≡ w
+value_here before first between after p k v q j w parts same =
+    value_of (heads_are (Begin p k v) (Begin q j w) between after (append_cancel_left before (Begin p k v ∷ between) (Begin q j w ∷ after) (parts ∙ ap (λ xs. xs ++ Begin q j w ∷ after) same)))
+  where
+    value_of : {p k v q j w : ℕ} → Begin p k v ≡ Begin q j w → v ≡ w
+    value_of h = cc h
+
+pub record Answered (es before : List Event) (p v : ℕ) (past : List ℕ) (row : InRow es past) : Type 0 where
+  pub port : p ≡ row.p
+  pub begun : Begun es row.p (length past + 1) row.graph
+  pub there : begun.before ≡ before
+  pub value : v ≡ length past + 1
+
+module _ (handed : StatesAreHanded) (all : List Event) (run : IsRun all) (folds : HasFolds all) where
+  pub answered : (before between after : List Event) (p k v r : ℕ) → all ≡ before ++ Begin p k v ∷ (between ++ End p k r ∷ after) → (past_0 : List ℕ) → Course before past_0 → (past : List ℕ)
+      → (w : InRow (before ++ Begin p k v ∷ between) past) → Answered (before ++ Begin p k v ∷ between) before p v past w
+  answered before between after p k v r parts past_0 course_0 past w =
+      let b = Begin p k v in
+      let es = before ++ b ∷ between in
+      let e = End p k r in
+      let first = at_place handed all run folds before (between ++ e ∷ after) b parts in
+      let here_0 = place before (between ++ e ∷ after) b (subst IsRun parts run) in
+      let w_0 = in_row_at handed before b here_0 first.0 first.1 refl past_0 course_0 in
+      let is_0 = begins_at_source handed before p k v here_0 first.0 first.1 past_0 w_0 in
+      let parts' : all ≡ es ++ e ∷ after = parts ∙ sym (append_assoc before (b ∷ between) (e ∷ after)) in
+      let second = at_place handed all run folds es after e parts' in
+      let here = place es after e (subst IsRun parts' run) in
+      let folds_0 = folds_before handed before b here_0 first.0 first.1 in
+      let at_first : IsSourcePort before p = record {
+        made = gate_place (state_after before) p here_0.legal.live;
+        node = w_0.row.src.made;
+        there = ap (slot (state_after before).config) (ap (owner (state_after before).config) is_0 ∙ w_0.row.src.owned) ∙ w_0.row.src.there;
+        kind = sym ((fits_of handed before here_0.run folds_0).kinds w_0.a w_0.row.src.made w_0.row.src.there) ∙ w_0.row.src.kind;
+      } in
+      let at_second = source_port_stays before (b ∷ between) here.run p at_first in
+      let live = (and_parts _ (is_live (state_after es).config (owner (state_after es).config p)) here.legal.live).1 in
+      let is = is_port_of_row handed es here.run (folds_before handed es e here second.0 second.1) past w p at_second live in
+      let ended = ended_here es here.run past w before between k v r (ap (λ q. before ++ Begin q k v ∷ between) is) (subst (λ q. Legal (state_after es) (End q k r)) is here.legal) in
+      record { port = is; begun = ended.0; there = ended.1; value = value_here before ended.0.before between ended.0.after p k v w.p ended.0.serial (length past + 1) ended.0.parts ended.1 }

@@ -1,0 +1,292 @@
+-- The course of a run of rows: behind each of its events the row stands with what went through it, or a commit is under way, and
+-- all rests.
+use Rattle.std.proofs.Common.{◌≡◌, ◌∙◌, ℕ, ◌+◌, Bool, true, false, cond, List, [], ◌∷◌, ◌++◌, append_assoc, length, Option, None, refl, sym, ap, subst, arith, inl, inr, ⊎_elim}
+use Rattle.std.specs.Prelude.{◌⊎◌, ◌||◌, ◌==◌}
+use Rattle.std.proofs.lemmas.Bool.{both_ways, cases_Bool, eq-eqb, eqb-true}
+use Rattle.std.proofs.lemmas.List.{append-nil}
+use Rattle.quiesce_laws.specs.Steps.{is_shaping}
+use Rattle.quiesce_laws.proofs.TurningLaws.{live_still, same_graph}
+use Rattle.config_graph.specs.Graph.{Graph}
+use Rattle.config_graph.specs.declared.kind.Kind.TheVariants.{Sink, Source}
+use Rattle.config_graph.specs.declared.node.Node.{Node}
+use Rattle.component_trait.specs.States.{NodeState}
+use Rattle.quiesce_word.specs.Phases.{is_idle}
+use Rattle.quiesce_word.specs.declared.phase.Phase.TheVariants as phase
+use Rattle.quiesce_core.specs.Alters.{exchange_by, exchange_next}
+use Rattle.quiesce_core.specs.declared.state.Exchange.{Exchange}
+use Rattle.quiesce_core.proofs.AlterLaws.{exchanges_next}
+use Rattle.result_laws.proofs.EventLaws.{Now, idle_passes, starts_at}
+use Rattle.quiesce_core.specs.Doers.{is_of_change}
+use Rattle.quiesce_core.specs.Legal.{Legal}
+use Rattle.quiesce_core.specs.Live.{IsGraphOf}
+use Rattle.quiesce_core.specs.Rules.{is_settled}
+use Rattle.quiesce_core.specs.Runs.{IsRun, is_doer, state_after}
+use Rattle.quiesce_core.specs.State.{State, exchange, owner, service}
+use Rattle.quiesce_core.specs.declared.event.Event.{Event}
+use Rattle.quiesce_core.specs.declared.event.Event.TheVariants as event
+use Rattle.quiesce_core.proofs.InductionLaws.{IsNext, place}
+use Rattle.quiesce_core.proofs.RunLaws.{fronts_are_runs}
+use Rattle.change_round_laws.proofs.FoldLaws.{StatesAreHanded}
+use Rattle.result_laws.specs.Rows.{IsRow}
+use Rattle.result_laws.proofs.AtRest.{nothing_happens}
+use Rattle.result_laws.proofs.Between.{calm_makes_none, one_event}
+use Rattle.result_laws.specs.Coming.{HasFolds, come}
+use Rattle.result_laws.proofs.ComingLaws.{facts, folds_before, folds_on, fronts_fold}
+use Rattle.result_laws.proofs.Ends.{IsMadeWell, MakesWell, OneEach, each_is_last, last_made, last_more, same_sink, same_source, touch_next, touched, touched_more}
+use Rattle.result_laws.proofs.Passing.{Stop, passed}
+use Rattle.result_laws.proofs.ReopeningLaws.{links_stay}
+use Rattle.result_laws.proofs.Resting.{Begun, InRow, Rest, rests}
+use Rattle.result_laws.proofs.Rising.{rises}
+use Rattle.result_laws.proofs.Rounds.{IsEndOf, SourceDoes, Stands, begins, does, ends, other, resting, under_way}
+use Rattle.result_laws.proofs.Staying.{calm_last, is_reopen, rest_stays}
+
+pub record Course (es : List Event) (past : List ℕ) : Type 0 where
+  pub in_row : touched es ≡ false → InRow es past
+  pub at_rest : touched es ≡ true → Rest es past
+
+-- one more item, by the End of the source's transaction
+pub record Grown (es : List Event) (e : Event) (past next : List ℕ) : Type 0 where
+  pub row : InRow es past
+  pub end_ : IsEndOf e row.p
+  pub more_ : next ≡ past ++ passed (length past + 1) row.ms ∷ []
+
+pub record CourseNext (es : List Event) (e : Event) (past : List ℕ) : Type 0 where
+  pub next : List ℕ
+  pub course : Course (es ++ e ∷ []) next
+  pub grows : (next ≡ past) ⊎ Grown es e past next
+
+pub record RowAt (es : List Event) : Type 0 where
+  pub graph : Graph
+  pub stands : IsGraphOf (state_after es).config graph
+  pub is_row : IsRow graph
+
+record RowOn (es : List Event) (e : Event) (past : List ℕ) : Type 0 where
+  next : List ℕ
+  in_row : InRow (es ++ e ∷ []) next
+  grows : (next ≡ past) ⊎ Grown es e past next
+
+touch_calm : (e : Event) → is_shaping e ≡ false → touch_next false e ≡ false
+touch_calm (event.Make n node from) h = absurd (both_ways true h refl)
+touch_calm (event.Link p n x) h = absurd (both_ways true h refl)
+touch_calm (event.Unlink p) h = absurd (both_ways true h refl)
+touch_calm (event.Remove n) h = absurd (both_ways true h refl)
+touch_calm _ h = refl
+
+pub start_course : Course [] []
+start_course = record {
+  in_row = λ h. absurd (both_ways true h refl);
+  at_rest = λ h. record { still = record { idle = λ q. refl; opened = λ q open_. absurd (both_ways true open_ refl) }; ends = record { count = refl; items = refl }; few = λ q live kind. omega arith };
+}
+
+-- a port that isn't idle keeps its serial
+serial_stays : (s : State) (e : Event) → Legal s e → (p : ℕ) → is_idle (exchange s p).phase ≡ false → (exchange_next s p e).serial ≡ (exchange s p).serial
+serial_stays s (event.Begin q k v) legal p busy = by (q == p) refl
+  where
+    by : (b : Bool) → (q == p) ≡ b → (cond b (record { phase = phase.Asked; serial = k; value = v; within = None }) (exchange s p)).serial ≡ (exchange s p).serial
+    by true is = absurd (both_ways (is_idle (exchange s p).phase) busy (sym (ap (λ i. is_idle (exchange s i).phase) (eqb-true q p is)) ∙ legal.idle))
+    by false is = refl
+serial_stays s (event.Call q k v) legal p busy = by (q == p) refl
+  where
+    by : (b : Bool) → (q == p) ≡ b → (cond b (exchange_by (service s (owner s.config p)) (exchange s p) (event.Call q k v)) (exchange s p)).serial ≡ (exchange s p).serial
+    by true is = absurd (both_ways (is_idle (exchange s p).phase) busy (sym (ap (λ i. is_idle (exchange s i).phase) (eqb-true q p is)) ∙ legal.idle))
+    by false is = refl
+serial_stays s (event.Give q k v) legal p busy = by (q == p)
+  where
+    by : (b : Bool) → (cond b (exchange_by (service s (owner s.config p)) (exchange s p) (event.Give q k v)) (exchange s p)).serial ≡ (exchange s p).serial
+    by true = refl
+    by false = refl
+serial_stays s (event.More q k v) legal p busy = by (q == p)
+  where
+    by : (b : Bool) → (cond b (exchange_by (service s (owner s.config p)) (exchange s p) (event.More q k v)) (exchange s p)).serial ≡ (exchange s p).serial
+    by true = refl
+    by false = refl
+serial_stays s (event.Ask q k v) legal p busy = by (q == p)
+  where
+    by : (b : Bool) → (cond b (exchange_by (service s (owner s.config p)) (exchange s p) (event.Ask q k v)) (exchange s p)).serial ≡ (exchange s p).serial
+    by true = refl
+    by false = refl
+serial_stays s (event.End q k v) legal p busy = by (q == p)
+  where
+    by : (b : Bool) → (cond b (exchange_by (service s (owner s.config p)) (exchange s p) (event.End q k v)) (exchange s p)).serial ≡ (exchange s p).serial
+    by true = refl
+    by false = refl
+serial_stays s _ legal p busy = refl
+
+starter : (s : State) (p : ℕ) (z : Event) → starts_at p z ≡ true → is_doer s (owner s.config p) z ≡ true
+starter s p (event.Begin q k v) h = eq-eqb (owner s.config q) (owner s.config p) (ap (owner s.config) (eqb-true q p h))
+starter s p (event.Call q k v) h = eq-eqb (owner s.config q) (owner s.config p) (ap (owner s.config) (eqb-true q p h))
+starter s p _ h = absurd (both_ways false refl h)
+
+starts_alone : (p : ℕ) (z : Event) → starts_at p z ≡ true → is_of_change z ≡ false
+starts_alone p (event.Begin q k v) h = refl
+starts_alone p (event.Call q k v) h = refl
+starts_alone p _ h = absurd (both_ways false refl h)
+
+pub counted : (s : State) (f : ℕ → NodeState) (a p : ℕ) (ms : List Stop) (t : ℕ) (past : List ℕ) → Stands s f a p ms t past → (f a).kept.count ≡ length past
+counted s f a p ms t past (resting idle count items few) = count
+counted s f a p ms t past (under_way d room going count items) = count
+
+module _ (handed : StatesAreHanded) (es : List Event) (e : Event) (here : IsNext es e) (run' : IsRun (es ++ e ∷ [])) (later : HasFolds (es ++ e ∷ [])) where
+  after_is : (p : ℕ) → exchange (state_after (es ++ e ∷ [])) p ≡ exchange_next (state_after es) p e
+  after_is p = ap (λ (s : State). exchange s p) here.next ∙ exchanges_next (state_after es) e here.well here.legal p
+
+  -- where the transaction began that is under way
+  begun_on : (past : List ℕ) → (w : InRow es past) → (next : List ℕ) → (next ≡ past) ⊎ (IsEndOf e w.p × (next ≡ past ++ passed (length past + 1) w.ms ∷ [])) → is_idle (exchange (state_after (es ++ e ∷ [])) w.p).phase ≡ false
+      → Begun (es ++ e ∷ []) w.p (length next + 1) w.graph
+  begun_on past w next (inr g) busy =
+      let idle : is_idle (exchange (state_after (es ++ e ∷ [])) w.p).phase ≡ true =
+      ap (λ (x : Exchange). is_idle x.phase) (after_is w.p ∙ ap (exchange_next (state_after es) w.p) g.0.is
+      ∙ ap (λ b. cond b (record { phase = phase.Idle; serial = (exchange (state_after es) w.p).serial; value = 0; within = None }) (exchange (state_after es) w.p)) (eq-eqb w.p w.p refl)) in
+      absurd (both_ways _ busy idle)
+  begun_on past w next (inl same) busy = subst (λ (n : List ℕ). Begun (es ++ e ∷ []) w.p (length n + 1) w.graph) (sym same) (by (is_idle (exchange (state_after es) w.p).phase) refl)
+    where
+      folds : HasFolds es
+      folds = folds_before handed es e here run' later
+
+      start : (z : Event) → e ≡ z → starts_at w.p z ≡ true → SourceDoes w.p (come es w.a).arg (come es w.a).kept (come (es ++ e ∷ []) w.a) z → Begun (es ++ e ∷ []) w.p (length past + 1) w.graph
+      start _ is h (begins q j v at val wants kept) =
+          let v_is = counted (state_after es) (come es) w.a w.p w.ms w.t past w.row.stands in
+          record {
+            before = es;
+            after = [];
+            serial = j;
+            parts = ap (λ z. es ++ z ∷ []) (is ∙ (λ i. event.Begin (at i) j ((val ∙ ap (λ n. n + 1) v_is) i)));
+            stands = w.stands;
+            same = ap (λ (x : Exchange). x.serial) (after_is w.p ∙ ap (exchange_next (state_after es) w.p) is
+                ∙ ap (λ b. cond b (record { phase = phase.Asked; serial = j; value = v; within = None }) (exchange (state_after es) w.p)) (eq-eqb q w.p at));
+          }
+      start _ is h (ends q j v at kept) = absurd (both_ways false refl h)
+      start _ is h (other z calm still kept) = absurd (both_ways (starts_at w.p z) (calm w.p) h)
+
+      by : (b : Bool) → is_idle (exchange (state_after es) w.p).phase ≡ b → Begun (es ++ e ∷ []) w.p (length past + 1) w.graph
+      by false was =
+          let old = w.begun was in
+          record {
+            before = old.before;
+            after = old.after ++ e ∷ [];
+            serial = old.serial;
+            parts = ap (λ xs. xs ++ e ∷ []) old.parts ∙ append_assoc old.before (event.Begin w.p old.serial (length past + 1) ∷ old.after) (e ∷ []);
+            stands = old.stands;
+            same = ap (λ (x : Exchange). x.serial) (after_is w.p) ∙ serial_stays (state_after es) e here.legal w.p was ∙ old.same;
+          }
+      by true was = ⊎_elim
+          (λ (starts : starts_at w.p e ≡ true).
+          let of_node = starts_alone w.p e starts in
+          let now : Now (state_after es) (come es) (come (es ++ e ∷ [])) e = record { legal = here.legal; of_node = of_node; folds = folds_on handed es e here run' later of_node } in
+          start e refl starts (does (state_after es) (come es) (come (es ++ e ∷ [])) (facts handed es here.run folds) e now w.a w.p w.ms w.t w.row.src w.row.way
+          (subst (λ n. is_doer (state_after es) n e ≡ true) w.row.src.owned (starter (state_after es) w.p e starts))))
+          (λ (none_ : starts_at w.p e ≡ false).
+          let same = idle_passes (state_after es) (come es) (come es) (facts handed es here.run folds) w.p e here.legal was none_ in
+          absurd (both_ways _ busy (ap (λ (s : State). is_idle (exchange s w.p).phase) here.next ∙ ap (λ (x : Exchange). is_idle x.phase) same ∙ was)))
+          (cases_Bool (starts_at w.p e))
+
+  -- a row goes on by what shapes nothing
+  row_on : is_shaping e ≡ false → (past : List ℕ) → InRow es past → RowOn es e past
+  row_on calm past w =
+      let same = links_stay es (e ∷ []) run' (ap (λ b. b || false) calm) in
+      let go = one_event handed es e here run' later calm w.a w.p w.ms w.t past w.row in
+      let lasts = calm_makes_none e calm in
+      record {
+        next = go.next;
+        in_row = record {
+          graph = w.graph;
+          stands = same_graph (state_after es).config (state_after (es ++ e ∷ [])).config w.graph same w.stands;
+          is_row = w.is_row;
+          a = w.a;
+          p = w.p;
+          ms = w.ms;
+          t = w.t;
+          row = go.row;
+          same = w.same;
+          source = last_more Source es e ∙ calm_last Source (last_made Source es) e lasts ∙ w.source;
+          sink = last_more Sink es e ∙ calm_last Sink (last_made Sink es) e lasts ∙ w.sink;
+          begun = begun_on past w go.next go.grows;
+          nodes = λ n live. w.nodes n (sym (live_still (state_after es).config (state_after (es ++ e ∷ [])).config same n) ∙ live);
+        };
+        grows = ⊎_elim (λ (still : go.next ≡ past). inl still) (λ (more_ : IsEndOf e w.p × (go.next ≡ past ++ passed (length past + 1) w.ms ∷ [])). inr (record { row = w; end_ = more_.0; more_ = more_.1 })) go.grows;
+      }
+
+  rest_on : touch_next (touched es) e ≡ true → (past : List ℕ) → Rest (es ++ e ∷ []) past → CourseNext es e past
+  rest_on touches past rest = record {
+    next = past;
+    course = record { in_row = λ h. absurd (both_ways (touched (es ++ e ∷ [])) h (touched_more es e ∙ touches)); at_rest = λ h. rest };
+    grows = inl refl;
+  }
+
+  in_row_on : touch_next (touched es) e ≡ false → (past : List ℕ) → RowOn es e past → CourseNext es e past
+  in_row_on calm past on = record {
+    next = on.next;
+    course = record { in_row = λ h. on.in_row; at_rest = λ h. absurd (both_ways (touched (es ++ e ∷ [])) (touched_more es e ∙ calm) h) };
+    grows = on.grows;
+  }
+
+  module _ (well : (n : ℕ) (node : Node) (from : Option ℕ) → e ≡ event.Make n node from → IsMadeWell es node from) (opens : (p : ℕ) → e ≡ event.Reopen p → RowAt es) (one_source : OneEach Source es) (one_sink : OneEach Sink es) where
+    -- out of a row
+    from_row : touched es ≡ false → (past : List ℕ) → InRow es past → CourseNext es e past
+    from_row calm past w = by e refl
+      where
+        calmly : is_shaping e ≡ false → CourseNext es e past
+        calmly h = in_row_on (ap (λ b. touch_next b e) calm ∙ touch_calm e h) past (row_on h past w)
+
+        ends : (n : ℕ) → is_settled (state_after es) n ≡ true → is_of_change e ≡ true → is_reopen e ≡ false → touch_next (touched es) e ≡ true → CourseNext es e past
+        ends n settled change closed touches = rest_on touches past (rest_stays handed es e here run' later change closed well past (rests handed es here.run (folds_before handed es e here run' later) past w n settled))
+
+        by : (z : Event) → e ≡ z → CourseNext es e past
+        by (event.Make n node from) is = absurd (both_ways (touched es) calm (well n node from is).behind)
+        by (event.Link p n x) is = ends (owner (state_after es).config p) (subst (Legal (state_after es)) is here.legal).settled (ap is_of_change is) (ap is_reopen is) (ap (touch_next (touched es)) is)
+        by (event.Unlink p) is = ends (owner (state_after es).config p) (subst (Legal (state_after es)) is here.legal).settled (ap is_of_change is) (ap is_reopen is) (ap (touch_next (touched es)) is)
+        by (event.Remove n) is = ends n (subst (Legal (state_after es)) is here.legal).settled (ap is_of_change is) (ap is_reopen is) (ap (touch_next (touched es)) is)
+        by _ is = calmly (ap is_shaping is)
+
+    -- out of a rest
+    from_rest : touched es ≡ true → (past : List ℕ) → Rest es past → CourseNext es e past
+    from_rest touches past rest = by e refl
+      where
+        folds : HasFolds es
+        folds = folds_before handed es e here run' later
+
+        on : is_of_change e ≡ true → is_reopen e ≡ false → touch_next true e ≡ true → CourseNext es e past
+        on change closed touch = rest_on (ap (λ b. touch_next b e) touches ∙ touch) past (rest_stays handed es e here run' later change closed well past rest)
+
+        none_of_nodes : is_of_change e ≡ false → CourseNext es e past
+        none_of_nodes of_node =
+            absurd (nothing_happens (state_after es) (come es) (come (es ++ e ∷ [])) (facts handed es here.run folds) rest.still e
+            (record { legal = here.legal; of_node = of_node; folds = folds_on handed es e here run' later of_node }))
+
+        by : (z : Event) → e ≡ z → CourseNext es e past
+        by (event.Reopen p) is =
+            let at = opens p is in
+            in_row_on (ap (touch_next (touched es)) is) past (row_on (ap is_shaping is) past (rises handed es here.run folds past at.graph at.stands at.is_row one_source one_sink rest))
+        by (event.Close p) is = on (ap is_of_change is) (ap is_reopen is) (ap (touch_next true) is)
+        by (event.Make n node from) is = on (ap is_of_change is) (ap is_reopen is) (ap (touch_next true) is)
+        by (event.Link p n x) is = on (ap is_of_change is) (ap is_reopen is) (ap (touch_next true) is)
+        by (event.Unlink p) is = on (ap is_of_change is) (ap is_reopen is) (ap (touch_next true) is)
+        by (event.Remove n) is = on (ap is_of_change is) (ap is_reopen is) (ap (touch_next true) is)
+        by _ is = none_of_nodes (ap is_of_change is)
+
+    pub step_on : (past : List ℕ) → Course es past → CourseNext es e past
+    step_on past course = ⊎_elim (λ (t : touched es ≡ true). from_rest t past (course.at_rest t)) (λ (f : touched es ≡ false). from_row f past (course.in_row f)) (cases_Bool (touched es))
+
+-- along a whole run: at each place of it, with the step from there
+pub record CourseAt (es : List Event) : Type 0 where
+  pub past : List ℕ
+  pub course : Course es past
+
+module _ (handed : StatesAreHanded) (all : List Event) (run : IsRun all) (folds : HasFolds all) (opens : (before after : List Event) (p : ℕ) → all ≡ before ++ event.Reopen p ∷ after → RowAt before) (makes : MakesWell all) where
+  pub course_next : (before after : List Event) (e : Event) → all ≡ before ++ e ∷ after → (past : List ℕ) → Course before past → CourseNext before e past
+  course_next before after e parts past course =
+      let whole = parts ∙ sym (append_assoc before (e ∷ []) after) in
+      let run' = fronts_are_runs (before ++ e ∷ []) after (subst IsRun whole run) in
+      step_on handed before e (place before after e (subst IsRun parts run)) run' (fronts_fold handed (before ++ e ∷ []) after (subst IsRun whole run) (subst HasFolds whole folds))
+      (λ n node from is. makes before after n node from (parts ∙ ap (λ z. before ++ z ∷ after) is)) (λ p is. opens before after p (parts ∙ ap (λ z. before ++ z ∷ after) is))
+      (each_is_last Source same_source all run (λ b a n node from p kind. (makes b a n node from p).source kind) before (e ∷ after) parts)
+      (each_is_last Sink same_sink all run (λ b a n node from p kind. (makes b a n node from p).sink kind) before (e ∷ after) parts) past course
+
+  course_from : (done xs after : List Event) → all ≡ done ++ (xs ++ after) → CourseAt done → CourseAt (done ++ xs)
+  course_from done [] after parts at = subst CourseAt (sym (append-nil done)) at
+  course_from done (e ∷ xs) after parts at =
+      let on = course_next done (xs ++ after) e parts at.past at.course in
+      subst CourseAt (append_assoc done (e ∷ []) xs) (course_from (done ++ e ∷ []) xs after (parts ∙ sym (append_assoc done (e ∷ []) (xs ++ after))) (record { past = on.next; course = on.course }))
+
+  pub course_at : (before after : List Event) → all ≡ before ++ after → CourseAt before
+  course_at before after parts = course_from [] before after parts (record { past = []; course = start_course })

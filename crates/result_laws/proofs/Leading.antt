@@ -1,0 +1,338 @@
+-- Ports that are open or busy lead to accounts, from branches, and to branches whose own ports lead to accounts.
+use Rattle.std.proofs.Common.{◌≡◌, ◌∙◌, ℕ, ◌+◌, ◌<◌, Bool, true, false, cond, length, Some, None, refl, sym, ap, subst, arith, inl, inr, ⊎_elim}
+use Rattle.std.specs.Prelude.{◌⊎◌, ◌==◌, ◌&&◌, nat_le, nat_lt, option_map}
+use Rattle.std.proofs.lemmas.Bool.{and_parts, both_ways, cases_Bool, eqb-true, ltb-true, not-true}
+use Rattle.std.proofs.lemmas.Option.{same_Some}
+use Rattle.base.proofs.ContainsLaws.{at_some_place}
+use Rattle.base.proofs.OptionLaws.{map_or_true}
+use Rattle.base.proofs.PlaceLaws.{slice_get-below}
+use Rattle.config_graph.specs.Cycles.{IsLinked}
+use Rattle.config_graph.specs.Graph.{Graph}
+use Rattle.config_graph.specs.Kinds.{row}
+use Rattle.config_graph.specs.Wiring.{direct}
+use Rattle.config_graph.specs.declared.kind.Kind.{Kind}
+use Rattle.config_graph.specs.declared.kind.Kind.TheVariants.{Teller, Branch, Account}
+use Rattle.config_graph.specs.declared.node.Node.{Node}
+use Rattle.config_graph.specs.declared.node.Target.{Target}
+use Rattle.component_trait.specs.States.{NodeState}
+use Rattle.quiesce_word.specs.Phases.{is_idle}
+use Rattle.quiesce_word.proofs.PhaseLaws.{serving_busy}
+use Rattle.quiesce_core.specs.Alters.{exchange_next, gate_next}
+use Rattle.quiesce_core.specs.Doers.{is_of_change, relinks}
+use Rattle.quiesce_core.specs.Effect.{effect}
+use Rattle.quiesce_core.specs.Legal.{Legal}
+use Rattle.quiesce_core.specs.Live.{IsGraphOf, StandsAt}
+use Rattle.quiesce_core.specs.Named.{AreNamed}
+use Rattle.quiesce_core.specs.Rules.{is_live_port, is_settled}
+use Rattle.quiesce_core.specs.State.{Configuration, State, depends, exchange, gate, is_live, owner, provision, service, slot, target}
+use Rattle.quiesce_core.specs.Traffic.{IsConsistent}
+use Rattle.quiesce_core.specs.WellFormed.{IsSound}
+use Rattle.quiesce_core.specs.declared.event.Event.{Event}
+use Rattle.quiesce_core.specs.declared.event.Event.TheVariants.{Begin, Call, Close, Reopen, Make, Link, Unlink, Remove}
+use Rattle.quiesce_core.specs.declared.state.Exchange.{Exchange}
+use Rattle.quiesce_core.specs.declared.state.Gate.{Gate}
+use Rattle.quiesce_core.specs.declared.state.Service.{Service}
+use Rattle.quiesce_core.specs.declared.state.Slot.{Slot}
+use Rattle.quiesce_core.proofs.AlterLaws.{exchanges_next, reconfigured}
+use Rattle.quiesce_core.proofs.ConfigurationLaws.{linked_made, owner_kept, port_is, target_kept}
+use Rattle.quiesce_core.proofs.LiveLinkLaws.{linked_at}
+use Rattle.quiesce_core.proofs.RunLaws.{node_events_keep_the_configuration}
+use Rattle.quiesce_core.proofs.SettledLaws.{settled_if}
+use Rattle.quiesce_core.proofs.StabilityLaws.{unsettled_ports_stay}
+use Rattle.result_laws.specs.Describing.{kind_at}
+use Rattle.result_laws.proofs.EventLaws.{idle_passes, nothing_there, starts_at}
+use Rattle.result_laws.proofs.FactLaws.{Facts}
+use Rattle.result_laws.specs.Banks.{IsBank, LeadsToAccount}
+use Rattle.result_laws.proofs.Offices.{IsAccount, IsOffice, IsOfKind, Office, kind_stays, no_port_of_account, of_branch, office_owned, office_stays, port_of_branch}
+
+pub data LeadsWell (c : Configuration) (q : ℕ) : Type 0 where
+  to_account : (n x : ℕ) → target c q ≡ Some (record { node = n; provide = x }) → IsAccount c n → IsOfKind c (owner c q) Branch → LeadsWell c q
+  to_branch : (b : Office) (x : ℕ) → target c q ≡ Some (record { node = b.at; provide = x }) → IsOffice c b → LeadsWell c q
+
+-- a port is open or busy
+abbrev pub InUse : State → ℕ → Type 0
+InUse s q = ((gate s.config q).closed ≡ false) ⊎ (is_idle (exchange s q).phase ≡ false)
+
+abbrev pub AllLeadWell : State → Type 0
+AllLeadWell s = (q : ℕ) (t : Target) → InUse s q → target s.config q ≡ Some t → LeadsWell s.config q
+
+-- ---- where the graph is a bank
+
+module _ (c : Configuration) (sound : IsSound c) (named : AreNamed c) (g : Graph) (is : IsGraphOf c g) (bank : IsBank g) where
+  one_stands : (n k i : ℕ) → StandsAt c g.nodes n i → StandsAt c g.nodes k i → n ≡ k
+  one_stands n k i a b = named.paths n k a.made b.made a.there b.there a.live b.live (ap (λ (x : Node). x.path) (same_Some a.made.node b.made.node (sym a.stands ∙ b.stands)))
+
+  kind_there : (n i : ℕ) (k : Kind) → StandsAt c g.nodes n i → kind_at g i ≡ Some k → IsOfKind c n k
+  kind_there n i k a h = record { made = a.made; there = a.there; kind = same_Some a.made.node.kind k (sym (ap (option_map (λ (x : Node). x.kind)) a.stands) ∙ h) }
+
+  live_stands : (n : ℕ) → is_live c n ≡ true → (i : ℕ) × StandsAt c g.nodes n i
+  live_stands n live =
+      let m = map_or_true (λ (s : Slot). s.live) (slot c n) live in
+      let listed = at_some_place g.nodes m.0.node ((is.nodes_are m.0.node).1 (n, record { made = m.0; there = m.1; live = m.2; is_node = refl })) in
+      (listed.0, record { made = m.0; there = m.1; live = m.2; stands = listed.1 })
+
+  -- requirement r of a branch leads to an account
+  record Led (n : ℕ) (p : ℕ) : Type 0 where
+    account : ℕ
+    leads : target c p ≡ Some (record { node = account; provide = 0 })
+    is_account : IsAccount c account
+
+  led : (n i r : ℕ) → (a : StandsAt c g.nodes n i) → LeadsToAccount g i r → Led n (a.made.first_port + r)
+  led n i r a l =
+      let k = (linked_at c g.nodes i r l.account 0).1 ((is.links_are i r l.account 0).0 l.linked) in
+      let own : owner c k.port ≡ n = one_stands (owner c k.port) n i k.from_there a in
+      let p = port_is c sound k.port a.made (linked_made c k.port (record { node = k.to; provide = 0 }) k.leads) (ap (slot c) own ∙ a.there) in
+      let here : a.made.first_port + r ≡ k.port = ap (λ j. a.made.first_port + j) (sym k.requirement) ∙ sym p.0 in
+      record { account = k.to; leads = ap (target c) here ∙ k.leads; is_account = kind_there k.to l.account Account k.to_there l.is_account }
+
+  office_at : (n i : ℕ) → (a : StandsAt c g.nodes n i) → kind_at g i ≡ Some Branch → (b : Office) × (b.at ≡ n) × IsOffice c b
+  office_at n i a kind =
+      let from = led n i 0 a (bank.from i kind) in
+      let to = led n i 1 a (bank.to i kind) in
+      let k = kind_there n i Branch a kind in
+      let b : Office = record { at = n; from = a.made.first_port; to = a.made.first_port + 1; payer = from.account; payee = to.account } in (
+        b,
+        refl,
+        record {
+          branch = record { made = a.made; there = a.there; kind = same_Some a.made.node.kind Branch (sym (ap (option_map (λ (x : Node). x.kind)) a.stands) ∙ kind); first = refl; second = refl };
+          from_leads = ap (target c) (omega arith) ∙ from.leads;
+          to_leads = to.leads;
+          payer = from.is_account;
+          payee = to.is_account;
+        },
+      )
+
+  pub leads_in_bank : (q : ℕ) (t : Target) → is_live c (owner c q) ≡ true → target c q ≡ Some t → LeadsWell c q
+  leads_in_bank q t live leads = by (bank.kinds from.0 (slice_get-below g.nodes from.0 from.1.made.node from.1.stands))
+    where
+      from : (i : ℕ) × StandsAt c g.nodes (owner c q) i
+      from = live_stands (owner c q) live
+
+      to : (j : ℕ) × StandsAt c g.nodes t.node j
+      to = live_stands t.node (sound.targets q t leads).live
+
+      made : q < length c.gates
+      made = linked_made c q t leads
+
+      linked : IsLinked g from.0 (gate c q).require to.0 t.provide
+      linked = (is.links_are from.0 (gate c q).require to.0 t.provide).1 ((linked_at c g.nodes from.0 (gate c q).require to.0 t.provide).0
+          (record { port = q; to = t.node; leads = leads; requirement = refl; from_there = from.1; to_there = to.1 }))
+
+      low : (gate c q).require < length (row from.1.made.node.kind).requires_
+      low = (port_is c sound q from.1.made made from.1.there).1
+
+      has : (k : Kind) → kind_at g from.0 ≡ Some k → length (row from.1.made.node.kind).requires_ ≡ length (row k).requires_
+      has k h = ap (λ (x : Kind). length (row x).requires_) (same_Some from.1.made.node.kind k (sym (ap (option_map (λ (x : Node). x.kind)) from.1.stands) ∙ h))
+
+      by_branch : (r : ℕ) → (gate c q).require ≡ r → LeadsToAccount g from.0 r → kind_at g from.0 ≡ Some Branch → LeadsWell c q
+      by_branch r at l kind = to_account t.node t.provide leads (account l) (kind_there (owner c q) from.0 Branch from.1 kind)
+        where
+          account : LeadsToAccount g from.0 r → IsAccount c t.node
+          account l =
+              let here : to.0 ≡ l.account = ap (λ (x : Target). x.node) (same_Some _ _ (sym (subst (λ k. IsLinked g from.0 k to.0 t.provide) at linked) ∙ l.linked)) in
+              kind_there t.node to.0 Account to.1 (ap (kind_at g) here ∙ l.is_account)
+
+      by : (kind_at g from.0 ≡ Some Teller) ⊎ (kind_at g from.0 ≡ Some Branch) ⊎ (kind_at g from.0 ≡ Some Account) → LeadsWell c q
+      by (inl teller) =
+          let o = office_at t.node to.0 to.1 (bank.tellers from.0 (gate c q).require to.0 t.provide teller linked) in
+          to_branch o.0 t.provide (leads ∙ ap (λ n. Some (record { node = n; provide = t.provide })) (sym o.1)) o.2
+      by (inr (inl branch)) = ⊎_elim
+          (λ (e : (gate c q).require ≡ 0). by_branch 0 e (bank.from from.0 branch) branch)
+          (λ (ne : (gate c q).require ≡ 0 → ⊥). by_branch 1 (omega (arith, ne, low, has Branch branch)) (bank.to from.0 branch) branch)
+          (Rattle.std.proofs.lemmas.Bool.cases_eq (gate c q).require 0)
+      by (inr (inr account)) = absurd (omega (arith, low, has Account account))
+
+-- ---- what an event leaves
+
+module _ (s : State) (f : ℕ → NodeState) (facts : Facts s f) (e : Event) (legal : Legal s e) where
+  abbrev after : State
+  after = effect s e
+
+  -- a port keeps what it is where its target stays, and those of the branch to which it leads
+  moved_on : (q : ℕ) → target after.config q ≡ target s.config q
+      → ((b : Office) (x : ℕ) → target s.config q ≡ Some (record { node = b.at; provide = x }) → IsOffice s.config b → (target after.config b.from ≡ target s.config b.from) × (target after.config b.to ≡ target s.config b.to))
+      → LeadsWell s.config q → LeadsWell after.config q
+  moved_on q same stay (to_account n x leads a b) =
+      let r = reconfigured s e legal in
+      let own = owner_kept s.config after.config e r q (linked_made s.config q (record { node = n; provide = x }) leads) in
+      to_account n x (same ∙ leads) (kind_stays s.config after.config e r n Account a) (kind_stays s.config after.config e r (owner after.config q) Branch (subst (λ i. IsOfKind s.config i Branch) (sym own) b))
+  moved_on q same stay (to_branch b x leads o) =
+      let w = stay b x leads o in
+      to_branch b x (same ∙ leads) (office_stays s.config after.config e (reconfigured s e legal) b o w.0 w.1)
+
+  -- a node to which a port in use leads isn't settled
+  unsettled : (q n x : ℕ) → InUse s q → target s.config q ≡ Some (record { node = n; provide = x }) → is_settled s n ≡ true → ⊥
+  unsettled q n x in_use leads settled =
+      let quiet = and_parts (gate s.config q).closed (is_idle (exchange s q).phase) ((settled_if s facts.well.sound n settled).reaching q (direct leads)) in
+      by quiet in_use
+    where
+      by : ((gate s.config q).closed ≡ true) × (is_idle (exchange s q).phase ≡ true) → InUse s q → ⊥
+      by quiet (inl open_) = both_ways (gate s.config q).closed open_ quiet.0
+      by quiet (inr busy) = both_ways (is_idle (exchange s q).phase) busy quiet.1
+
+  used_on : (q : ℕ) → InUse s q → target after.config q ≡ target s.config q → LeadsWell s.config q → LeadsWell after.config q
+  used_on q in_use same = moved_on q same (λ b x leads o.
+      let own = office_owned s.config facts.well.sound b o.branch in
+      let busy : is_settled s b.at ≡ true → ⊥ = unsettled q b.at x in_use leads in
+      (unsettled_ports_stay s e legal b.from (λ h. busy (ap (is_settled s) (sym own.0) ∙ h)), unsettled_ports_stay s e legal b.to (λ h. busy (ap (is_settled s) (sym own.1) ∙ h))))
+
+  -- ---- an event of the change
+
+  -- a port in use then was in use before, and leads where it led; or it was reopened
+  data Was (q : ℕ) : Type 0 where
+    reopened : e ≡ Reopen q → is_live s.config (owner s.config q) ≡ true → target after.config q ≡ target s.config q → Was q
+    used : InUse s q → target after.config q ≡ target s.config q → Was q
+
+  quiet_port : (q : ℕ) → is_live_port s.config q ≡ true → is_settled s (owner s.config q) ≡ true → InUse s q → ⊥
+  quiet_port q live settled in_use =
+      let made = ltb-true q (length s.config.gates) (and_parts (nat_lt q (length s.config.gates)) (is_live s.config (owner s.config q)) live).0 in
+      let quiet = and_parts (gate s.config q).closed (is_idle (exchange s q).phase) ((settled_if s facts.well.sound (owner s.config q) settled).own q (facts.well.sound.ports q made)) in
+      by quiet in_use
+    where
+      by : ((gate s.config q).closed ≡ true) × (is_idle (exchange s q).phase ≡ true) → InUse s q → ⊥
+      by quiet (inl open_) = both_ways (gate s.config q).closed open_ quiet.0
+      by quiet (inr busy) = both_ways (is_idle (exchange s q).phase) busy quiet.1
+
+  was : is_of_change e ≡ true → (q : ℕ) → InUse after q → Was q
+  was change q in_use = by e refl change (gate_is e refl)
+    where
+      gate_is : (z : Event) → e ≡ z → gate after.config q ≡ gate_next s.config q z
+      gate_is z at = (reconfigured s e legal).gates q ∙ ap (gate_next s.config q) at
+
+      idle_is : (z : Event) → e ≡ z → is_of_change z ≡ true → exchange after q ≡ exchange s q
+      idle_is z at h = exchanges_next s e facts.well legal q ∙ ap (exchange_next s q) at ∙ nothing_there s q z h
+
+      -- the gate is as closed as it was
+      as_was : (z : Event) → e ≡ z → is_of_change z ≡ true → (gate after.config q).closed ≡ (gate s.config q).closed → InUse s q
+      as_was z at h same = by_use in_use
+        where
+          by_use : InUse after q → InUse s q
+          by_use (inl open_) = inl (sym same ∙ open_)
+          by_use (inr busy) = inr (sym (ap (λ (y : Exchange). is_idle y.phase) (idle_is z at h)) ∙ busy)
+
+      same_target : (z : Event) → e ≡ z → relinks q z ≡ false → target after.config q ≡ target s.config q
+      same_target z at h = target_kept s.config after.config e (reconfigured s e legal) q (ap (relinks q) at ∙ h)
+
+      -- a busy port was busy, whatever its gate is
+      closed_then : (z : Event) → e ≡ z → is_of_change z ≡ true → (gate after.config q).closed ≡ true → InUse s q
+      closed_then z at h closed = by_use in_use
+        where
+          by_use : InUse after q → InUse s q
+          by_use (inl open_) = absurd (both_ways (gate after.config q).closed open_ closed)
+          by_use (inr busy) = inr (sym (ap (λ (y : Exchange). is_idle y.phase) (idle_is z at h)) ∙ busy)
+
+      by : (z : Event) → e ≡ z → is_of_change z ≡ true → gate after.config q ≡ gate_next s.config q z → Was q
+      by (Close p) at h is = either (p == q) refl
+        where
+          either : (b : Bool) → (p == q) ≡ b → Was q
+          either true same = used (closed_then (Close p) at refl (ap (λ (y : Gate). y.closed) is ∙ ap (λ b. (cond b (record (gate s.config q) { closed = true }) (gate s.config q)).closed) same)) (same_target (Close p) at refl)
+          either false same = used (as_was (Close p) at refl (ap (λ (y : Gate). y.closed) is ∙ ap (λ b. (cond b (record (gate s.config q) { closed = true }) (gate s.config q)).closed) same)) (same_target (Close p) at refl)
+      by (Reopen p) at h is = either (p == q) refl
+        where
+          either : (b : Bool) → (p == q) ≡ b → Was q
+          either true same =
+              let one = eqb-true p q same in
+              let live : is_live_port s.config p ≡ true = (subst (Legal s) at legal).live in
+              reopened (at ∙ ap Reopen one) (ap (λ i. is_live s.config (owner s.config i)) (sym one) ∙ (and_parts (nat_lt p (length s.config.gates)) (is_live s.config (owner s.config p)) live).1) (same_target (Reopen p) at refl)
+          either false same = used (as_was (Reopen p) at refl (ap (λ (y : Gate). y.closed) is ∙ ap (λ b. (cond b (record (gate s.config q) { closed = false }) (gate s.config q)).closed) same)) (same_target (Reopen p) at refl)
+      by (Make n node from) at h is = either (nat_le (length s.config.gates) q && nat_lt q (length s.config.gates + length (row node.kind).requires_)) refl
+        where
+          either : (b : Bool) → (nat_le (length s.config.gates) q && nat_lt q (length s.config.gates + length (row node.kind).requires_)) ≡ b → Was q
+          either true same = used (closed_then (Make n node from) at refl (ap (λ (y : Gate). y.closed) is ∙ rw same refl)) (same_target (Make n node from) at refl)
+          either false same = used (as_was (Make n node from) at refl (ap (λ (y : Gate). y.closed) is ∙ rw same refl)) (same_target (Make n node from) at refl)
+      by (Link p n x) at h is = either (p == q) refl
+        where
+          either : (b : Bool) → (p == q) ≡ b → Was q
+          either true same =
+              let l = subst (Legal s) at legal in
+              let one = eqb-true p q same in
+              absurd (quiet_port q (ap (is_live_port s.config) (sym one) ∙ l.live) (ap (λ i. is_settled s (owner s.config i)) (sym one) ∙ l.settled)
+              (as_was (Link p n x) at refl (ap (λ (y : Gate). y.closed) is ∙ ap (λ b. (cond b (record (gate s.config q) { target = Some (record { node = n; provide = x }) }) (gate s.config q)).closed) same)))
+          either false same = used (as_was (Link p n x) at refl (ap (λ (y : Gate). y.closed) is ∙ ap (λ b. (cond b (record (gate s.config q) { target = Some (record { node = n; provide = x }) }) (gate s.config q)).closed) same)) (same_target (Link p n x) at same)
+      by (Unlink p) at h is = either (p == q) refl
+        where
+          either : (b : Bool) → (p == q) ≡ b → Was q
+          either true same =
+              let l = subst (Legal s) at legal in
+              let one = eqb-true p q same in
+              absurd (quiet_port q (ap (is_live_port s.config) (sym one) ∙ l.live) (ap (λ i. is_settled s (owner s.config i)) (sym one) ∙ l.settled)
+              (as_was (Unlink p) at refl (ap (λ (y : Gate). y.closed) is ∙ ap (λ b. (cond b (record (gate s.config q) { target = None }) (gate s.config q)).closed) same)))
+          either false same = used (as_was (Unlink p) at refl (ap (λ (y : Gate). y.closed) is ∙ ap (λ b. (cond b (record (gate s.config q) { target = None }) (gate s.config q)).closed) same)) (same_target (Unlink p) at same)
+      by (Remove n) at h is = used (as_was (Remove n) at refl (ap (λ (y : Gate). y.closed) is)) (same_target (Remove n) at refl)
+      by _ at h is = absurd (both_ways false refl h)
+
+  -- where it reopens a port, the graph is a bank
+  abbrev pub OpensBank : Type 0
+  OpensBank = (q : ℕ) → e ≡ Reopen q → (g : Graph) × IsGraphOf s.config g × IsBank g
+
+  by_change : is_of_change e ≡ true → AreNamed s.config → OpensBank → AllLeadWell s → AllLeadWell after
+  by_change change named opens well q t in_use leads = by (was change q in_use)
+    where
+      by : Was q → LeadsWell after.config q
+      by (used before same) = used_on q before same (well q t before (sym same ∙ leads))
+      by (reopened at live same) =
+          let g = opens q at in
+          moved_on q same (λ b x l o. (stay at b.from, stay at b.to)) (leads_in_bank s.config facts.well.sound named g.0 g.1 g.2 q t live (sym same ∙ leads))
+        where
+          stay : e ≡ Reopen q → (p : ℕ) → target after.config p ≡ target s.config p
+          stay at p = target_kept s.config after.config e (reconfigured s e legal) p (ap (relinks p) at)
+
+  -- ---- an event of a node
+
+  -- the port of a call is one of a branch, and leads to an account
+  called : (q k v : ℕ) → Legal s (Call q k v) → AllLeadWell s → (t : Target) → target s.config q ≡ Some t → LeadsWell s.config q
+  called q k v l well t leads = by (well w.0.port (record { node = owner s.config q; provide = it.provide }) (inr (serving_busy (exchange s w.0.port).phase it.busy)) it.linked)
+    where
+      w : (x : Service) × (service s (owner s.config q) ≡ Some x) × (depends s.config (owner s.config q) (provision s.config x.port) q ≡ true)
+      w = map_or_true (λ (x : Service). depends s.config (owner s.config q) (provision s.config x.port) q) (service s (owner s.config q)) l.serves_through
+
+      it : Rattle.quiesce_core.specs.Traffic.IsServing s (owner s.config q) w.0
+      it = facts.traffic.serving (owner s.config q) w.0 w.1
+
+      made : q < length s.config.gates
+      made = linked_made s.config q t leads
+
+      at_port : (b : Office) → IsOffice s.config b → b.at ≡ owner s.config q → (q ≡ b.from) ⊎ (q ≡ b.to) → LeadsWell s.config q
+      at_port b o at (inl here) = to_account b.payer 0 (ap (target s.config) here ∙ o.from_leads) o.payer (subst (λ n. IsOfKind s.config n Branch) at (of_branch s.config b o.branch))
+      at_port b o at (inr here) = to_account b.payee 0 (ap (target s.config) here ∙ o.to_leads) o.payee (subst (λ n. IsOfKind s.config n Branch) at (of_branch s.config b o.branch))
+
+      by : LeadsWell s.config w.0.port → LeadsWell s.config q
+      by (to_account n x leads' a b) =
+          let one : n ≡ owner s.config q = ap (λ (x : Target). x.node) (same_Some _ _ (sym leads' ∙ it.linked)) in
+          absurd (no_port_of_account s.config facts.well.sound n a q made (sym one))
+      by (to_branch b x leads' o) =
+          let one : b.at ≡ owner s.config q = ap (λ (x : Target). x.node) (same_Some _ _ (sym leads' ∙ it.linked)) in
+          at_port b o one (port_of_branch s.config facts.well.sound b o.branch q made (sym one))
+
+  by_node : is_of_change e ≡ false → AllLeadWell s → AllLeadWell after
+  by_node of_node well q t in_use leads =
+      let same : after.config ≡ s.config = node_events_keep_the_configuration s e of_node in
+      subst (λ c. LeadsWell c q) (sym same) (by (sym (ap (λ (c : Configuration). target c q) same) ∙ leads) (ap (λ (c : Configuration). (gate c q).closed) same) in_use)
+    where
+      started : (z : Event) → e ≡ z → starts_at q z ≡ true → target s.config q ≡ Some t → LeadsWell s.config q
+      started (Begin p k v) at h l =
+          let one = eqb-true p q h in
+          well q t (inl (ap (λ i. (gate s.config i).closed) (sym one) ∙ not-true (gate s.config p).closed (subst (Legal s) at legal).opened)) l
+      started (Call p k v) at h l =
+          let one = eqb-true p q h in
+          called q k v (subst (λ i. Legal s (Call i k v)) one (subst (Legal s) at legal)) well t l
+      started _ at h l = absurd (both_ways false refl h)
+
+      by : target s.config q ≡ Some t → (gate after.config q).closed ≡ (gate s.config q).closed → InUse after q → LeadsWell s.config q
+      by l same (inl open_) = well q t (inl (sym same ∙ open_)) l
+      by l same (inr busy) = ⊎_elim
+          (λ (idle : is_idle (exchange s q).phase ≡ true). ⊎_elim
+          (λ (starts : starts_at q e ≡ true). started e refl starts l)
+          (λ (calm : starts_at q e ≡ false).
+          absurd (both_ways (is_idle (exchange after q).phase) busy (ap (λ (y : Exchange). is_idle y.phase) (idle_passes s f f facts q e legal idle calm) ∙ idle)))
+          (cases_Bool (starts_at q e)))
+          (λ (was_busy : is_idle (exchange s q).phase ≡ false). well q t (inr was_busy) l)
+          (cases_Bool (is_idle (exchange s q).phase))
+
+  -- ---- each event keeps it
+  pub lead_on : AreNamed s.config → OpensBank → AllLeadWell s → AllLeadWell after
+  lead_on named opens well = by (is_of_change e) refl
+    where
+      by : (b : Bool) → is_of_change e ≡ b → AllLeadWell after
+      by true change = by_change change named opens well
+      by false of_node = by_node of_node well

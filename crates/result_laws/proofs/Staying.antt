@@ -1,0 +1,214 @@
+-- A rest stays by each event of the change but a reopen: all ports stay idle, and a source or a sink that is made has what the last
+-- one had.
+use Rattle.std.proofs.Common.{◌≡◌, ◌∙◌, ℕ, ◌+◌, ◌-◌, ◌<◌, ◌≤◌, Bool, true, false, cond, List, [], ◌∷◌, ◌++◌, length, Option, Some, None, refl, sym, ap, subst, arith, ⊎_elim}
+use Rattle.std.specs.Prelude.{◌==◌, ◌&&◌, nat_lt, nat_le, option_map}
+use Rattle.std.specs.Option.{option_map_or}
+use Rattle.std.proofs.lemmas.Bool.{and_parts, both_ways, cases_Bool, cases_lt, eqb-true, ne_eqb}
+use Rattle.std.proofs.lemmas.List.{get_or_past}
+use Rattle.std.proofs.lemmas.Option.{none-some, same_Some}
+use Rattle.base.proofs.PlaceLaws.{slice_get-below, slice_get-there}
+use Rattle.config_graph.specs.Kinds.{row}
+use Rattle.config_graph.specs.declared.kind.Kind.{Kind}
+use Rattle.config_graph.specs.declared.kind.Kind.TheVariants.{Map, Sink, Source}
+use Rattle.config_graph.specs.declared.node.Node.{Node}
+use Rattle.component_trait.specs.States.{Kept, NodeState}
+use Rattle.component_trait.specs.Tables.{opening}
+use Rattle.quiesce_word.specs.Phases.{is_idle}
+use Rattle.quiesce_core.specs.Alters.{Reconfigures, gate_next, slot_next}
+use Rattle.quiesce_core.specs.Doers.{is_make, is_of_change}
+use Rattle.quiesce_core.specs.Effect.{effect}
+use Rattle.quiesce_core.specs.Legal.{Legal}
+use Rattle.quiesce_core.specs.Rules.{is_kind}
+use Rattle.quiesce_core.specs.Runs.{IsRun, state_after}
+use Rattle.quiesce_core.specs.State.{Configuration, State, exchange, fresh_exchange, fresh_gate, gate, is_live, owner, slot}
+use Rattle.quiesce_core.specs.declared.event.Event.{Event}
+use Rattle.quiesce_core.specs.declared.event.Event.TheVariants as event
+use Rattle.quiesce_core.specs.declared.state.Exchange.{Exchange}
+use Rattle.quiesce_core.specs.declared.state.Gate.{Gate}
+use Rattle.quiesce_core.specs.declared.state.Slot.{Slot}
+use Rattle.quiesce_core.proofs.ConfigurationLaws.{owner_kept}
+use Rattle.quiesce_core.proofs.AlterLaws.{exchanges_next, reconfigured}
+use Rattle.quiesce_core.proofs.InductionLaws.{IsNext, always}
+use Rattle.change_round_laws.proofs.FoldLaws.{StatesAreHanded}
+use Rattle.result_laws.proofs.AtRest.{IsStill}
+use Rattle.result_laws.specs.Coming.{HasFolds, come}
+use Rattle.result_laws.proofs.EventLaws.{nothing_there}
+use Rattle.result_laws.proofs.ComingLaws.{given_to, made_has, old_stays}
+use Rattle.result_laws.proofs.Ends.{IsMadeWell, last_made, last_more, last_next, same_sink, same_source}
+use Rattle.result_laws.proofs.Resting.{Rest}
+
+abbrev pub is_reopen : Event → Bool
+is_reopen (event.Reopen p) = true
+is_reopen _ = false
+
+-- ---- the last one made is made
+
+made_next : (k : Kind) (es : List Event) (e : Event) → IsNext es e → ((a : ℕ) → last_made k es ≡ Some a → a < length (state_after es).config.slots) → (a : ℕ) → last_next k (last_made k es) e ≡ Some a
+    → a < length (effect (state_after es) e).config.slots
+made_next k es (event.Make i node from) here earlier a is =
+    let grown = (reconfigured (state_after es) (event.Make i node from) here.legal).nodes in
+    let room = and_parts (i == length (state_after es).config.slots && nat_lt i _) _ here.legal.room in
+    let slot_is : i ≡ length (state_after es).config.slots = eqb-true i (length (state_after es).config.slots) (and_parts (i == length (state_after es).config.slots) _ room.0).0 in
+    by (is_kind node.kind k) is slot_is grown
+  where
+    by : (b : Bool) → cond b (Some i) (last_made k es) ≡ Some a → i ≡ length (state_after es).config.slots → length (effect (state_after es) (event.Make i node from)).config.slots ≡ length (state_after es).config.slots + 1
+        → a < length (effect (state_after es) (event.Make i node from)).config.slots
+    by true h at grown = let one = same_Some i a h in omega (arith, at, grown, one)
+    by false h at grown = let low = earlier a h in omega (arith, low, grown)
+made_next k es (event.Begin p j v) here earlier a is = let low = earlier a is in let same = (reconfigured (state_after es) (event.Begin p j v) here.legal).nodes in omega (arith, low, same)
+made_next k es (event.Call p j v) here earlier a is = let low = earlier a is in let same = (reconfigured (state_after es) (event.Call p j v) here.legal).nodes in omega (arith, low, same)
+made_next k es (event.Miss p) here earlier a is = let low = earlier a is in let same = (reconfigured (state_after es) (event.Miss p) here.legal).nodes in omega (arith, low, same)
+made_next k es (event.Take p j v) here earlier a is = let low = earlier a is in let same = (reconfigured (state_after es) (event.Take p j v) here.legal).nodes in omega (arith, low, same)
+made_next k es (event.Give p j v) here earlier a is = let low = earlier a is in let same = (reconfigured (state_after es) (event.Give p j v) here.legal).nodes in omega (arith, low, same)
+made_next k es (event.More p j v) here earlier a is = let low = earlier a is in let same = (reconfigured (state_after es) (event.More p j v) here.legal).nodes in omega (arith, low, same)
+made_next k es (event.Ask p j v) here earlier a is = let low = earlier a is in let same = (reconfigured (state_after es) (event.Ask p j v) here.legal).nodes in omega (arith, low, same)
+made_next k es (event.Hear p j v) here earlier a is = let low = earlier a is in let same = (reconfigured (state_after es) (event.Hear p j v) here.legal).nodes in omega (arith, low, same)
+made_next k es (event.End p j v) here earlier a is = let low = earlier a is in let same = (reconfigured (state_after es) (event.End p j v) here.legal).nodes in omega (arith, low, same)
+made_next k es (event.Close p) here earlier a is = let low = earlier a is in let same = (reconfigured (state_after es) (event.Close p) here.legal).nodes in omega (arith, low, same)
+made_next k es (event.Reopen p) here earlier a is = let low = earlier a is in let same = (reconfigured (state_after es) (event.Reopen p) here.legal).nodes in omega (arith, low, same)
+made_next k es (event.Link p n x) here earlier a is = let low = earlier a is in let same = (reconfigured (state_after es) (event.Link p n x) here.legal).nodes in omega (arith, low, same)
+made_next k es (event.Unlink p) here earlier a is = let low = earlier a is in let same = (reconfigured (state_after es) (event.Unlink p) here.legal).nodes in omega (arith, low, same)
+made_next k es (event.Remove n) here earlier a is = let low = earlier a is in let same = (reconfigured (state_after es) (event.Remove n) here.legal).nodes in omega (arith, low, same)
+
+pub last_is_made : (k : Kind) (es : List Event) → IsRun es → (a : ℕ) → last_made k es ≡ Some a → a < length (state_after es).config.slots
+last_is_made k es run =
+    always (λ xs. (a : ℕ) → last_made k xs ≡ Some a → a < length (state_after xs).config.slots)
+    (λ before e here earlier a is. subst (λ (s : State). a < length s.config.slots) (sym here.next) (made_next k before e here earlier a (sym (last_more k before e) ∙ is)))
+    (λ a is. absurd (none-some a is)) es run
+
+-- ---- gates and messages
+
+-- a gate that is open behind such an event was open before it
+was_open : (c : Configuration) (e : Event) (q : ℕ) → is_reopen e ≡ false → (gate_next c q e).closed ≡ false → ((gate c q).closed ≡ false) × ((gate_next c q e).owner ≡ owner c q)
+was_open c (event.Close p) q calm h = by (p == q) h
+  where
+    by : (b : Bool) → (cond b (record (gate c q) { closed = true }) (gate c q)).closed ≡ false → ((gate c q).closed ≡ false) × ((cond b (record (gate c q) { closed = true }) (gate c q)).owner ≡ owner c q)
+    by true h = absurd (both_ways true h refl)
+    by false h = (h, refl)
+was_open c (event.Link p n x) q calm h = by (p == q) h
+  where
+    by : (b : Bool) → (cond b (record (gate c q) { target = Some (record { node = n; provide = x }) }) (gate c q)).closed ≡ false
+        → ((gate c q).closed ≡ false) × ((cond b (record (gate c q) { target = Some (record { node = n; provide = x }) }) (gate c q)).owner ≡ owner c q)
+    by true h = (h, refl)
+    by false h = (h, refl)
+was_open c (event.Unlink p) q calm h = by (p == q) h
+  where
+    by : (b : Bool) → (cond b (record (gate c q) { target = None }) (gate c q)).closed ≡ false → ((gate c q).closed ≡ false) × ((cond b (record (gate c q) { target = None }) (gate c q)).owner ≡ owner c q)
+    by true h = (h, refl)
+    by false h = (h, refl)
+was_open c (event.Make n node from) q calm h = by (nat_le (length c.gates) q && nat_lt q (length c.gates + length (row node.kind).requires_)) h
+  where
+    by : (b : Bool) → (cond b (record { owner = length c.slots; require = q - length c.gates; closed = true; target = None }) (gate c q)).closed ≡ false
+        → ((gate c q).closed ≡ false) × ((cond b (record { owner = length c.slots; require = q - length c.gates; closed = true; target = None }) (gate c q)).owner ≡ owner c q)
+    by true h = absurd (both_ways true h refl)
+    by false h = (h, refl)
+was_open c (event.Reopen p) q calm h = absurd (both_ways true calm refl)
+was_open c _ q calm h = (h, refl)
+
+-- a node that is live then was live before, where it was made
+live_before : (c d : Configuration) (e : Event) → Reconfigures c e d → (n : ℕ) → n < length c.slots → is_live d n ≡ true → is_live c n ≡ true
+live_before c d e r n low live = by e (ap (λ o. option_map_or (λ (m : Slot). m.live) o false) (sym (r.slots n)) ∙ live)
+  where
+    removed : (b : Bool) (o : Option Slot) → option_map_or (λ (m : Slot). m.live) (cond b (option_map (λ (k : Slot). record k { live = false }) o) o) false ≡ true → option_map_or (λ (m : Slot). m.live) o false ≡ true
+    removed true None h = absurd (both_ways false refl h)
+    removed true (Some m) h = absurd (both_ways false refl h)
+    removed false o h = h
+
+    by : (z : Event) → option_map_or (λ (m : Slot). m.live) (slot_next c n z) false ≡ true → is_live c n ≡ true
+    by (event.Make k node from) h = rw (ne_eqb n (length c.slots) (λ same. omega (arith, low, same))) at h
+    by (event.Remove k) h = removed (n == k) (slot c n) h
+    by _ h = h
+
+pub calm_last : (k : Kind) (o : Option ℕ) (e : Event) → is_make e ≡ false → last_next k o e ≡ o
+calm_last k o (event.Make n node from) h = absurd (both_ways true h refl)
+calm_last k o _ h = refl
+
+module _ (handed : StatesAreHanded) (es : List Event) (e : Event) (here : IsNext es e) (run' : IsRun (es ++ e ∷ [])) (later : HasFolds (es ++ e ∷ [])) (change : is_of_change e ≡ true) where
+  still_on : is_reopen e ≡ false → IsStill (state_after es) (come es) → IsStill (state_after (es ++ e ∷ [])) (come (es ++ e ∷ []))
+  still_on calm still = record {
+    idle = λ q. ap (λ (s : State). is_idle (exchange s q).phase) here.next ∙ ap (λ (x : Exchange). is_idle x.phase) (exchanges_next (state_after es) e here.well here.legal q ∙ nothing_there (state_after es) q e change) ∙ still.idle q;
+    opened = λ q open_.
+        let now : gate (state_after (es ++ e ∷ [])).config q ≡ gate_next (state_after es).config q e = ap (λ (s : State). gate s.config q) here.next ∙ (reconfigured (state_after es) e here.legal).gates q in
+        let was = was_open (state_after es).config e q calm (sym (ap (λ (g : Gate). g.closed) now) ∙ open_) in
+        let owned : owner (state_after (es ++ e ∷ [])).config q ≡ owner (state_after es).config q = ap (λ (g : Gate). g.owner) now ∙ was.1 in
+        ap (λ i. (come (es ++ e ∷ []) i).kind) owned ∙ kind_on q was.0 ∙ still.opened q was.0;
+  }
+    where
+      kind_on : (q : ℕ) → (gate (state_after es).config q).closed ≡ false → (come (es ++ e ∷ []) (owner (state_after es).config q)).kind ≡ (come es (owner (state_after es).config q)).kind
+      kind_on q open_ = ⊎_elim
+          (λ (made : q < length (state_after es).config.gates).
+          let o = here.well.sound.ports q made in ap (λ (n : NodeState). n.kind) (old_stays handed es e here run' change (owner (state_after es).config q) o.node o.made))
+          (λ (beyond : length (state_after es).config.gates ≤ q). absurd (both_ways (gate (state_after es).config q).closed open_ (ap (λ (g : Gate). g.closed) (get_or_past (state_after es).config.gates q fresh_gate beyond))))
+          (cases_lt q (length (state_after es).config.gates))
+
+  old_value : {A : Type 0} (k : Kind) (get : Kept → A) (d : A) (o : Option ℕ) → ((a : ℕ) → o ≡ Some a → a < length (state_after es).config.slots) → option_map_or (λ a. get (come (es ++ e ∷ []) a).kept) o d ≡ option_map_or (λ a. get (come es a).kept) o d
+  old_value k get d None made = refl
+  old_value k get d (Some a) made = let was = slice_get-there (state_after es).config.slots a (made a refl) in ap (λ (n : NodeState). get n.kept) (old_stays handed es e here run' change a was.0 was.1)
+
+  same_value : {A : Type 0} (k : Kind) (get : Kept → A) (d : A) → ((j : Kind) → is_kind j k ≡ true → j ≡ k) → ((x : ℕ) → get (opening k x) ≡ d)
+      → ((n : ℕ) (node : Node) (from : Option ℕ) → e ≡ event.Make n node from → node.kind ≡ k → from ≡ last_made k es)
+      → option_map_or (λ a. get (come (es ++ e ∷ []) a).kept) (last_made k (es ++ e ∷ [])) d ≡ option_map_or (λ a. get (come es a).kept) (last_made k es) d
+  same_value k get d same opens takes = ap (λ o. option_map_or (λ a. get (come (es ++ e ∷ []) a).kept) o d) (last_more k es e) ∙ by e refl
+    where
+      old_one : option_map_or (λ a. get (come (es ++ e ∷ []) a).kept) (last_made k es) d ≡ option_map_or (λ a. get (come es a).kept) (last_made k es) d
+      old_one = old_value k get d (last_made k es) (last_is_made k es here.run)
+
+      given : (node : Node) (o : Option ℕ) → node.kind ≡ k → get (given_to es node o) ≡ option_map_or (λ a. get (come es a).kept) o d
+      given node None kind = ap (λ j. get (opening j (option_map_or (λ a. a) node.arg 0))) kind ∙ opens (option_map_or (λ a. a) node.arg 0)
+      given node (Some a) kind = refl
+
+      by : (z : Event) → e ≡ z → option_map_or (λ a. get (come (es ++ e ∷ []) a).kept) (last_next k (last_made k es) z) d ≡ option_map_or (λ a. get (come es a).kept) (last_made k es) d
+      by (event.Make i node from) is = ⊎_elim
+          (λ (yes_ : is_kind node.kind k ≡ true).
+          let legal = subst (Legal (state_after es)) is here.legal in
+          let room = and_parts (i == length (state_after es).config.slots && nat_lt i _) _ legal.room in
+          let slot_is : i ≡ length (state_after es).config.slots = eqb-true i (length (state_after es).config.slots) (and_parts (i == length (state_after es).config.slots) _ room.0).0 in
+          ap (λ b. option_map_or (λ a. get (come (es ++ e ∷ []) a).kept) (cond b (Some i) (last_made k es)) d) yes_
+          ∙ ap (λ n. get (come (es ++ e ∷ []) n).kept) slot_is
+          ∙ ap (λ z. get (come (es ++ z ∷ []) (length (state_after es).config.slots)).kept) is
+          ∙ ap get (made_has handed es i node from (subst (IsNext es) is here) (subst (λ z. IsRun (es ++ z ∷ [])) is run') (subst (λ z. HasFolds (es ++ z ∷ [])) is later))
+          ∙ given node from (same node.kind yes_)
+          ∙ ap (λ o. option_map_or (λ a. get (come es a).kept) o d) (takes i node from is (same node.kind yes_)))
+          (λ (no_ : is_kind node.kind k ≡ false). ap (λ b. option_map_or (λ a. get (come (es ++ e ∷ []) a).kept) (cond b (Some i) (last_made k es)) d) no_ ∙ old_one)
+          (cases_Bool (is_kind node.kind k))
+      by _ is = old_one
+
+  -- no more transactions begin
+  few_on : (past : List ℕ) → Rest es past → (q : ℕ) → is_live (state_after (es ++ e ∷ [])).config (owner (state_after (es ++ e ∷ [])).config q) ≡ true
+      → (come (es ++ e ∷ []) (owner (state_after (es ++ e ∷ [])).config q)).kind ≡ Map → (exchange (state_after (es ++ e ∷ [])) q).serial ≤ length past
+  few_on past rest q live kind = ⊎_elim (λ (made : q < length c.gates). of_old made) (λ (beyond : length c.gates ≤ q). of_new beyond) (cases_lt q (length c.gates))
+    where
+      c : Configuration
+      c = (state_after es).config
+
+      d : Configuration
+      d = (state_after (es ++ e ∷ [])).config
+
+      r : Reconfigures (state_after es).config e (state_after (es ++ e ∷ [])).config
+      r = subst (λ (s : State). Reconfigures (state_after es).config e s.config) (sym here.next) (reconfigured (state_after es) e here.legal)
+
+      same : exchange (state_after (es ++ e ∷ [])) q ≡ exchange (state_after es) q
+      same = ap (λ (s : State). exchange s q) here.next ∙ exchanges_next (state_after es) e here.well here.legal q ∙ nothing_there (state_after es) q e change
+
+      of_old : q < length (state_after es).config.gates → (exchange (state_after (es ++ e ∷ [])) q).serial ≤ length past
+      of_old made =
+          let owned = owner_kept (state_after es).config (state_after (es ++ e ∷ [])).config e r q made in
+          let o = here.well.sound.ports q made in
+          let low = slice_get-below (state_after es).config.slots (owner (state_after es).config q) o.node o.made in
+          let was = live_before (state_after es).config (state_after (es ++ e ∷ [])).config e r (owner (state_after es).config q) low (ap (is_live (state_after (es ++ e ∷ [])).config) (sym owned) ∙ live) in
+          let kind_was = sym (ap (λ (n : NodeState). n.kind) (old_stays handed es e here run' change (owner (state_after es).config q) o.node o.made)) ∙ ap (λ i. (come (es ++ e ∷ []) i).kind) (sym owned) ∙ kind in
+          subst (λ (x : Exchange). x.serial ≤ length past) (sym same) (rest.few q was kind_was)
+
+      of_new : length (state_after es).config.gates ≤ q → (exchange (state_after (es ++ e ∷ [])) q).serial ≤ length past
+      of_new beyond =
+          let fresh = ap (λ (x : Exchange). x.serial) (same ∙ get_or_past (state_after es).traffic.exchanges q fresh_exchange (let n = here.well.exchanges in omega (arith, n, beyond))) in omega (arith, fresh)
+
+  pub rest_stays : is_reopen e ≡ false → ((n : ℕ) (node : Node) (from : Option ℕ) → e ≡ event.Make n node from → IsMadeWell es node from) → (past : List ℕ) → Rest es past → Rest (es ++ e ∷ []) past
+  rest_stays calm well past rest = record {
+    still = still_on calm rest.still;
+    ends = record {
+      count = same_value Source (λ (k : Kept). k.count) 0 same_source (λ x. refl) (λ n node from is kind. (well n node from is).source kind) ∙ rest.ends.count;
+      items = same_value Sink (λ (k : Kept). k.items) [] same_sink (λ x. refl) (λ n node from is kind. (well n node from is).sink kind) ∙ rest.ends.items;
+    };
+    few = few_on past rest;
+  }

@@ -1,0 +1,197 @@
+-- The definitions on small systems.
+use Rattle.std.proofs.Common.{◌≡◌, ◌∙◌, ℕ, zero, suc, ◌+◌, ◌<◌, Bool, false, true, List, [], ◌∷◌, ◌++◌, length, Option, Some, None, refl, sym, ap, subst, arith, inl, inr}
+use Rattle.std.specs.Prelude.{◌⊎◌, ◌||◌, All, Contains, is_some, slice_get}
+use Rattle.std.specs.List.{list_any}
+use Rattle.std.proofs.lemmas.List.Elements.{All-cons, All-head, All-nil, All-tail}
+use Rattle.std.proofs.lemmas.Bool.{both_ways, ne_eqb, or_parts}
+use Rattle.std.proofs.lemmas.List.Folds.{list_any-append}
+use Rattle.std.proofs.lemmas.Option.{none-some, same_Some}
+use Rattle.base.proofs.PlaceLaws.{heads_are, tails_are}
+use Rattle.config_graph.specs.declared.node.Target.{Target}
+use Rattle.config_graph.specs.Graph.{Graph, target_of}
+use Rattle.config_graph.specs.Cycles.{IsLinked}
+use Rattle.config_graph.specs.declared.kind.Kind.TheVariants.{Map, Sink, Source}
+use Rattle.quiesce_core.specs.Live.{IsGraphOf}
+use Rattle.quiesce_core.specs.State.{Configuration}
+use Rattle.quiesce_core.specs.declared.event.Event.TheVariants as event
+use Rattle.report_types.specs.declared.report.Last.{Last}
+use Rattle.report_types.specs.declared.report.Last.TheVariants as last
+use Rattle.change_spec.specs.Members.{Member, by_node, state_at}
+use Rattle.change_spec.specs.Standing.{is_graph_of}
+use Rattle.result_laws.specs.Items.{HasItems, IsItem, WasAnswered}
+use Rattle.result_laws.specs.Describing.{kind_at}
+use Rattle.result_laws.specs.Rows.{IsRow, LeadsThrough, through}
+use Rattle.result_laws.specs.Worked.{members, row_of_none, row_of_one, row_of_two, sink_log, source_log, under_way, until_begun, with_one_aside}
+
+two_is_row : IsRow row_of_two
+two_is_row = record {
+  source = 2;
+  maps = 3 ∷ 0 ∷ [];
+  sink = 1;
+  is_source = refl;
+  are_maps = All-cons (λ i. kind_at row_of_two i ≡ Some Map) 3 (0 ∷ []) refl (All-cons (λ i. kind_at row_of_two i ≡ Some Map) 0 [] refl (All-nil (λ i. kind_at row_of_two i ≡ Some Map)));
+  is_sink = refl;
+  no_others = each;
+  leads = (refl, (refl, refl));
+}
+  where
+    each : (i : ℕ) → i < length row_of_two.nodes → (i ≡ 2) ⊎ Contains (3 ∷ 0 ∷ []) i ⊎ (i ≡ 1)
+    each zero h = inr (inl (1, omega arith, refl))
+    each (suc zero) h = inr (inr refl)
+    each (suc (suc zero)) h = inl refl
+    each (suc (suc (suc zero))) h = inr (inl (0, omega arith, refl))
+    each (suc (suc (suc (suc i)))) h = absurd (omega (arith, h))
+
+pub two_is_so : (row : IsRow row_of_two) × (row.maps ≡ 3 ∷ 0 ∷ [])
+unfolding two_is_row
+two_is_so = (two_is_row, refl)
+
+-- 1 becomes 1 - 1 + 10, modulo 2^24, and 2 becomes 11; without maps a value stays
+pub passed_there : through row_of_two (3 ∷ 0 ∷ []) 1 ∷ through row_of_two (3 ∷ 0 ∷ []) 2 ∷ through row_of_none [] 7 ∷ [] ≡ 10 ∷ 11 ∷ 7 ∷ []
+passed_there = refl
+
+pub none_is_row : IsRow row_of_none
+none_is_row = record {
+  source = 1;
+  maps = [];
+  sink = 0;
+  is_source = refl;
+  are_maps = All-nil (λ i. kind_at row_of_none i ≡ Some Map);
+  is_sink = refl;
+  no_others = each;
+  leads = refl;
+}
+  where
+    each : (i : ℕ) → i < length row_of_none.nodes → (i ≡ 1) ⊎ Contains [] i ⊎ (i ≡ 0)
+    each zero h = inr (inr refl)
+    each (suc zero) h = inl refl
+    each (suc (suc i)) h = absurd (omega (arith, h))
+
+pub one_is_row : IsRow row_of_one
+one_is_row = record {
+  source = 0;
+  maps = 1 ∷ [];
+  sink = 2;
+  is_source = refl;
+  are_maps = All-cons (λ i. kind_at row_of_one i ≡ Some Map) 1 [] refl (All-nil (λ i. kind_at row_of_one i ≡ Some Map));
+  is_sink = refl;
+  no_others = each;
+  leads = (refl, refl);
+}
+  where
+    each : (i : ℕ) → i < length row_of_one.nodes → (i ≡ 0) ⊎ Contains (1 ∷ []) i ⊎ (i ≡ 2)
+    each zero h = inl refl
+    each (suc zero) h = inr (inl (0, omega arith, refl))
+    each (suc (suc zero)) h = inr (inr refl)
+    each (suc (suc (suc i))) h = absurd (omega (arith, h))
+
+abbrev linked_node : Option Target → ℕ
+linked_node None = 9
+linked_node (Some t) = t.node
+
+none_leads : (j : ℕ) → IsLinked with_one_aside j 0 0 0 → ⊥
+none_leads zero h = omega (arith, ap linked_node h)
+none_leads (suc zero) h = omega (arith, ap linked_node h)
+none_leads (suc (suc zero)) h = omega (arith, ap linked_node h)
+none_leads (suc (suc (suc j))) h =
+    let none_ : target_of with_one_aside.links (suc (suc (suc j))) 0 ≡ None =
+    rw (ne_eqb 0 (suc (suc (suc j))) (λ e. omega (arith, e))) (rw (ne_eqb 2 (suc (suc (suc j))) (λ e. omega (arith, e))) refl) in
+    both_ways false refl (sym (ap is_some none_) ∙ ap is_some h)
+
+led : (maps : List ℕ) (i t : ℕ) → LeadsThrough with_one_aside i maps t → Contains maps 0 → (j : ℕ) × IsLinked with_one_aside j 0 0 0
+led [] i t l c = absurd (omega (arith, c.1))
+led (m ∷ maps) i t l (zero, low, is) = (i, subst (λ k. IsLinked with_one_aside i 0 k 0) is l.0)
+led (m ∷ maps) i t l (suc k, low, is) = led maps m t l.1 (k, omega (arith, low), is)
+
+-- a map that stands aside: no way from the source leads through it
+pub aside_is_none : IsRow with_one_aside → ⊥
+aside_is_none r = by (r.no_others 0 (omega arith))
+  where
+    by : (0 ≡ r.source) ⊎ Contains r.maps 0 ⊎ (0 ≡ r.sink) → ⊥
+    by (inl is) = cc (ap (kind_at with_one_aside) is ∙ r.is_source)
+    by (inr (inl c)) = let l = led r.maps r.source r.sink r.leads c in none_leads l.0 l.1
+    by (inr (inr is)) = cc (ap (kind_at with_one_aside) is ∙ r.is_sink)
+
+-- ---- the one value that passes through one map
+
+-- each row that this graph is leads through its map
+maps_of_one : (r : IsRow row_of_one) → through row_of_one r.maps 1 ≡ 11
+maps_of_one r = by r.source r.maps r.sink r.is_source r.are_maps r.is_sink r.leads
+  where
+    to_1 : (m : ℕ) → IsLinked row_of_one 0 0 m 0 → m ≡ 1
+    to_1 m l = sym (ap linked_node l)
+
+    to_2 : (m : ℕ) → IsLinked row_of_one 1 0 m 0 → m ≡ 2
+    to_2 m l = sym (ap linked_node l)
+
+    rest : (maps : List ℕ) (t : ℕ) → All (λ i. kind_at row_of_one i ≡ Some Map) maps → LeadsThrough row_of_one 1 maps t → through row_of_one (1 ∷ maps) 1 ≡ 11
+    rest [] t are l = refl
+    rest (m ∷ maps) t are l = absurd (cc (sym (ap (kind_at row_of_one) (to_2 m l.0)) ∙ All-head (λ i. kind_at row_of_one i ≡ Some Map) m maps are))
+
+    by : (s : ℕ) (maps : List ℕ) (t : ℕ) → kind_at row_of_one s ≡ Some Source → All (λ i. kind_at row_of_one i ≡ Some Map) maps → kind_at row_of_one t ≡ Some Sink → LeadsThrough row_of_one s maps t → through row_of_one maps 1 ≡ 11
+    by zero [] t s are k l = absurd (cc (sym (ap (kind_at row_of_one) (to_1 t l)) ∙ k))
+    by zero (m ∷ maps) t s are k l =
+        let here = to_1 m l.0 in
+        ap (λ i. through row_of_one (i ∷ maps) 1) here ∙ rest maps t (All-tail (λ i. kind_at row_of_one i ≡ Some Map) m maps are) (subst (λ i. LeadsThrough row_of_one i maps t) here l.1)
+    by (suc zero) maps t s are k l = absurd (cc s)
+    by (suc (suc zero)) maps t s are k l = absurd (cc s)
+    by (suc (suc (suc i))) maps t s are k l = absurd (cc s)
+
+items_in : Last → List ℕ
+items_in (last.State xs) = xs
+items_in _ = []
+
+-- its one transaction
+abbrev one_answered : WasAnswered members 1
+one_answered = record { before = until_begun; between = under_way; after = []; port = 0; serial = 1; answer = 1; parts = refl; not_0 = λ e. omega (arith, e) }
+
+abbrev is_begun : Member → Bool
+is_begun (by_node (event.Begin p k v)) = true
+is_begun _ = false
+
+-- where there is one Begin, it stands there
+one_begun : (front before : List Member) (x y : Member) (rest after : List Member) → list_any is_begun front ≡ false → list_any is_begun rest ≡ false → is_begun y ≡ true → front ++ x ∷ rest ≡ before ++ y ∷ after → before ≡ front
+one_begun [] [] x y rest after none_ none_' is h = refl
+one_begun [] (b ∷ before) x y rest after none_ none_' is h =
+    let there : list_any is_begun (before ++ y ∷ after) ≡ true = list_any-append is_begun before (y ∷ after) ∙ ap (λ b. list_any is_begun before || (b || list_any is_begun after)) is ∙ either (list_any is_begun before) in
+    absurd (both_ways (list_any is_begun rest) none_' (ap (list_any is_begun) (tails_are x b rest (before ++ y ∷ after) h) ∙ there))
+  where
+    either : (b : Bool) → (b || true) ≡ true
+    either true = refl
+    either false = refl
+one_begun (a ∷ front) [] x y rest after none_ none_' is h =
+    absurd (both_ways (is_begun a) (or_parts (is_begun a) (list_any is_begun front) none_).0 (ap is_begun (heads_are a y (front ++ x ∷ rest) after h) ∙ is))
+one_begun (a ∷ front) (b ∷ before) x y rest after none_ none_' is h =
+    let same = sym (heads_are a b (front ++ x ∷ rest) (before ++ y ∷ after) h) in
+    let later = one_begun front before x y rest after (or_parts (is_begun a) (list_any is_begun front) none_).1 none_' is (tails_are a b (front ++ x ∷ rest) (before ++ y ∷ after) h) in
+    (λ i. same i ∷ later i)
+
+-- it is 11
+pub item_holds : ((c : Configuration) (g : Graph) → is_graph_of c g ≡ true → IsGraphOf c g) → HasItems members source_log (sink_log 11)
+item_holds found = record { items = 11 ∷ []; source_says = refl; sink_has = refl; began = begun; each = each }
+  where
+    begun : (j item : ℕ) → slice_get (11 ∷ []) j ≡ Some item → WasAnswered members (j + 1)
+    begun zero item at = one_answered
+    begun (suc j) item at = absurd (none-some item at)
+
+    each : (j item : ℕ) (b : WasAnswered members (j + 1)) → slice_get (11 ∷ []) j ≡ Some item → IsItem members (j + 1) item b
+    each zero item b at =
+        let e = by_node (event.End 0 1 1) in
+        let before : b.before ≡ until_begun =
+        one_begun until_begun b.before (by_node (event.Begin 0 1 1)) (by_node (event.Begin b.port b.serial 1)) (under_way ++ e ∷ []) (b.between ++ by_node (event.End b.port b.serial b.answer) ∷ b.after) refl refl refl b.parts in
+        record {
+          graph = row_of_one;
+          stands = subst (λ (m : List Member). IsGraphOf (state_at m).config row_of_one) (sym before) (found (state_at until_begun).config row_of_one refl);
+          row = one_is_row;
+          is = sym (same_Some 11 item at) ∙ sym (maps_of_one one_is_row);
+        }
+    each (suc j) item b at = absurd (none-some item at)
+
+-- its item is what the one map made of it, and no other number
+pub item_is : ((c : Configuration) (g : Graph) → is_graph_of c g ≡ true → IsGraphOf c g) → ((c : Configuration) (g h : Graph) → IsGraphOf c g → IsGraphOf c h → g ≡ h) → (item : ℕ) → HasItems members source_log (sink_log item) → item ≡ 11
+unfolding items_in
+item_is found one item h =
+    let has : item ∷ [] ≡ h.items = ap items_in h.sink_has in
+    let i = h.each 0 item one_answered (sym (ap (λ (xs : List ℕ). slice_get xs 0) has)) in
+    let same : i.graph ≡ row_of_one = one (state_at until_begun).config i.graph row_of_one i.stands (found (state_at until_begun).config row_of_one refl) in
+    i.is ∙ subst (λ (g : Graph). (r : IsRow g) → through g r.maps 1 ≡ 11) (sym same) maps_of_one i.row

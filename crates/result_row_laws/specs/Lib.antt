@@ -1,4 +1,0 @@
-pub mod Rows
-pub mod Keeping
-pub mod Items
-pub mod Worked

@@ -1,3 +1,0 @@
-pub mod BeginLemmas
-pub mod PieceLemmas
-pub mod PlayedLemmas
