@@ -17,3 +17,4 @@ pub mod Told
 pub mod Found
 pub mod Asked
 pub mod Heard
+pub mod Resting

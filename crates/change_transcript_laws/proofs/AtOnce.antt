@@ -30,7 +30,8 @@ use Rattle.quiesce_core.specs.declared.event.Event.{Event}
 use Rattle.quiesce_core.proofs.RunLaws.{fronts_are_runs, runs_are_well_formed}
 use Rattle.quiesce_core.proofs.TableLaws.{live_made}
 use Rattle.quiesce_core.proofs.WordLaws.{port_words_decode}
-use Rattle.change_transcript_laws.specs.Rests.{AreAtRest, AreByNodes, AreQuiet}
+use Rattle.change_spec.specs.Resting.{AreAtRest, AreByNodes}
+use Rattle.change_transcript_laws.specs.Rests.{AreQuiet}
 use Rattle.change_transcript_laws.proofs.SeenFolds.{seen_is_done, seen_there}
 use Rattle.change_transcript_laws.proofs.Shown.{events_both, log_shown}
 use Rattle.change_transcript_laws.proofs.Still.{by_nodes_parts, gone_log, log_grows, log_same_if, nothing_done, same_config}

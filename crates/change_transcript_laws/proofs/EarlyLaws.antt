@@ -28,7 +28,8 @@ use Rattle.change_spec.specs.Statements.{Statement}
 use Rattle.change_spec.proofs.MemberLaws.{all_parts, at_line, events_of_nodes, events_parts, events_without_roots, lines_parts, none_happens}
 use Rattle.change_transcript_laws.specs.Pieces.{IsTranscript, config_at}
 use Rattle.change_transcript_laws.specs.Reports.{IsReportOfTranscript}
-use Rattle.change_transcript_laws.specs.Rests.{AreByNodes, AreCalm, FinishedEarly, HaveFolds, RestedAtOnce, RestedIfShort}
+use Rattle.change_spec.specs.Resting.{AreByNodes, FinishedEarly, RestedAtOnce, RestedIfShort}
+use Rattle.change_transcript_laws.specs.Rests.{AreCalm, HaveFolds}
 use Rattle.change_transcript_laws.proofs.EndFolds.{have_folds}
 use Rattle.change_transcript_laws.proofs.EndLaws.{unfinished}
 use Rattle.change_transcript_laws.proofs.FoldLaws.{folds}

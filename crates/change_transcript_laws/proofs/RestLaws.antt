@@ -36,7 +36,8 @@ use Rattle.change_transcript_laws.proofs.Still.{same_config}
 use Rattle.quiesce_core.specs.Rules.{is_live_port}
 use Rattle.change_transcript_laws.specs.Joining.{AreJoined, Joint, of_node, of_line, of_entry, item_of, items_in, member_of, members_in, moment_of, moments_in}
 use Rattle.change_transcript_laws.specs.Pieces.{IsDone, IsTranscript, Piece, items_of}
-use Rattle.change_transcript_laws.specs.Rests.{AreAtRest, AreQuiet, RestedAtOnce, RestedIfShort}
+use Rattle.change_spec.specs.Resting.{AreAtRest, RestedAtOnce, RestedIfShort}
+use Rattle.change_transcript_laws.specs.Rests.{AreQuiet}
 use Rattle.change_transcript_laws.proofs.Shown.{events_both}
 use Rattle.change_transcript_laws.proofs.AtOnce.{all_through, at_rest, by_nodes_if, split_at, quiet_both, quiet_looks, quiet_sights}
 use Rattle.change_transcript_laws.proofs.FollowLaws.{fair_transcript, items_pushed}

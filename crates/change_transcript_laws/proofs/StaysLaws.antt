@@ -9,7 +9,8 @@ use Rattle.base.proofs.OptionLaws.{map_or_true}
 use Rattle.change_spec.specs.Lawful.{is_done, is_unfinished, unfinished_of}
 use Rattle.change_spec.specs.Statements.{Statement, is_finish}
 use Rattle.quiesce_core.proofs.StabilityLaws.{busy_is_live}
-use Rattle.change_transcript_laws.specs.Rests.{AreAtRest, AreCalm, HaveFolds}
+use Rattle.change_spec.specs.Resting.{AreAtRest}
+use Rattle.change_transcript_laws.specs.Rests.{AreCalm, HaveFolds}
 use Rattle.std.proofs.lemmas.Option.{none-some}
 use Rattle.quiesce_word.specs.Phases.{is_idle}
 use Rattle.quiesce_core.specs.Legal.{Legal}

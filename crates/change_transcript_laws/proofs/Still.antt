@@ -11,7 +11,7 @@ use Rattle.quiesce_core.specs.State.{State, empty, is_live}
 use Rattle.quiesce_core.specs.declared.event.Event.{Event}
 use Rattle.quiesce_core.proofs.LegalLaws.{legal}
 use Rattle.quiesce_core.proofs.RunLaws.{doer_there, fronts_are_runs, last_step, node_events_keep_the_configuration, runs_are_consistent, runs_are_well_formed, state_more}
-use Rattle.change_transcript_laws.specs.Rests.{AreByNodes}
+use Rattle.change_spec.specs.Resting.{AreByNodes}
 use Rattle.quiesce_laws.proofs.DoerLaws.{doer_live, gone_does_nothing}
 use Rattle.change_transcript_laws.proofs.Doers.{log_more, log_same}
 

@@ -24,7 +24,8 @@ ghost use Rattle.quiesce_core.specs.Runs.{IsRun, state_after};
 ghost use Rattle.change_transcript_laws.specs.Joining.{AreJoined};
 ghost use Rattle.change_transcript_laws.specs.Pieces.{IsTranscript};
 ghost use Rattle.change_transcript_laws.specs.Reports.{IsReportOfTranscript};
-ghost use Rattle.change_transcript_laws.specs.Rests.{AreAtRest, AreCalm, AreQuiet, FinishedEarly, HaveFolds, RestedAtOnce, RestedIfShort};
+ghost use Rattle.change_spec.specs.Resting.{AreAtRest, FinishedEarly, RestedAtOnce, RestedIfShort};
+ghost use Rattle.change_transcript_laws.specs.Rests.{AreCalm, AreQuiet, HaveFolds};
 
 use change_spec::{a_show_is_of_the_last_commit, nothing_is_open_at_the_end};
 

@@ -15,4 +15,4 @@ pub consistent_by :
     → ((statements : List Statement) (report : Report) → LawfulOnThreads statements report → Consistent statements report)
     → AreConsistent
 consistent_by in_rounds on_threads rounds statements report is = in_rounds statements report is.serial is.lawful
-consistent_by in_rounds on_threads (threads observers) statements report is = on_threads statements report is
+consistent_by in_rounds on_threads (threads observers) statements report is = on_threads statements report is.lawful

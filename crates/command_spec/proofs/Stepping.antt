@@ -56,7 +56,7 @@ status_by :
     (schedule : Schedule) (statements : List Statement) (report : Report) → IsReportBy schedule statements report
     → report.status ≡ (if list_any is_pending report.history then 7 else if is_some report.unfinished then 8 else 0)
 status_by rounds statements report is = is.lawful.lawful.by_them.status
-status_by (threads observers) statements report is = is.lawful.by_them.status
+status_by (threads observers) statements report is = is.lawful.lawful.by_them.status
 
 pub ends_by_report :
     (schedule : Schedule) (files : Option Files) (name : List ℕ) (own : Status) (r : outcomes.WasRunBy schedule files name own)

@@ -1,7 +1,7 @@
 -- To be believed (docs/definitions.md).
 -- How the nodes of a run take their turns, what the report of the run must be then, and which bytes show it.
 use Rattle.std.specs.Prelude.{◌≡◌, ℕ, List}
-use Rattle.change_spec.specs.Lawful.{LawfulOnThreads}
+use Rattle.change_spec.specs.Resting.{ReportsOnThreads}
 use Rattle.change_spec.specs.Statements.{Statement}
 use Rattle.report_types.specs.declared.report.Report.{Report}
 use Rattle.report_writing.specs.Reports.{report_text}
@@ -16,7 +16,7 @@ pub data Schedule : Type 0 where
 
 abbrev pub IsReportBy : Schedule → List Statement → Report → Type 0
 IsReportBy rounds statements report = IsReportOf statements report
-IsReportBy (threads observers) statements report = LawfulOnThreads statements report
+IsReportBy (threads observers) statements report = ReportsOnThreads statements report
 
 -- the text of the report, and behind it what was seen by observers, where there are any
 abbrev pub IsShownBy : Schedule → Report → List ℕ → Type 0

@@ -15,11 +15,13 @@ use Rattle.report_types.specs.declared.report.NodeLog.{NodeLog}
 use Rattle.report_types.specs.declared.report.Report.{Report}
 use Rattle.txn_records.specs.Entries.{config_of}
 use Rattle.txn_records.specs.declared.entry.Entry.{Entry}
+use Rattle.txn_spec.specs.Merging.{AreAllAmong, MergeIntoRun}
 use Rattle.txn_spec.specs.Views.{log_in}
 use Rattle.txn_spec.specs.declared.view.NodeView.{NodeView}
 use Rattle.change_transcript_laws.specs.Pieces.{IsTranscript}
 use Rattle.change_transcript_laws.specs.Reports.{taken_in}
-use Rattle.change_transcript_laws.specs.Rests.{AreQuiet, FinishedEarly, RestedIfShort}
+use Rattle.change_spec.specs.Resting.{FinishedEarly, RestedIfShort}
+use Rattle.change_transcript_laws.specs.Rests.{AreQuiet}
 use Rattle.quiesce_core.specs.declared.event.Event.{Event}
 use Rattle.quiesce_core.specs.Runs.{done_by}
 use Rattle.change_spec.specs.Members.{Member}
@@ -60,7 +62,7 @@ pub record CameAbout (statements : List Statement) (report : Report) (r : List E
 -- The report is lawful on threads by members in which all rested at one place where a run ended with fewer transactions
 -- than were asked for, or a finish made fewer rounds than were allowed. The record bears it, and its logs are what was
 -- taken in, slot by slot. Where a finish made fewer rounds and no change was committed behind it, no node is named as
--- undone.
+-- undone. Of each node made the seat was taken in, and their events and the record are one run.
 pub record AgreesWith (statements : List Statement) (report : Report) (r : List Entry) (nodes : List NodeView) : Type 0 where
   pub lawful : LawfulOnThreads statements report
   pub came : CameAbout statements report r nodes lawful.lawful.members
@@ -68,3 +70,5 @@ pub record AgreesWith (statements : List Statement) (report : Report) (r : List 
   pub bears : Bears r report.history
   pub logs_are : taken_in report ≡ collected_logs r nodes
   pub early : FinishedEarly report.history → report.unfinished ≡ None
+  pub merged : MergeIntoRun r nodes
+  pub all : AreAllAmong (length (config_of r).slots) nodes

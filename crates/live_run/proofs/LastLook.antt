@@ -1,5 +1,5 @@
 -- A look behind all else changes nothing of what a report and its seat agree on.
-use Rattle.std.proofs.Common.{◌≡◌, ◌∙◌, ℕ, List, [], ◌∷◌, ◌++◌, append_assoc, length, map, None, refl, ap, sym}
+use Rattle.std.proofs.Common.{◌≡◌, ◌∙◌, ℕ, List, [], ◌∷◌, ◌++◌, append_assoc, length, map, None, refl, ap, subst, sym}
 use Rattle.std.specs.List.{range_with_len}
 use Rattle.std.proofs.lemmas.List.{append-nil}
 use Rattle.std.proofs.lemmas.List.Elements.{filter_map-append}
@@ -13,6 +13,7 @@ use Rattle.quiesce_laws.specs.Steps.{change_all}
 use Rattle.quiesce_core.specs.State.{Configuration, empty}
 use Rattle.report_types.specs.declared.report.HistoryLine.{HistoryLine}
 use Rattle.report_types.specs.declared.report.Report.{Report}
+use Rattle.txn_spec.specs.Merging.{AreAllAmong, MergeIntoRun}
 use Rattle.txn_spec.specs.Views.{log_in}
 use Rattle.txn_spec.specs.declared.view.NodeView.{NodeView}
 use Rattle.txn_records.specs.Entries.{config_of, event_in, events_in}
@@ -31,8 +32,8 @@ bears_still r p w history b = record {
 }
 
 pub agrees_still : (statements : List Statement) (report : Report) (r : List Entry) (p w : ℕ) (nodes : List NodeView) → AgreesWith statements report r nodes
-    → AgreesWith statements report (r ++ Looked p w ∷ []) nodes
-agrees_still statements report r p w nodes a = record {
+    → MergeIntoRun (r ++ Looked p w ∷ []) nodes → AgreesWith statements report (r ++ Looked p w ∷ []) nodes
+agrees_still statements report r p w nodes a merged = record {
   lawful = a.lawful;
   came = record {
     transcript = a.came.transcript;
@@ -50,4 +51,6 @@ agrees_still statements report r p w nodes a = record {
   bears = bears_still r p w report.history a.bears;
   logs_are = a.logs_are ∙ ap (λ (c : Configuration). map (log_in nodes) (range_with_len 0 (length c.slots))) (sym (config_kept r p w));
   early = a.early;
+  merged = merged;
+  all = subst (λ (c : Configuration). AreAllAmong (length c.slots) nodes) (sym (config_kept r p w)) a.all;
 }

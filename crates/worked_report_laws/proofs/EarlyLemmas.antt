@@ -4,7 +4,7 @@ use Rattle.std.specs.Prelude.{take, drop}
 use Rattle.std.proofs.lemmas.Option.{none-some}
 use Rattle.txn_spec.specs.declared.view.NodeView.{NodeView}
 use Rattle.txn_records.specs.declared.entry.Entry.{Entry}
-use Rattle.change_transcript_laws.specs.Rests.{FinishedEarly}
+use Rattle.change_spec.specs.Resting.{FinishedEarly}
 use Rattle.live_board.specs.Ended.{AgreesWith}
 use Rattle.worked_report_laws.specs.Filled as filled
 

@@ -3,7 +3,7 @@
 ghost use Rattle.std.specs.Prelude.{ℕ, false, List};
 ghost use Rattle.txn_records.specs.declared.entry.Entry.{Entry};
 ghost use Rattle.txn_spec.specs.declared.view.NodeView.{NodeView};
-ghost use Rattle.change_transcript_laws.specs.Rests.{FinishedEarly};
+ghost use Rattle.change_spec.specs.Resting.{FinishedEarly};
 ghost use Rattle.live_board.specs.Ended.{AgreesWith};
 ghost use Rattle.merge_laws.specs.Guards.{MisleadsOnReport, all_guards};
 ghost use Rattle.worked_report_laws.specs.Filled as filled;

@@ -21,7 +21,7 @@ returns-in-Ok-clause-runs g c =
     let asks = subst (λ s. Asks words (commands.Live s own.workers own.observers)) (c.script_named-name.ensures asked.0 own.workers own.observers asked.1) asked.1 in
     let seen = run_of g.H.Shelf g.K.Sink words c.args.shelf.now c.answer_script.new.shelf c.args.out.now c.write_text-status.new.out c.write_text-status.result in
     runs_by on_threads seen (commands.Live name own.workers own.observers) (Ok c.in-Ok.answer) (refl, asks)
-    (comes_wider (AgreesWithSeat c.in-Ok.seat) (IsShownBy (threads own.observers)) _ name _ _ (IsReportBy (threads own.observers)) (λ statements r agrees. agrees.lawful) (Ok c.in-Ok.answer) c.in-Ok.ensures.answers)
+    (comes_wider (AgreesWithSeat c.in-Ok.seat) (IsShownBy (threads own.observers)) _ name _ _ (IsReportBy (threads own.observers)) (λ statements r agrees. record { lawful = agrees.lawful; at_once = agrees.at_once; early = agrees.early }) (Ok c.in-Ok.answer) c.in-Ok.ensures.answers)
     (rw c.as_slice.ensures.value at c.write_text-status.ensures seen)
 
 pub returns-in-Ok-clause-agrees : goal.returns-in-Ok-clause-agrees

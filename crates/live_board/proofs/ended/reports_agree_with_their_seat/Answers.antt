@@ -11,7 +11,7 @@ use Rattle.live_board.proofs.ended.reports_agree_with_their_seat.Goals as goal
 
 pub returns : goal.returns
 returns c = record {
-  agrees = λ statements report r p w nodes h merged.
+  agrees = λ statements report r p w nodes h merged all.
       let cut = without_last r (Looked p w) merged.moments refl merged.is_record in
       let is_of = subst (λ q. IsRecordOf q cut.0) (sym h.record_is) cut.1 in
       let logs : (n : ℕ) → done_by n (events cut.0) ≡ log_in nodes n = λ n. ap (done_by n) cut.2 ∙ merged.logs n in
@@ -44,5 +44,7 @@ returns c = record {
         bears = subst (λ q. Bears q report.history) h.record_is (c.records_bear_their_reports.ensures.bears false statements h.transcript cut.0 report h.is_transcript is_of told);
         logs_are = h.logs_are;
         early = λ early. c.early_finishes_leave_nothing_undone.ensures.undone statements h.transcript cut.0 report h.is_transcript is_of told early;
+        merged = record { moments = cut.0; is_record = cut.1; logs = logs };
+        all = all;
       };
 }

@@ -31,5 +31,5 @@ returns-clause-agrees c = λ statements report h.
     let nodes = collected_in c.args.seat.now in
     let is : record_of c.finish.new.seat ≡ r ++ Looked 0 word ∷ [] = ap (λ (v : ChangeView). v.entries) c.finish.ensures.change.1 in
     let merged : MergeIntoRun (r ++ Looked 0 word ∷ []) nodes = subst (λ q. MergeIntoRun q nodes) is (subst (λ n. MergeIntoRun (record_of c.finish.new.seat) n) c.finish.ensures.nodes c.finish.ensures.merged) in
-    let agrees = agrees_still statements report r 0 word nodes (c.reports_agree_with_their_seat.ensures.agrees statements report r 0 word nodes h.carried merged) in
+    let agrees = agrees_still statements report r 0 word nodes (c.reports_agree_with_their_seat.ensures.agrees statements report r 0 word nodes h.carried merged h.all_taken_in) merged in
     subst (λ n. AgreesWith statements report (record_of c.finish.new.seat) n) (sym c.finish.ensures.nodes) (subst (λ q. AgreesWith statements report q nodes) (sym is) agrees)
