@@ -12,7 +12,8 @@ use Rattle.darwin_types.specs.Scope.{port_named}
 use Rattle.darwin_walk.specs.Instance.{Segment, End, Binding}
 use Rattle.elaborator.specs.Paths.{within}
 use Rattle.elaborator.specs.Instances.{Instance, made_in}
-use Rattle.elaborator.specs.Bindings.{Port, NamedPort, Pair, instance_at, resolve, named_port, is_indexed, is_form, may_lead, pair_of, bindings_in, pairs_in}
+use Rattle.binding_forms.specs.Forms.{is_form}
+use Rattle.elaborator.specs.Bindings.{Port, NamedPort, Pair, instance_at, resolve, named_port, is_indexed, may_lead, pair_of, bindings_in, pairs_in}
 use Rattle.elaborator.specs.Numbering.{Expanded, NumberedInstance, Numbered, NumberedIn, IsExpanded}
 use Rattle.elaborator.proofs.PairLaws.{pair-forward, pair-backward, pair-of_no_form, pair-no_left, pair-no_right}
 use Rattle.base.proofs.ContainsLaws.{Contains-from_flat_map, Contains-nil, Contains-one}

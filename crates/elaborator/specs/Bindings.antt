@@ -4,8 +4,8 @@
 -- list of bindings leads outward through requirements, once across, and inward through provisions.
 use Rattle.std.specs.Prelude.{ℕ, Bool, true, false, ◌&&◌, ℤ, List, [], ◌∷◌, Option, Some, None, option_map, option_and_then, is_some, if◌then◌else◌, Contains, find, bytes_eq}
 use Rattle.std.specs.List.{flat_map}
+use Rattle.binding_forms.specs.Forms.{is_form}
 use Rattle.darwin_parser.specs.declared.tree.Side.{Side}
-use Rattle.darwin_parser.specs.declared.tree.Side.TheVariants.{Provide, Require}
 use Rattle.darwin_parser.specs.Tree.{Name, Tree, Expr, PortDecl}
 use Rattle.darwin_types.specs.Scope.{port_named}
 use Rattle.darwin_walk.specs.Instance.{Segment, End, Binding, bindings}
@@ -53,13 +53,6 @@ is_indexed x = both x.decl.size x.index
     both None None = true
     both (Some size) (Some index) = true
     both _ _ = false
-
--- the first may be the source of a binding to the second
-abbrev pub is_form : Bool → Side → Bool → Side → Bool
-is_form true Require true Provide = true
-is_form true Require false Require = true
-is_form false Provide true Provide = true
-is_form _ _ _ _ = false
 
 abbrev pub may_lead : NamedPort → NamedPort → Bool
 may_lead x y = is_indexed x && is_indexed y && is_form x.is_inner x.decl.side y.is_inner y.decl.side

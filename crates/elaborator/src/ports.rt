@@ -7,7 +7,7 @@ ghost use Rattle.darwin_types.specs.Scope.{component_named};
 ghost use Rattle.darwin_walk.specs.Walked.{segment_of, walked_end};
 ghost use Rattle.darwin_walk.specs.declared.fault.Fault.TheVariants.{BadIndex};
 ghost use Rattle.elaborator.specs.Instances.{Instance};
-ghost use Rattle.elaborator.specs.Bindings.{resolve, is_form};
+ghost use Rattle.elaborator.specs.Bindings.{resolve};
 ghost use Rattle.elaborator.specs.Numbering.{Numbered};
 ghost use Rattle.elaborator.specs.Expansion.{expanded_of, IsNumbering};
 ghost use Rattle.elaborator.specs.Faults.{named_index_faults};
@@ -17,7 +17,8 @@ use crate::chains::PortId;
 use crate::directory::Directory;
 use crate::instance::Expansion;
 use crate::paths::path_within;
-use darwin_parser::{Component, PortDecl, Side};
+use binding_forms::is_form;
+use darwin_parser::{Component, PortDecl};
 use darwin_walk::{End, Segment};
 use std::alloc::{AllocError, Global};
 
@@ -166,18 +167,5 @@ impl Named<'_> {
             (Some(note), Some(others)) => note != others,
             _ => false,
         }
-    }
-}
-
-/// Whether a port may be bound to another: an inner requirement to an inner provision or an outer
-/// requirement, and an outer provision to an inner provision.
-fn is_form(source_inner: bool, source: Side, target_inner: bool, target: Side) -> bool
-    ensures { result ≡ is_form source_inner source target_inner target }
-{
-    match (source_inner, source, target_inner, target) {
-        (true, Side::Require, true, Side::Provide) => true,
-        (true, Side::Require, false, Side::Require) => true,
-        (false, Side::Provide, true, Side::Provide) => true,
-        _ => false,
     }
 }
