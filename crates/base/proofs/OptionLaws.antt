@@ -37,10 +37,6 @@ pub made_of_found : {A B C : Type 0} (g : A → B → C) (h : A → Option B) (o
 made_of_found g h None y e = absurd (none-some y e)
 made_of_found g h (Some x) y e = let w = option_map_some (g x) (h x) y e in (x, w.0, refl, w.1, w.2)
 
-pub true_from_not : (b : Bool) → not b ≡ false → b ≡ true
-true_from_not true h = refl
-true_from_not false h = sym h
-
 pub flip : (a b : Bool) → a ≡ not b → b ≡ not a
 flip true true h = h
 flip true false h = refl

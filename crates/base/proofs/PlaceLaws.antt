@@ -3,7 +3,7 @@ use Rattle.std.proofs.Common.{◌≡◌, ◌≢◌, ℕ, Bool, true, ◌≤◌, 
 use Rattle.std.proofs.Common.{take, drop}
 use Rattle.std.proofs.lemmas.Grind.{common_steps}
 use Rattle.std.specs.List.{list_any, slice_get}
-use Rattle.std.proofs.lemmas.Option.{none-some, same_Some}
+use Rattle.std.proofs.lemmas.Option.{none-some, same_Some, slice_get_within}
 use Rattle.std.proofs.lemmas.Bool.{cases_lt, or_left, or_right}
 use Rattle.std.proofs.lemmas.List.{get_or_past, get_or_append_left, get_or-append_right}
 
@@ -68,11 +68,6 @@ slice_get-append_cases (z ∷ xs) ys zero x at = inl at
 slice_get-append_cases (z ∷ xs) ys (suc a) x at =
     elim (slice_get-append_cases xs ys a x at) [ inl there ↦ inl there | inr more ↦ inr (more.0, omega (arith, more.1), more.2) ]
 
-pub slice_get-below : {A : Type 0} (xs : List A) (a : ℕ) (x : A) → slice_get xs a ≡ Some x → a < length xs
-slice_get-below [] a x at = absurd (none-some x at)
-slice_get-below (y ∷ xs) zero x at = omega arith
-slice_get-below (y ∷ xs) (suc a) x at = omega (arith, slice_get-below xs a x at)
-
 pub slice_get-there : {A : Type 0} (xs : List A) (a : ℕ) → a < length xs → (x : A) × (slice_get xs a ≡ Some x)
 slice_get-there [] a within = absurd (omega (arith, within))
 slice_get-there (x ∷ xs) zero within = (x, refl)
@@ -85,7 +80,7 @@ slice_get-before xs ys a x within at =
 pub slice_get-after : {A : Type 0} (xs ys : List A) (a b : ℕ) (x : A) → a ≡ length xs + b → slice_get (xs ++ ys) a ≡ Some x → slice_get ys b ≡ Some x
 slice_get-after xs ys a b x is at =
     elim (slice_get-append_cases xs ys a x at) [
-      | inl there ↦ absurd (omega (arith, slice_get-below xs a x there))
+      | inl there ↦ absurd (omega (arith, slice_get_within xs a x there))
       | inr more ↦ subst (λ c. slice_get ys c ≡ Some x) (omega (arith, more.1)) more.2
     ]
 

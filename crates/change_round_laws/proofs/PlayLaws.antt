@@ -3,8 +3,8 @@ use Rattle.std.proofs.Common.{◌≡◌, ◌∙◌, ℕ, ◌+◌, ◌-◌, ◌<�
 use Rattle.std.specs.Prelude.{◌⊎◌, ◌==◌, ℤ, filter}
 use Rattle.std.specs.List.{count_by, list_any}
 use Rattle.std.proofs.lemmas.Bool.{both_ways, cases_Bool, cases_lt, eqb-true, eq-eqb, or_right}
-use Rattle.std.proofs.lemmas.List.{append-nil}
-use Rattle.base.proofs.MapLaws.{count_by-append, no_length}
+use Rattle.std.proofs.lemmas.List.{append-nil, nil_from_length}
+use Rattle.base.proofs.MapLaws.{count_by-append}
 use Rattle.config_graph.specs.Graph.{Graph, ports}
 use Rattle.config_graph.specs.declared.node.Made.{Made}
 use Rattle.config_graph.proofs.GraphByLaws.{one_graph}
@@ -355,7 +355,7 @@ module _ (commits_run : CommitsRun) (by_config : CommitsByConfiguration) (done :
   play_change = by (length (looks_after p.waiting p.closed p.rounds).left == 0) refl
     where
       by : (b : Bool) → (length (looks_after p.waiting p.closed p.rounds).left == 0) ≡ b → GoesBy h (change name args new within moves) ls v
-      by true none = committed (no_length (looks_after p.waiting p.closed p.rounds).left (eqb-true (length (looks_after p.waiting p.closed p.rounds).left) 0 none))
+      by true none = committed (nil_from_length (looks_after p.waiting p.closed p.rounds).left (eqb-true (length (looks_after p.waiting p.closed p.rounds).left) 0 none))
       by false some = given_up some
 
 -- a statement behind the start
@@ -403,7 +403,7 @@ stops_by h ls w v m c s =
     let rise = where_rise (is_live_port w.machine.config) w.machine.config in
     let waited = looked opened s.waiting base ports s.rounds closed in
     let l = looks_after s.waiting ports s.rounds in
-    let none : l.left ≡ [] = no_length l.left (eqb-true (length l.left) 0 s.number.holds) in
+    let none : l.left ≡ [] = nil_from_length l.left (eqb-true (length l.left) 0 s.number.holds) in
     let seen_so : AreSeen ports (seen_in_all l.seen) =
     subst (AreSeen ports) (ap (λ xs. seen_in_all l.seen ++ map (seen_at (after_rounds false s.waiting s.rounds)) xs) none ∙ append-nil (seen_in_all l.seen)) (all_seen s.waiting (after_rounds false s.waiting s.rounds) ports rise s.rounds) in
     let whole : opened ++ drained_lines l.seen ≡ h ++ ls =

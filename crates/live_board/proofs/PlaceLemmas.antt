@@ -4,8 +4,8 @@ use Rattle.std.specs.Prelude.{slice_get, filter, find}
 use Rattle.std.specs.List.{range_with_len}
 use Rattle.std.proofs.lemmas.Bool.{cases_Bool, cases_eq}
 use Rattle.std.proofs.lemmas.List.{take_more}
-use Rattle.std.proofs.lemmas.Option.{get_or_from_slice_get, slice_get-get_or}
-use Rattle.base.proofs.PlaceLaws.{slice_get-below, slice_get-map_at}
+use Rattle.std.proofs.lemmas.Option.{get_or_from_slice_get, slice_get-get_or, slice_get_within}
+use Rattle.base.proofs.PlaceLaws.{slice_get-map_at}
 use Rattle.base.proofs.RangeLaws.{range_at}
 
 mapped_from : {A B : Type 0} (f : A → B) (g : ℕ → B) (xs : List A) (a : ℕ) → ((i : ℕ) (x : A) → slice_get xs i ≡ Some x → f x ≡ g (a + i)) → map f xs ≡ map g (range_with_len a (length xs))
@@ -72,7 +72,7 @@ module _ (live p : ℕ → Bool) where
 -- one more of the numbers at the front of a list
 pub taken_more : (xs ys : List ℕ) (i x : ℕ) → slice_get xs i ≡ Some x → ys ≡ take i xs → ys ++ x ∷ [] ≡ take (i + 1) xs
 taken_more xs ys i x there so_far =
-    ap (λ zs. zs ++ x ∷ []) so_far ∙ ap (λ y. take i xs ++ y ∷ []) (sym (get_or_from_slice_get xs i x x there)) ∙ sym (take_more xs i x (slice_get-below xs i x there))
+    ap (λ zs. zs ++ x ∷ []) so_far ∙ ap (λ y. take i xs ++ y ∷ []) (sym (get_or_from_slice_get xs i x x there)) ∙ sym (take_more xs i x (slice_get_within xs i x there))
 
 -- what stands in a place, whatever would stand past the end
 pub at_default : {A : Type 0} (xs : List A) (k : ℕ) (x d : A) → k < length xs → x ≡ get_or xs k x → get_or xs k d ≡ x

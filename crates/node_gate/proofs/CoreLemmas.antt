@@ -1,5 +1,5 @@
 -- What the state has of a node whose seat fits.
-use Rattle.std.proofs.Common.{◌≡◌, ◌∙◌, ℕ, suc, ◌+◌, ◌-◌, ◌^◌, ◌<◌, Bool, true, false, ◌&&◌, List, [], ◌∷◌, length, Option, Some, None, refl, ap, sym, subst, arith, rules}
+use Rattle.std.proofs.Common.{◌≡◌, ◌∙◌, ℕ, suc, ◌+◌, ◌-◌, ◌^◌, ◌<◌, true, false, List, [], ◌∷◌, length, Option, Some, None, refl, ap, sym, subst, arith, rules}
 use Rattle.std.specs.Prelude.{slice_get}
 use Rattle.std.specs.Option.{option_map_or}
 use Rattle.std.proofs.lemmas.Bool.{false≢true, lt-ltb}
@@ -24,9 +24,6 @@ use Rattle.quiesce_core.proofs.ReachLaws.{owner_of}
 use Rattle.quiesce_core.proofs.RunLaws.{node_events_keep_the_configuration}
 use Rattle.node_gate.specs.Core.{FitsCore, node_at, node_in}
 use Rattle.node_gate.specs.Seats.{IsOwn, IsWithinLimits, NodeAt, port_known}
-
-pub and_intro : {a b : Bool} → a ≡ true → b ≡ true → (a && b) ≡ true
-and_intro {a} {b} x y = ap (λ t. t && b) x ∙ y
 
 pub live_in : (o : Option Slot) → option_map_or (λ (m : Slot). m.live) o false ≡ true → (m : Slot) × (o ≡ Some m)
 live_in None e = absurd (false≢true e)

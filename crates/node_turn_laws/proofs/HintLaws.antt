@@ -5,10 +5,10 @@ use Rattle.std.specs.List.{enumerate_from}
 use Rattle.std.specs.Option.{option_map_or}
 use Rattle.std.proofs.lemmas.Bool.{and_parts, both_ways, cases_Bool, cases_eq, cases_lt, eq-eqb, eqb-true, false_from_ne_true, le-leb, leb-true, lt-ltb, ltb-true, ne_eqb}
 use Rattle.std.proofs.lemmas.List.{get_or_append_left, get_or_past, length-replicate}
-use Rattle.std.proofs.lemmas.Option.{get_or_from_slice_get, none-some, same_Some, slice_get-get_or, slice_get_past}
+use Rattle.std.proofs.lemmas.Option.{get_or_from_slice_get, none-some, same_Some, slice_get-get_or, slice_get_past, slice_get_within}
 use Rattle.std.proofs.Math.Seq.{get_or-append_seam}
 use Rattle.base.proofs.OptionLaws.{Some-from_is_some, map_or_at, map_or_true}
-use Rattle.base.proofs.PlaceLaws.{fresh_behind, slice_get-below, slice_get-there}
+use Rattle.base.proofs.PlaceLaws.{fresh_behind, slice_get-there}
 use Rattle.config_graph.specs.Kinds.{row}
 use Rattle.config_graph.specs.declared.node.Node.{Node}
 use Rattle.config_graph.specs.declared.node.Target.{Target}
@@ -114,7 +114,7 @@ place_of w h sound n r k there low =
       owned = ap (λ (x : Gate). x.owner) (sym is) ∙ in_row.owned r low;
       required = ap (λ (x : Gate). x.require) (sym is) ∙ in_row.in_order r low;
       port = ap (λ i. i + r) (map_or_at (λ (j : Slot). j.first_port) (slot c n) 0 k there);
-      has_row = (let made = slice_get-below c.slots n k there in let rows = h.rows in omega (arith, made, rows));
+      has_row = (let made = slice_get_within c.slots n k there in let rows = h.rows in omega (arith, made, rows));
       in_row = omega (arith, long, low);
     }
 
@@ -505,7 +505,7 @@ module _ (w : World) (n : ℕ) (node : Node) (from : Option ℕ) (h : Hinted w) 
       (λ (low : p < length c.gates).
       let old : gate v.machine.config p ≡ gate c p = made.gates p ∙ ap (λ b. cond b (record { owner = length c.slots; require = p - length c.gates; closed = true; target = None }) (gate c p)) (before p low) in
       let o = well.sound.ports p low in
-      let there : owner c p < length w.waiting = (let rows = h.fits.rows in let below = slice_get-below c.slots (owner c p) o.node o.made in omega (arith, rows, below)) in
+      let there : owner c p < length w.waiting = (let rows = h.fits.rows in let below = slice_get_within c.slots (owner c p) o.node o.made in omega (arith, rows, below)) in
       rw (lt-ltb p (length v.machine.config.gates) (let ports = made.ports in omega (arith, ports, low)))
       (ap (read v.waiting) old ∙ ap (λ ys. slice_index_or ys (gate c p).require None) (get_or_append_left w.waiting (replicate (length (row node.kind).requires_) None ∷ []) [] (owner c p) there)
       ∙ sym (kept_is w.waiting c p ∙ rw (lt-ltb p (length c.gates) low) refl)))

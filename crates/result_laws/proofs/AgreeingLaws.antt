@@ -6,9 +6,8 @@ use Rattle.std.specs.Option.{option_map_or}
 use Rattle.std.proofs.lemmas.Bool.{and_parts, both_ways, cases_lt, eqb-true, ltb-true, false_from_ne_true}
 use Rattle.std.proofs.lemmas.List.{append-nil}
 use Rattle.std.proofs.lemmas.List.Sums.{fold_push}
-use Rattle.std.proofs.lemmas.Option.{none-some, same_Some}
+use Rattle.std.proofs.lemmas.Option.{none-some, same_Some, slice_get_within}
 use Rattle.base.proofs.OptionLaws.{map_or_true, option_map_some}
-use Rattle.base.proofs.PlaceLaws.{slice_get-below}
 use Rattle.config_graph.specs.declared.node.Target.{Target}
 use Rattle.component_trait.specs.Fold.{after_event, asked_by, calls_at, fold_from, fold_next, is_more, is_request, is_request_at}
 use Rattle.component_trait.specs.Moves as moves
@@ -157,7 +156,7 @@ agrees_more es e n m run l there mine before kept t' is =
     (subst (λ (f : ℕ → OwnPort). Agrees m.first_port t' (served_next (served_after log) e) f) (sym all) next_)
 
 live_below : (c : Configuration) (n : ℕ) → is_live c n ≡ true → n < length c.slots
-live_below c n live = let m = map_or_true (λ (x : Slot). x.live) (slot c n) live in slice_get-below c.slots n m.0 m.1
+live_below c n live = let m = map_or_true (λ (x : Slot). x.live) (slot c n) live in slice_get_within c.slots n m.0 m.1
 
 more_nodes : (c : Configuration) (e : Event) → length c.slots ≤ nodes_next c e
 more_nodes c (Make n node from) = omega arith

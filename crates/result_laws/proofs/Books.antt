@@ -5,9 +5,8 @@ use Rattle.std.specs.List.{list_any, range_with_len}
 use Rattle.std.proofs.lemmas.Bool.{both_ways, cases_Bool, cases_lt, false_from_ne_true}
 use Rattle.std.proofs.lemmas.List.{append-nil, get_or_past}
 use Rattle.std.proofs.lemmas.List.Sums.{sum_by_push}
-use Rattle.std.proofs.lemmas.Option.{none-some, same_Some}
+use Rattle.std.proofs.lemmas.Option.{none-some, same_Some, slice_get_within}
 use Rattle.base.proofs.OptionLaws.{map_or_true}
-use Rattle.base.proofs.PlaceLaws.{slice_get-below}
 use Rattle.config_graph.specs.Graph.{Graph}
 use Rattle.config_graph.specs.declared.TheConstants.{VALUE_LIMIT}
 use Rattle.config_graph.specs.declared.kind.Kind.TheVariants.{Branch, Account}
@@ -108,7 +107,7 @@ module _ (handed : StatesAreHanded) (es : List Event) (e : Event) (here : IsNext
     same_config = ap (λ (x : State). x.config) here.next ∙ node_events_keep_the_configuration s e of_node
 
     slot_low : (n : ℕ) (m : Slot) → slot s.config n ≡ Some m → n < size
-    slot_low n m there = slice_get-below s.config.slots n m there
+    slot_low n m there = slice_get_within s.config.slots n m there
 
     -- a live account gave its state to none
     keeps_own : (n : ℕ) → IsAccount s.config n → (p x : ℕ) → target s.config p ≡ Some (record { node = n; provide = x }) → list_any (hands_on n) es ≡ false
@@ -296,7 +295,7 @@ module _ (handed : StatesAreHanded) (es : List Event) (e : Event) (here : IsNext
               where
                 by_slot : (x : Option Slot) → slot s.config b.at ≡ x → slot s.config b.at ≡ None
                 by_slot None is = is
-                by_slot (Some m) is = let low = slice_get-below s.config.slots b.at m is in absurd (omega (arith, low, past))
+                by_slot (Some m) is = let low = slice_get_within s.config.slots b.at m is in absurd (omega (arith, low, past))
 
             resting : (g b.at).service ≡ None
             resting = still handed es e here run' later change b.at (rest_of none_past)

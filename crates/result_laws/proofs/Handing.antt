@@ -6,9 +6,8 @@ use Rattle.std.specs.List.{list_any, range_with_len}
 use Rattle.std.specs.Option.{option_map_or}
 use Rattle.std.proofs.lemmas.Bool.{and_parts, both_ways, eq-eqb, false_from_ne_true, ltb-true, ne_eqb, not-true}
 use Rattle.std.proofs.lemmas.List.Folds.{list_any-append}
-use Rattle.std.proofs.lemmas.Option.{none-some, same_Some}
+use Rattle.std.proofs.lemmas.Option.{none-some, same_Some, slice_get_within}
 use Rattle.base.proofs.OptionLaws.{map_or_true}
-use Rattle.base.proofs.PlaceLaws.{slice_get-below}
 use Rattle.config_graph.specs.Kinds.{row}
 use Rattle.config_graph.specs.declared.TheConstants.{VALUE_LIMIT}
 use Rattle.config_graph.specs.declared.kind.Kind.{Kind}
@@ -218,7 +217,7 @@ module _ (handed : StatesAreHanded) (es : List Event) (k : ℕ) (made : Node) (f
     where
       by : (o : Option Slot) → slot c last ≡ o → slot c last ≡ None
       by None is = is
-      by (Some m) is = let low = slice_get-below c.slots last m is in absurd (omega (arith, low))
+      by (Some m) is = let low = slice_get_within c.slots last m is in absurd (omega (arith, low))
 
   -- none took over from the new one
   new_not_given : list_any (hands_on last) (es ++ e ∷ []) ≡ false
@@ -284,7 +283,7 @@ module _ (handed : StatesAreHanded) (es : List Event) (k : ℕ) (made : Node) (f
         old = map_or_true (λ (m : Slot). not m.live && is_kind m.node.kind made.kind) (slot c j) may.0
 
         below : j < last
-        below = slice_get-below c.slots j old.0 old.1
+        below = slice_get_within c.slots j old.0 old.1
 
         same_account : is_account_at c j ≡ is_account made.kind
         same_account =

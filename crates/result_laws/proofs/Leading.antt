@@ -2,10 +2,9 @@
 use Rattle.std.proofs.Common.{◌≡◌, ◌∙◌, ℕ, ◌+◌, ◌<◌, Bool, true, false, cond, length, Some, None, refl, sym, ap, subst, arith, inl, inr, ⊎_elim}
 use Rattle.std.specs.Prelude.{◌⊎◌, ◌==◌, ◌&&◌, nat_le, nat_lt, option_map}
 use Rattle.std.proofs.lemmas.Bool.{and_parts, both_ways, cases_Bool, eqb-true, ltb-true, not-true}
-use Rattle.std.proofs.lemmas.Option.{same_Some}
+use Rattle.std.proofs.lemmas.Option.{same_Some, slice_get_within}
 use Rattle.base.proofs.ContainsLaws.{at_some_place}
 use Rattle.base.proofs.OptionLaws.{map_or_true}
-use Rattle.base.proofs.PlaceLaws.{slice_get-below}
 use Rattle.config_graph.specs.Cycles.{IsLinked}
 use Rattle.config_graph.specs.Graph.{Graph}
 use Rattle.config_graph.specs.Kinds.{row}
@@ -103,7 +102,7 @@ module _ (c : Configuration) (sound : IsSound c) (named : AreNamed c) (g : Graph
       )
 
   pub leads_in_bank : (q : ℕ) (t : Target) → is_live c (owner c q) ≡ true → target c q ≡ Some t → LeadsWell c q
-  leads_in_bank q t live leads = by (bank.kinds from.0 (slice_get-below g.nodes from.0 from.1.made.node from.1.stands))
+  leads_in_bank q t live leads = by (bank.kinds from.0 (slice_get_within g.nodes from.0 from.1.made.node from.1.stands))
     where
       from : (i : ℕ) × StandsAt c g.nodes (owner c q) i
       from = live_stands (owner c q) live

@@ -7,10 +7,11 @@ use Rattle.std.proofs.lemmas.Bool.{and_parts, both_ways, cases_Bool, eq-eqb, eqb
 use Rattle.std.proofs.lemmas.List.Elements.{All-contains}
 use Rattle.std.proofs.lemmas.List.Folds.{list_any-append}
 use Rattle.std.proofs.lemmas.List.Sums.{sum_by-cons}
+use Rattle.std.proofs.lemmas.Option.{slice_get_within}
 use Rattle.base.proofs.ContainsLaws.{Contains-filter_map, Contains-here, Contains-there}
 use Rattle.base.proofs.FindLaws.{find_passes, is_some-find_from}
 use Rattle.base.proofs.OptionLaws.{Some-from_is_some}
-use Rattle.base.proofs.PlaceLaws.{any_at, slice_get-below}
+use Rattle.base.proofs.PlaceLaws.{any_at}
 use Rattle.config_graph.specs.declared.kind.Kind.TheVariants.{Account, Fork}
 use Rattle.config_graph.specs.declared.node.Node.{Node}
 use Rattle.component_trait.specs.States.{NodeState, at_rest, nothing}
@@ -178,7 +179,7 @@ accounts_made es run =
                   where
                     by_slot : (o : Option Slot) → slot (state_after before).config n ≡ o → slot (state_after before).config n ≡ None
                     by_slot None is = is
-                    by_slot (Some m) is = let low = slice_get-below (state_after before).config.slots n m is in absurd (omega (arith, low, at_end))
+                    by_slot (Some m) is = let low = slice_get_within (state_after before).config.slots n m is in absurd (omega (arith, low, at_end))
             either false other =
                 let apart : (i == n) ≡ false = ne_eqb i n (λ h. both_ways (n == length (state_after before).config.slots) other (eq-eqb n (length (state_after before).config.slots) (sym h ∙ is_next))) in
                 ap (λ b. is_account_at (state_after before).config n || (cond b (is_account made.kind) false || false)) apart

@@ -5,8 +5,8 @@ use Rattle.std.specs.Prelude.{◌==◌, ◌&&◌, nat_lt, nat_le, option_map}
 use Rattle.std.specs.Option.{option_map_or}
 use Rattle.std.proofs.lemmas.Bool.{and_parts, both_ways, cases_Bool, cases_lt, eqb-true, ne_eqb}
 use Rattle.std.proofs.lemmas.List.{get_or_past}
-use Rattle.std.proofs.lemmas.Option.{none-some, same_Some}
-use Rattle.base.proofs.PlaceLaws.{slice_get-below, slice_get-there}
+use Rattle.std.proofs.lemmas.Option.{none-some, same_Some, slice_get_within}
+use Rattle.base.proofs.PlaceLaws.{slice_get-there}
 use Rattle.config_graph.specs.Kinds.{row}
 use Rattle.config_graph.specs.declared.kind.Kind.{Kind}
 use Rattle.config_graph.specs.declared.kind.Kind.TheVariants.{Map, Sink, Source}
@@ -194,7 +194,7 @@ module _ (handed : StatesAreHanded) (es : List Event) (e : Event) (here : IsNext
       of_old made =
           let owned = owner_kept (state_after es).config (state_after (es ++ e ∷ [])).config e r q made in
           let o = here.well.sound.ports q made in
-          let low = slice_get-below (state_after es).config.slots (owner (state_after es).config q) o.node o.made in
+          let low = slice_get_within (state_after es).config.slots (owner (state_after es).config q) o.node o.made in
           let was = live_before (state_after es).config (state_after (es ++ e ∷ [])).config e r (owner (state_after es).config q) low (ap (is_live (state_after (es ++ e ∷ [])).config) (sym owned) ∙ live) in
           let kind_was = sym (ap (λ (n : NodeState). n.kind) (old_stays handed es e here run' change (owner (state_after es).config q) o.node o.made)) ∙ ap (λ i. (come (es ++ e ∷ []) i).kind) (sym owned) ∙ kind in
           subst (λ (x : Exchange). x.serial ≤ length past) (sym same) (rest.few q was kind_was)

@@ -4,11 +4,11 @@ use Rattle.std.proofs.Common.{◌≡◌, ◌∙◌, ℕ, Bool, true, false, List
 use Rattle.std.specs.Prelude.{◌==◌, ◌&&◌, Contains, is_some, option_and_then}
 use Rattle.std.specs.List.{list_any, range_with_len}
 use Rattle.std.proofs.lemmas.Bool.{and_from, eq-eqb}
-use Rattle.std.proofs.lemmas.Option.{same_Some}
+use Rattle.std.proofs.lemmas.Option.{same_Some, slice_get_within}
 use Rattle.base.proofs.ContainsLaws.{Contains-filter, Contains-nil, at_some_place}
 use Rattle.base.proofs.FindLaws.{is_some-position}
 use Rattle.base.proofs.OptionLaws.{Some-from_is_some}
-use Rattle.base.proofs.PlaceLaws.{any_at, slice_get-below}
+use Rattle.base.proofs.PlaceLaws.{any_at}
 use Rattle.config_graph.specs.Cycles.{IsLinked}
 use Rattle.config_graph.specs.Graph.{Graph}
 use Rattle.config_graph.specs.declared.kind.Kind.{Kind}
@@ -48,11 +48,11 @@ module _ (c : Configuration) (old new : Graph) (sound_old : IsSoundGraph old) (s
     where
       nodes_kept : (i : ℕ) → IsGone old new i → ⊥
       nodes_kept i w =
-          let listed = Selects-has (IsGone old new) (range_with_len 0 (length old.nodes)) plan.remove is_plan.steps.remove i (Contains-places (length old.nodes) i (slice_get-below old.nodes i w.node w.here)) w in
+          let listed = Selects-has (IsGone old new) (range_with_len 0 (length old.nodes)) plan.remove is_plan.steps.remove i (Contains-places (length old.nodes) i (slice_get_within old.nodes i w.node w.here)) w in
           let at = stand_of c old is i w.node w.here in
           let passes = any_listed (λ k. stands_in old k c at.0) plan.remove i listed (in_if_stands c old at.0 i at.1) in
           Contains-nil at.0 (subst (λ xs. Contains xs at.0) no_removes (Contains-filter (is_one_of old plan.remove c) (range_with_len 0 (length c.slots)) at.0
-          (Contains-places (length c.slots) at.0 (slice_get-below c.slots at.0 at.1.made at.1.there)) passes))
+          (Contains-places (length c.slots) at.0 (slice_get_within c.slots at.0 at.1.made at.1.there)) passes))
 
       links_kept : (l : Link) → Contains old.links l → ¬ (¬ IsKeptLink old new l)
       links_kept l there lost =

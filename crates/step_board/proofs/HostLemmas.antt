@@ -2,8 +2,8 @@
 use Rattle.std.proofs.Common.{◌≡◌, ◌∙◌, ℕ, ◌<◌, ◌≢◌, true, List, length, set, ◌≤◌, Option, Some, None, refl, ap, sym, subst, ⊎_elim, arith}
 use Rattle.std.specs.Prelude.{slice_get}
 use Rattle.std.proofs.lemmas.Bool.{cases_eq, false≢true}
-use Rattle.std.proofs.lemmas.Option.{same_Some}
-use Rattle.base.proofs.PlaceLaws.{slice_get-below, slice_get-set_other, slice_get-set_same, slice_get-there}
+use Rattle.std.proofs.lemmas.Option.{same_Some, slice_get_within}
+use Rattle.base.proofs.PlaceLaws.{slice_get-set_other, slice_get-set_same, slice_get-there}
 use Rattle.component_trait.specs.States.{NodeState, Service}
 use Rattle.quiesce_core.specs.Knowledge.{OwnPort}
 use Rattle.quiesce_core.specs.declared.event.Event.{Event}
@@ -32,7 +32,7 @@ pub past_rooms_kept : (xs : List Held) (sources n : ℕ) (old new : Held) → ((
     → (k : ℕ) (h : Held) → k < sources → slice_get (set xs n new) k ≡ Some h → has_past_room h ≡ true
 past_rooms_kept xs sources n old new rooms at same k h low is = ⊎_elim
     (λ (here : k ≡ n).
-    let new_is : new ≡ h = same_Some new h (sym (slice_get-set_same xs n new (slice_get-below xs n old at)) ∙ subst (λ i. slice_get (set xs n new) i ≡ Some h) here is) in
+    let new_is : new ≡ h = same_Some new h (sym (slice_get-set_same xs n new (slice_get_within xs n old at)) ∙ subst (λ i. slice_get (set xs n new) i ≡ Some h) here is) in
     ap has_past_room (sym new_is) ∙ same ∙ rooms n old (subst (λ i. i < sources) here low) at)
     (λ (other : k ≢ n). rooms k h low (sym (slice_get-set_other xs n new k other) ∙ is))
     (cases_eq k n)
@@ -42,7 +42,7 @@ node_below xs n h = by (slice_get xs n) refl h
   where
     by : (o : Option Held) → slice_get xs n ≡ o → is_node o ≡ true → n < length xs
     by None at h = absurd (false≢true h)
-    by (Some x) at h = slice_get-below xs n x at
+    by (Some x) at h = slice_get_within xs n x at
 
 -- the room in the pasts where it was made for each
 pub past_rooms_made : (first xs : List Held) (sources : ℕ) → sources ≤ length first → ((k : ℕ) (h : Held) → k < sources → slice_get first k ≡ Some h → has_past_room h ≡ true)

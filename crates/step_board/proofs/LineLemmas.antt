@@ -1,5 +1,5 @@
 -- A line that goes on with one more node.
-use Rattle.std.proofs.Common.{◌≡◌, ◌∙◌, ℕ, List, [], ◌∷◌, ◌++◌, Option, Some, None, refl, ap, sym, subst, map}
+use Rattle.std.proofs.Common.{◌≡◌, ◌∙◌, ℕ, List, [], ◌∷◌, ◌++◌, Option, Some, None, refl, ap, sym, subst}
 use Rattle.std.specs.Prelude.{option_and_then, unwrap_or}
 use Rattle.std.specs.Option.{option_map_or}
 use Rattle.config_graph.specs.declared.kind.Kind.{Kind}
@@ -24,10 +24,6 @@ opens_from t t' arg first ms all m folds is all_is =
     (ap (λ l. line_state t.kind None l (record { first = first; arg = (handed_over t.kind arg t.kept).arg; log = [] })) all_is
     ∙ line_snoc t.kind None ms m (record { first = first; arg = (handed_over t.kind arg t.kept).arg; log = [] })
     ∙ ap (option_and_then (λ (s : NodeState). line_node_state t.kind (Some s.kept) (record { first = first; arg = (handed_over t.kind arg t.kept).arg; log = [] }))) folds)
-
-pub map_snoc : {A B : Type 0} (f : A → B) (xs : List A) (x : A) → map f (xs ++ x ∷ []) ≡ map f xs ++ f x ∷ []
-map_snoc f [] x = refl
-map_snoc f (y ∷ xs) x = ap (λ l. f y ∷ l) (map_snoc f xs x)
 
 -- the argument that a component tells, or 0, is that of its state
 pub arg_is : (a : Option ℕ) (t : NodeState) (x : ℕ) → a ≡ argument t → x ≡ unwrap_or a 0 → option_map_or (λ b. b) (argument t) 0 ≡ t.arg → x ≡ t.arg

@@ -7,10 +7,10 @@ use Rattle.std.proofs.Math.Logic.{∥∥₁_elim}
 use Rattle.std.proofs.Props.{props}
 use Rattle.std.proofs.lemmas.Bool.{both_ways, eq-eqb}
 use Rattle.std.proofs.lemmas.List.{take_more}
-use Rattle.std.proofs.lemmas.Option.{get_or_from_slice_get, same_Some}
+use Rattle.std.proofs.lemmas.Option.{get_or_from_slice_get, same_Some, slice_get_within}
 use Rattle.base.proofs.FindLaws.{is_some-position}
 use Rattle.base.proofs.OptionLaws.{map_or_true}
-use Rattle.base.proofs.PlaceLaws.{any_at, slice_get-below}
+use Rattle.base.proofs.PlaceLaws.{any_at}
 use Rattle.change_board.specs.Collecting.{heir_of, took_over}
 use Rattle.quiesce_core.proofs.SourceLaws.{sources_are_gone}
 use Rattle.quiesce_core.specs.State.{Configuration, State, is_live, slot}
@@ -44,4 +44,4 @@ no_heir_of_live s k live some taken = ∥∥₁_elim some (Prim.hlevel props)
 -- one number more
 pub numbers_more : (xs ys : List ℕ) (i x : ℕ) → slice_get xs i ≡ Some x → ys ≡ take i xs → ys ++ x ∷ [] ≡ take (i + 1) xs
 numbers_more xs ys i x there so_far =
-    ap (λ zs. zs ++ x ∷ []) so_far ∙ ap (λ y. take i xs ++ y ∷ []) (sym (get_or_from_slice_get xs i x x there)) ∙ sym (take_more xs i x (slice_get-below xs i x there))
+    ap (λ zs. zs ++ x ∷ []) so_far ∙ ap (λ y. take i xs ++ y ∷ []) (sym (get_or_from_slice_get xs i x x there)) ∙ sym (take_more xs i x (slice_get_within xs i x there))
