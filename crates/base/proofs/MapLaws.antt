@@ -84,3 +84,7 @@ count_by-append p xs ys = sum_by-append (λ y. cond (p y) 1 0) xs ys
 pub filter-none : {A : Type 0} (p : A → Bool) (xs : List A) → ((x : A) → p x ≡ false) → filter p xs ≡ []
 filter-none p [] h = refl
 filter-none p (x ∷ xs) h = rw (h x) (filter-none p xs h)
+
+pub none_mapped : {A B : Type 0} (f : A → B) (xs : List A) → map f xs ≡ [] → xs ≡ []
+none_mapped f [] is = refl
+none_mapped f (x ∷ xs) is = absurd (cc is)

@@ -41,10 +41,12 @@ use Rattle.change_spec.specs.Serial.{ChangesTo, FinishesAt, Looks, Plays, RunsTo
 use Rattle.change_spec.specs.Statements.{Statement, start, change, run, finish, show}
 use Rattle.change_spec.proofs.MemberLaws.{events_of_nodes, events_parts}
 use Rattle.change_spec.proofs.SerialLaws.{changed_lines, changed_world}
+use Rattle.change_spec.proofs.PortLaws.{same_ports}
+use Rattle.change_spec.proofs.ClosingLaws.{reopen_lines}
 use Rattle.change_round_laws.specs.Courses.{Course}
 use Rattle.change_round_laws.specs.SoundStatements.{GoOnSoundly, IsSoundGraph}
-use Rattle.change_round_laws.proofs.ClosedPortLaws.{frozen_listed, frozen_live, frozen_same, same_to_close, where_rise}
-use Rattle.change_round_laws.proofs.ClosingLaws.{lines_of_reopens, reopens_are_of_change, reopens_run, shut, shut_same, with_roots}
+use Rattle.change_round_laws.proofs.ClosedPortLaws.{frozen_listed, frozen_live, frozen_same, where_rise}
+use Rattle.change_round_laws.proofs.ClosingLaws.{reopens_are_of_change, reopens_run, shut, shut_same, with_roots}
 use Rattle.change_round_laws.proofs.CommitGraphLaws.{CommitsByConfiguration, Fits, Stands}
 use Rattle.change_round_laws.proofs.CourseLaws.{WentOn, course_config, course_machine, course_run, with_changes, with_rounds, with_said}
 use Rattle.change_round_laws.proofs.LookLaws.{Looked, all_seen, are_looks, looked}
@@ -272,7 +274,7 @@ module _ (commits_run : CommitsRun) (by_config : CommitsByConfiguration) (done :
                 (inl (record {
                   looks = l.seen;
                   are_looks = looks_are;
-                  all_seen = subst (λ ports. AreSeen ports (seen_in_all l.seen)) (p.closed_are ∙ sym (ap (ports_to_close p.old p.plan) (sym after_opening) ∙ same_to_close p.old p.plan w.machine.config v0.machine.config same_then))
+                  all_seen = subst (λ ports. AreSeen ports (seen_in_all l.seen)) (p.closed_are ∙ sym (ap (ports_to_close p.old p.plan) (sym after_opening) ∙ same_ports p.old p.plan w.machine.config v0.machine.config same_then))
                       (subst (AreSeen p.closed) (ap (λ xs. seen_in_all l.seen ++ map (seen_at v0) xs) none ∙ append-nil (seen_in_all l.seen)) seen_are);
                   are = ap (λ d. drained ++ commit_lines p.old new p.plan d) after_opening;
                 })),
@@ -324,7 +326,7 @@ module _ (commits_run : CommitsRun) (by_config : CommitsByConfiguration) (done :
         let ev = map event.Reopen p.closed in
         let next = with_changes ev (((opened ++ drained) ++ to.Pending within ∷ []) ++ roots) v0 (base ++ later) (reopens_are_of_change p.closed) run rooted in
         let next_so : Course ((((opened ++ drained) ++ to.Pending within ∷ []) ++ roots) ++ map to.Reopen p.closed) (after_changes v0 ev) ((base ++ later) ++ map of_history (map to.Reopen p.closed)) =
-        subst (λ xs. Course ((((opened ++ drained) ++ to.Pending within ∷ []) ++ roots) ++ xs) (after_changes v0 ev) ((base ++ later) ++ map of_history xs)) (lines_of_reopens p.closed) next in
+        subst (λ xs. Course ((((opened ++ drained) ++ to.Pending within ∷ []) ++ roots) ++ xs) (after_changes v0 ev) ((base ++ later) ++ map of_history xs)) (reopen_lines p.closed) next in
         let end_ = with_said ((((opened ++ drained) ++ to.Pending within ∷ []) ++ roots) ++ map to.Reopen p.closed) (after_changes v0 ev) ((base ++ later) ++ map of_history (map to.Reopen p.closed)) to.Abandon next_so refl refl tt tt in
         let members = ((base ++ later) ++ map of_history (map to.Reopen p.closed)) ++ of_history to.Abandon ∷ [] in
         let tail = (roots ++ map to.Reopen p.closed) ++ to.Abandon ∷ [] in

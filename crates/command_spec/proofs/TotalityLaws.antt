@@ -37,13 +37,14 @@ use Rattle.change_plan.specs.PlanText.{plan_text}
 use Rattle.change_plan.specs.Plans.{IsPlanOf}
 use Rattle.change_plan.specs.Refusals.{CanPlan, CreatesSoMany, IsRefusal}
 use Rattle.change_plan.specs.Room.{HasRoom, HasRoomFor, LacksRoomFor, RoomFault}
-use Rattle.change_plan.specs.Touched.{Frozen, IsTouched}
+use Rattle.change_plan.specs.Touched.{Frozen}
 use Rattle.change_plan.specs.declared.error.PlanError.{PlanError}
 use Rattle.change_plan.specs.declared.plan_data.Move.{Move}
 use Rattle.change_plan.specs.declared.plan_data.Plan.{Plan}
 use Rattle.change_parts.specs.Parts.{AreParts}
 use Rattle.change_parts.specs.declared.part.Part.{Part}
 use Rattle.change_plan.proofs.RoomLaws.{room_or_fault}
+use Rattle.change_plan.proofs.DifferenceLaws.{touched_low}
 use Rattle.quiesce_core.specs.Runs.{Steps}
 use Rattle.quiesce_core.specs.Settled.{Settled}
 use Rattle.quiesce_core.specs.Start.{started}
@@ -79,15 +80,6 @@ use Rattle.command_spec.proofs.GraphLaws.{GraphOrFault, has_bounds, is_sound}
 pub room_for : (made : Made) (g : Graph) → HasRoomFor made g ⊎ ((e : PlanError) × LacksRoomFor made g e)
 room_for made g = room_or_fault made (length g.nodes) (length (ports g.nodes))
 
--- ---- plans without moves
-
-gone_within : (old new : Graph) (i : ℕ) → IsGone old new i → i < length old.nodes
-gone_within old new i gone = slice_get_within old.nodes i gone.node gone.here
-
-touched_within : (old new : Graph) (i : ℕ) → IsTouched old new i → i < length old.nodes
-touched_within old new i (inl gone) = gone_within old new i gone
-touched_within old new i (inr anew) = slice_get_within old.nodes i anew.stays.node anew.stays.here
-
 within_of : (nodes : List Node) (i : ℕ) (o : Option Node) → slice_get nodes i ≡ o → 0 < option_map_or requires_of o 0 → i < length nodes
 within_of nodes i None is some = absurd (omega (arith, some))
 within_of nodes i (Some n) is some = slice_get_within nodes i n is
@@ -105,7 +97,7 @@ reach_within g sound n p (direct {x = x} linked) = linked_within g p.node p.requ
 reach_within g sound n q (through {p = p} {m = m} {x = x} reached depends linked) = linked_within g q.node q.require m x sound linked
 
 frozen_within : (old new : Graph) → Sound old → (i : ℕ) → Frozen old new i → i < length old.nodes
-frozen_within old new sound i (inl touched) = touched_within old new i touched
+frozen_within old new sound i (inl touched) = touched_low old new i touched
 frozen_within old new sound i (inr (n, r, set, reached)) = reach_within old sound n (record { node = i; require = r }) reached
 
 no_shift : (old new : Graph) → IsShifts old new [] []

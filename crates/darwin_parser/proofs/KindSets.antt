@@ -88,9 +88,6 @@ pub implied : (a b : Bool) → implies a b ≡ true → a ≡ true → b ≡ tru
 implied true b e h = e
 implied false b e h = absurd cc
 
-pub no_is_yes : (b : Bool) → false ≡ true → b ≡ true
-no_is_yes b e = absurd cc
-
 pub or_false : (b : Bool) → b ≡ false → (b || false) ≡ false
 or_false true e = absurd cc
 or_false false e = refl

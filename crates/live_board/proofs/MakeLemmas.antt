@@ -1,7 +1,7 @@
 -- What the rules of a make give to the node that is made.
 use Rattle.std.proofs.Common.{◌≡◌, ◌∙◌, ℕ, ◌+◌, ◌<◌, ◌≤◌, false, not, ◌&&◌, List, [], ◌∷◌, ◌++◌, length, map, Option, Some, None, refl, ap, sym, subst}
 use Rattle.std.specs.Prelude.{is_some, nat_le, nat_lt, ◌==◌}
-use Rattle.std.specs.List.{AllByRecursion, filter_map}
+use Rattle.std.specs.List.{AllByRecursion}
 use Rattle.std.specs.Option.{option_map_or}
 use Rattle.std.proofs.lemmas.Bool.{and_parts, leb-true, ltb-true, not-true}
 use Rattle.std.proofs.lemmas.Option.{same_Some}
@@ -13,10 +13,10 @@ use Rattle.config_graph.specs.declared.TheConstants.{MAX_NODES, MAX_PORTS}
 use Rattle.config_graph.specs.declared.kind.Kind.{Kind}
 use Rattle.config_graph.specs.declared.node.Node.{Node}
 use Rattle.live_hall.specs.Sighting.{IsMadeIn, sight_of}
+use Rattle.live_hall.proofs.PastLaws.{config_sights}
 use Rattle.live_board.specs.Behind.{HasBehind, IsShallow}
 use Rattle.live_board.proofs.BehindLaws.{AreBelow, shallow_made}
 use Rattle.live_board.proofs.BoardLaws.{below_now}
-use Rattle.live_board.proofs.QuietLaws.{quiet}
 use Rattle.node_gate.specs.Seats.{IsWithinLimits, NodeAt}
 use Rattle.node_host.specs.Hosted.{IsHosted, SeatSeen}
 use Rattle.node_host.specs.Lines.{LineNode}
@@ -31,7 +31,7 @@ use Rattle.quiesce_word.specs.declared.slot_word.SlotWord.{SlotWord}
 use Rattle.txn_spec.specs.declared.view.NodeView.{NodeView}
 use Rattle.txn_spec.specs.Views.{node_at}
 use Rattle.txn_records.proofs.EntryLaws.{config_did}
-use Rattle.txn_records.specs.Entries.{config_of, event_in}
+use Rattle.txn_records.specs.Entries.{config_of}
 use Rattle.txn_records.specs.Records.{IsRecord}
 use Rattle.txn_records.specs.declared.entry.Entry.TheVariants.{Did}
 use Rattle.txn_records.specs.declared.entry.Entry.{Entry}
@@ -110,13 +110,6 @@ source_told c node k v may slot_is made =
       made.unserving (map_or_at (λ (x : Slot). x.live) (slot d v.slot) false s.old there ∙ s.removed),
     )
 
-seen_quietly : (ns : List NodeView) → filter_map event_in (map sight_of ns) ≡ []
-seen_quietly [] = refl
-seen_quietly (n ∷ ns) = seen_quietly ns
-
-pub config_sighted : (r : List Entry) (ns : List NodeView) → config_of (r ++ map sight_of ns) ≡ config_of r
-config_sighted r ns = quiet r (map sight_of ns) (seen_quietly ns)
-
 pub source_guest : (r r1 : List Entry) (node : Node) (k : ℕ) (v : NodeView) (vs : List NodeView) (t : NodeState) (s first : ℕ) → CanMake (config_of r) (length (config_of r).slots) node (Some k)
     → r1 ≡ r ++ Did (Make (length (config_of r).slots) node (Some k)) ∷ [] → node_at v ≡ record { slot = s; kind = t.kind; first = first } → s ≡ k → AllByRecursion (IsMadeIn (config_of r1)) (vs ++ v ∷ [])
     → (t.kind ≡ node.kind) × (v.known.service ≡ None)
@@ -131,7 +124,7 @@ pub source_behind : (r r1 r2 : List Entry) (node : Node) (k sources lines count 
 source_behind r r1 r2 node k sources lines count ns grew saw known made may shallow behind =
     let d = with_node (config_of r) node (Some k) in
     let is : config_of r1 ≡ d = ap config_of grew ∙ config_did r (Make (length (config_of r).slots) node (Some k)) in
-    let low : AreBelow d = subst AreBelow (ap config_of saw ∙ config_sighted r1 ns ∙ is) (below_now r2 known) in
+    let low : AreBelow d = subst AreBelow (ap config_of saw ∙ config_sights r1 ns ∙ is) (below_now r2 known) in
     (shallow_made (config_of r) node (Some k) low sources lines made (λ j from. subst (λ i. i < sources) (some_is k j from) may) shallow k count (subst (λ e. HasBehind e k count) is behind)).1 may
   where
     some_is : (i j : ℕ) → Some i ≡ Some j → i ≡ j

@@ -3,5 +3,5 @@ mod Cells
 mod HandedLaws
 mod LineOpening
 mod Missed
-mod PastLaws
+pub mod PastLaws
 mod Elsewhere

@@ -1,6 +1,6 @@
 -- What may come next stays so until it came, and two members that may come next may come in either order. So whoever lets
 -- come whatever may comes to the end, where one way leads there.
-use Rattle.std.proofs.Common.{◌≡◌, ◌∙◌, ℕ, zero, suc, ◌+◌, ◌<◌, Bool, true, false, cond, not, ◌&&◌, ◌||◌, List, [], ◌∷◌, length, get_or, set, Option, Some, None, refl, sym, ap, ap₂, subst, ⊎_elim, arith, get_or-set_other}
+use Rattle.std.proofs.Common.{◌≡◌, ◌∙◌, ℕ, zero, suc, ◌+◌, ◌<◌, Bool, true, false, cond, not, ◌&&◌, ◌||◌, List, [], ◌∷◌, length, set, Option, Some, None, refl, sym, ap, ap₂, subst, ⊎_elim, arith, get_or-set_other}
 use Rattle.std.specs.Prelude.{◌==◌, nat_le, nat_lt, is_none, is_some, fold}
 use Rattle.std.specs.List.{list_any}
 use Rattle.std.specs.Option.{option_map_or}
@@ -35,9 +35,10 @@ use Rattle.report_types.specs.declared.report.HistoryLine.{HistoryLine}
 use Rattle.report_types.specs.declared.report.HistoryLine.TheVariants as to
 use Rattle.change_spec.specs.Members.{is_close}
 use Rattle.quiesce_laws.specs.Independence.{clashes}
-use Rattle.merge_laws.specs.Guarded.{Left, can_go, amount, closes_before, do_first, go, is_beyond, is_called_at, is_met, is_root_line, left, log_of, may_do, may_do_first, may_go, may_tell, may_tell_first, tell_first, tells, told, told_state, waits}
+use Rattle.merge_laws.specs.Guarded.{Left, can_go, closes_before, do_first, go, is_beyond, is_called_at, is_met, is_root_line, left, log_of, may_do, may_do_first, may_go, may_tell, may_tell_first, tell_first, tells, told, told_state, waits}
 use Rattle.merge_laws.proofs.SwapLemmas.{change_and_node, does_still, two_nodes}
 use Rattle.merge_laws.proofs.ConfluenceLemmas as confluence
+use Rattle.merge_laws.proofs.GuardedLaws.{shorter}
 
 -- ---- what is known of a member that may come
 
@@ -383,20 +384,6 @@ go_keeps x zero h m =
     let t = tells_of x m in subst (λ (y : Left). Sound y.state) (sym (told_is x t)) (line_keeps x.state t.rest t.line h t.may)
 go_keeps x (suc n) h m =
     let d = does_of x n m in subst (λ (y : Left). Sound y.state) (sym (done_is x n d)) (event_keeps x.state d.event h d.may.allowed)
-
--- one member less is left
-shorter : (logs : List (List Event)) (n : ℕ) (e : Event) (rest : List Event) → get_or logs n [] ≡ e ∷ rest → amount (set logs n rest) + 1 ≡ amount logs
-shorter [] n e rest h = absurd (cc (h))
-shorter (l ∷ logs) zero e rest h =
-    let now : amount (set (l ∷ logs) 0 rest) ≡ length rest + amount logs = refl in
-    let was : amount (l ∷ logs) ≡ length l + amount logs = refl in
-    let one : length l ≡ length (e ∷ rest) = ap (λ (es : List Event). length es) h in
-    let more_ : length (e ∷ rest) ≡ length rest + 1 = omega arith in
-    omega (arith, now, was, one, more_)
-shorter (l ∷ logs) (suc n) e rest h =
-    let now : amount (set (l ∷ logs) (suc n) rest) ≡ length l + amount (set logs n rest) = refl in
-    let was : amount (l ∷ logs) ≡ length l + amount logs = refl in
-    omega (arith, now, was, shorter logs n e rest h)
 
 pub go_leaves_less : (x : Left) (c : ℕ) → Sound x.state → may_go x c ≡ true → left (go x c) + 1 ≡ left x
 go_leaves_less x zero h m =

@@ -28,7 +28,7 @@ pub same_request : (first p q : ℕ) (o : Option Request) → is_request_at firs
 same_request first p q None h g = absurd (both_ways false refl h)
 same_request first p q (Some x) h g = sym (eqb-true (first + x.require) p h) ∙ eqb-true (first + x.require) q g
 
-is_at : (first p v : ℕ) (o : Option Request) → is_request first p v o ≡ true → is_request_at first p o ≡ true
+pub is_at : (first p v : ℕ) (o : Option Request) → is_request first p v o ≡ true → is_request_at first p o ≡ true
 is_at first p v None h = absurd (both_ways false refl h)
 is_at first p v (Some x) h = (and_parts (first + x.require == p) (x.value == v) h).0
 

@@ -14,6 +14,7 @@ use Rattle.config_graph.specs.declared.node.Node.{Node}
 use Rattle.config_graph.specs.declared.node.Target.{Target}
 use Rattle.component_trait.specs.States.{NodeState}
 use Rattle.quiesce_word.specs.Phases.{is_asked, is_idle}
+use Rattle.quiesce_word.proofs.PhaseLaws.{idle_not_asked}
 use Rattle.quiesce_core.proofs.AlterLaws.{exchanges_next, reconfigured, services_next}
 use Rattle.quiesce_core.proofs.LegalLaws.{legal}
 use Rattle.quiesce_core.proofs.RunLaws.{node_events_keep_the_configuration, runs_are_consistent, runs_are_well_formed}
@@ -41,7 +42,7 @@ use Rattle.node_turn_laws.specs.World.{World, first_port, inbox, state_of, waiti
 use Rattle.node_turn_laws.specs.Requests.{HintsAreRequests, hints_for, kept_back, leads_to, waits, waits_for}
 use Rattle.node_turn_laws.proofs.LookLaws.{after_look, is_take_at, takes_at}
 use Rattle.node_turn_laws.proofs.PostLemmas.{IsPlace, count_of, is_at, posted, read}
-use Rattle.node_turn_laws.proofs.RequestLemmas.{idle_not_asked, is_of, same_taken, unasked, waits_after, waits_next}
+use Rattle.node_turn_laws.proofs.RequestLemmas.{is_of, same_taken, unasked, waits_after, waits_next}
 
 -- ---- each node has an inbox, and a place for a hint of each of its requirements
 

@@ -219,3 +219,7 @@ alters_next s e w l = record { config = reconfigured s e l; services = services_
 -- a step changes just that
 pub steps_alter : (s t : State) (e : Event) → IsWellFormed s → Step s e t → Alters s e t
 steps_alter s t e w step = subst (λ u. Alters s e u) (sym step.changed) (alters_next s e w (legal s e step.allowed))
+
+pub slots_grow : (c : Configuration) (e : Event) → length c.slots ≤ nodes_next c e
+slots_grow c (Make n node from) = omega arith
+slots_grow c _ = omega arith

@@ -25,12 +25,8 @@ use Rattle.report_check.proofs.LedLemmas.{HasLed, OpensSo, came_to, ends_then, g
 use Rattle.report_check.proofs.OrderLemmas.{IsOrderly, no_order, orders}
 use Rattle.report_check.proofs.PartlyLemmas.{none_stays}
 use Rattle.report_check.proofs.TableLemmas.{StandsFor, lines_may_be_read, lines_read, made_in, nothing_stands}
-use Rattle.base.proofs.OptionLaws.{made_of_one}
+use Rattle.base.proofs.OptionLaws.{made_of_one, option_map_some}
 use Rattle.change_spec.proofs.MemberLaws.{ended_there}
-
-mapped : {A B : Type 0} (f : A → B) (o : Option A) (y : B) → option_map f o ≡ Some y → (x : A) × (o ≡ Some x) × (f x ≡ y)
-mapped f None y is = absurd (none-some y is)
-mapped f (Some x) y is = (x, refl, same_Some (f x) y is)
 
 module _ (report : Report) (t : Nodes) (stands : StandsFor report.history t) (order : IsOrderly t) where
   abbrev c : Configuration
@@ -60,7 +56,7 @@ module _ (report : Report) (t : Nodes) (stands : StandsFor report.history t) (or
     right_by y slot_is (Some m) at is =
         let heir = slice_index_or t.heirs i None in
         let here = ap (option_and_then (λ (n : MadeNode). option_map (with_node (record x { kept = behind_opening x.kept n }) n i) (log_of_node x.kept heir l n))) (made_at report t stands order i m at) in
-        let w = mapped (with_node (record x { kept = behind_opening x.kept (made_in m) }) (made_in m) i) (log_of_node x.kept heir l (made_in m)) y (sym here ∙ is) in
+        let w = option_map_some (with_node (record x { kept = behind_opening x.kept (made_in m) }) (made_in m) i) (log_of_node x.kept heir l (made_in m)) y (sym here ∙ is) in
         let s = w.0 in
         let log = log_then report t stands order i x led m at heir l s w.1 in
         let opened_ : OpensSo report t stands order i x led m at log.0 = opens_so report t stands order i x led m at log.0 m.from refl log.1 in

@@ -18,10 +18,11 @@ use Rattle.merge_laws.specs.Descents.{descents, descents_from}
 use Rattle.merge_laws.specs.Reading.{IsCommittedSo, IsGivenUpSo}
 use Rattle.report_follows.specs.Fronts.{LeadsTo, are_told_once, begin_so, behind_abandon, behind_commit, behind_committed, behind_first, behind_given_up, behind_roots, is_pending_for}
 use Rattle.report_follows.specs.Testing.{drained_in, drained_port, falls_at, falls_in, is_fall, is_tellable, roots_in, told_port}
-use Rattle.report_follows.proofs.FrontLemmas.{drained_front, own_place, is_drained_line, is_root_line, root_front}
+use Rattle.report_follows.proofs.FrontLemmas.{drained_front, is_drained_line, is_root_line, root_front}
 use Rattle.report_follows.proofs.LineLemmas.{abandon_finds, abandon_means, commit_finds, commit_means, first_finds, first_means, lines_told, told}
 use Rattle.report_follows.proofs.SortedLemmas.{if_once, once_if}
 use Rattle.base.proofs.OptionLaws.{made_of_one}
+use Rattle.base.proofs.PlaceLaws.{own_place}
 
 -- ---- fronts of one sort
 

@@ -6,16 +6,9 @@ use Rattle.std.proofs.lemmas.Bool.{and_from, and_parts, both_ways}
 use Rattle.std.proofs.lemmas.List.{append-nil, length_push}
 use Rattle.std.proofs.lemmas.Option.{slice_get_past}
 use Rattle.base.proofs.MapLaws.{prefix_len-map}
-use Rattle.base.proofs.PlaceLaws.{slice_get-behind}
+use Rattle.base.proofs.PlaceLaws.{own_place}
 use Rattle.report_types.specs.declared.report.HistoryLine.{HistoryLine}
 use Rattle.report_follows.specs.Testing.{both, drained_in, drained_port, is_drained_at, is_root_at, root_port, roots_in}
-
--- ---- places of a list
-
-pub own_place : {A : Type 0} (ys xs : List A) (x : A) → slice_get (ys ++ x ∷ xs) (length ys) ≡ Some x
-own_place ys xs x =
-    let e : length ys + 0 ≡ length ys = omega arith in
-    ap (slice_get (ys ++ x ∷ xs)) (sym e) ∙ slice_get-behind ys (x ∷ xs) 0 x refl
 
 -- what is computed at each place is what is computed of each element
 places : {A C : Type 0} (h : Option A → C) (ys xs : List A) → map (λ k. h (slice_get (ys ++ xs) k)) (range_with_len (length ys) (length xs)) ≡ map (λ x. h (Some x)) xs

@@ -3,12 +3,12 @@ use Rattle.std.proofs.Common.{◌≡◌, ◌==◌, ◌+◌, ◌<◌, ◌%◌, �
 use Rattle.std.specs.Prelude.{flat_map, Result, Ok, Err}
 use Rattle.std.specs.Option.{option_map_or}
 use Rattle.std.proofs.lemmas.Bool.{and_from, and_parts, cases_Bool, cond-true, cond-false}
-use Rattle.std.proofs.lemmas.Bool.Decides.{nat_tests}
 use Rattle.std.proofs.lemmas.Fmt.{decimal_by_steps}
 use Rattle.std.proofs.lemmas.List.{append-nil}
 use Rattle.std.proofs.lemmas.List.Elements.{All-cons, All-head, All-tail, All-nil}
 use Rattle.std.proofs.lemmas.Option.{same_Some}
 use Rattle.base.proofs.BytesLaws.{bytes_eq_self, same_bytes}
+use Rattle.base.proofs.DecimalLaws.{no_feed}
 use Rattle.quiesce_core.specs.declared.event.Event.{Event}
 use Rattle.quiesce_core.specs.declared.event.Event.TheVariants as events
 use Rattle.report_writing.specs.Reports.{SlotPath, ended, event_text, last_text, log_head, log_text, path_in}
@@ -39,9 +39,6 @@ lacks_parts at (byte ∷ bytes) more is =
     let parts = and_parts (not (byte == at)) (lacks at (bytes ++ more)) is in
     let rest = lacks_parts at bytes more parts.1 in
     (and_from (not (byte == at)) (lacks at bytes) parts.0 rest.0, rest.1)
-
-no_feed : (digit : ℕ) → not (48 + digit == 10) ≡ true
-no_feed digit = grind (arith, nat_tests)
 
 pub decimal_lacks : (n : ℕ) → n < 2 ^ 64 → lacks 10 (decimal n) ≡ true
 decimal_lacks =

@@ -5,8 +5,9 @@ use Rattle.std.specs.Option.{option_map_or}
 use Rattle.std.proofs.lemmas.Bool.{and_parts, both_ways, eq-eqb, leb-true, ltb-true, not-true}
 use Rattle.std.proofs.lemmas.List.{length-map, length-set, map_push}
 use Rattle.std.proofs.lemmas.Option.{same_Some, slice_get_within}
+use Rattle.std.proofs.lemmas.Map.Keys.{any_passes_from_place}
 use Rattle.base.proofs.OptionLaws.{map_or_at, map_or_true}
-use Rattle.base.proofs.PlaceLaws.{slice_get-map_at, any_at, slice_get-set_cases, slice_get-snoc, slice_get-there}
+use Rattle.base.proofs.PlaceLaws.{slice_get-map_at, slice_get-set_cases, slice_get-snoc, slice_get-there}
 use Rattle.config_graph.specs.Kinds.{row}
 use Rattle.config_graph.specs.declared.TheConstants.{MAX_NODES, MAX_PORTS}
 use Rattle.config_graph.specs.declared.kind.Kind.{Kind}
@@ -165,7 +166,7 @@ module _ (S : AnyNode → NodeState) (s : State) (xs : List Held) (ends : List �
           let g = h.holds.nodes_gone k y (slice_get-map_at (seen S) xs k (held.Handed y) at) in
           let moves = (and_parts (option_map_or (λ (m : Slot). not m.live && is_kind m.node.kind node.kind) (slot s.config k) false) (not (was_moved s.config k)) (can_make s n node (Some k) may).moves).1 in
           absurd (both_ways (was_moved s.config k) (not-true (was_moved s.config k) moves)
-          (any_at (λ (m : Slot). option_map_or (λ i. i == k) m.from false) s.config.slots g.heir g.taker (ap (λ (u : State). slot u.config g.heir) h.holds.state ∙ g.there) (map_or_at (λ i. i == k) g.taker.from false k g.from ∙ eq-eqb k k refl)))
+          (any_passes_from_place (λ (m : Slot). option_map_or (λ i. i == k) m.from false) s.config.slots g.heir g.taker (ap (λ (u : State). slot u.config g.heir) h.holds.state ∙ g.there) (map_or_at (λ i. i == k) g.taker.from false k g.from ∙ eq-eqb k k refl)))
 
   module _ (old : Held) (y : NodeSeen) (at : slice_get xs k ≡ Some old) (is : seen S old ≡ here y) where
     old_here : IsHere w.events k y

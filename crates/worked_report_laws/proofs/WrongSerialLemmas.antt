@@ -29,11 +29,11 @@ use Rattle.change_spec.specs.Roots.{StoodSinceClose}
 use Rattle.change_spec.proofs.StoodLaws.{stood_since}
 use Rattle.change_spec.proofs.MemberLaws.{at_line, events_parts, lines_parts, parted_at}
 use Rattle.base.proofs.ListLaws.{count_by-some}
+use Rattle.base.proofs.BoolLaws.{then_so}
 use Rattle.worked_report_laws.specs.WrongSerials.{ahead, between, late, log_of_a}
 use Rattle.worked_report_laws.proofs.PlaceLemmas.{DoneAt}
 use Rattle.worked_report_laws.proofs.WrongChangeLemmas.{any_left, any_right}
 use Rattle.worked_report_laws.proofs.WrongLogLemmas.{some_log}
-use Rattle.worked_report_laws.proofs.WrongLookLemmas.{then_so}
 use Rattle.worked_report_laws.proofs.WrongRestLemmas.{done_parts, placed}
 
 -- a port that had come to a serial has no lower one later
