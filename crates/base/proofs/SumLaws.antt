@@ -4,7 +4,6 @@ use Rattle.std.specs.Prelude.{◌==◌, sum_by}
 use Rattle.std.specs.List.{range_with_len}
 use Rattle.std.proofs.lemmas.Bool.{cases_Bool, cases_eq, eq-eqb, ne_eqb}
 use Rattle.std.proofs.lemmas.List.Sums.{sum_by-cons}
-use Rattle.config_graph.specs.declared.node.Node.{Node}
 
 pub sum_le : (f g : ℕ → ℕ) (a n : ℕ) → ((i : ℕ) → f i ≤ g i) → sum_by f (range_with_len a n) ≤ sum_by g (range_with_len a n)
 sum_le f g a zero h = omega arith
@@ -102,6 +101,6 @@ masked false false before x y zero_ was l = omega arith
 pub sum_same : (f g : ℕ → ℕ) (n : ℕ) → ((i : ℕ) → f i ≡ g i) → sum_by f (range_with_len 0 n) ≡ sum_by g (range_with_len 0 n)
 sum_same f g n h = omega (arith, sum_le f g 0 n (λ i. omega (arith, h i)), sum_le g f 0 n (λ i. omega (arith, h i)))
 
-pub one_each : (nodes : List Node) → sum_by (λ (n : Node). 1) nodes ≡ length nodes
+pub one_each : {A : Type 0} (xs : List A) → sum_by (λ (_ : A). 1) xs ≡ length xs
 one_each [] = refl
-one_each (n ∷ nodes) = omega (arith, sum_by-cons (λ (k : Node). 1) n nodes, one_each nodes)
+one_each {A} (x ∷ xs) = omega (arith, sum_by-cons (λ (_ : A). 1) x xs, one_each xs)

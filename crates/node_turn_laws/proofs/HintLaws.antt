@@ -15,12 +15,12 @@ use Rattle.config_graph.specs.declared.node.Target.{Target}
 use Rattle.component_trait.specs.States.{NodeState}
 use Rattle.quiesce_word.specs.Phases.{is_asked, is_idle}
 use Rattle.quiesce_word.proofs.PhaseLaws.{idle_not_asked}
-use Rattle.quiesce_core.proofs.AlterLaws.{exchanges_next, reconfigured, services_next}
+use Rattle.quiesce_core.proofs.AlterLaws.{exchanges_next, reconfigured, services_next, change_exchange}
 use Rattle.quiesce_core.proofs.LegalLaws.{legal}
 use Rattle.quiesce_core.proofs.RunLaws.{node_events_keep_the_configuration, runs_are_consistent, runs_are_well_formed}
 use Rattle.quiesce_core.proofs.StabilityLaws.{busy_ports_stay}
 use Rattle.quiesce_core.proofs.TableLaws.{gate_place, live_made}
-use Rattle.quiesce_core.specs.Alters.{Reconfigures, exchange_next, gate_next, nodes_next, ports_next, service_next, slot_next}
+use Rattle.quiesce_core.specs.Alters.{Reconfigures, gate_next, nodes_next, ports_next, service_next, slot_next}
 use Rattle.quiesce_core.specs.Doers.{is_of_change}
 use Rattle.quiesce_core.specs.Effect.{effect}
 use Rattle.quiesce_core.specs.Legal.{Legal}
@@ -380,15 +380,6 @@ kept_is waiting c p = ⊎_elim
   where
     beyond : length c.gates ≤ p → nat_lt p (length c.gates) ≡ false
     beyond past = false_from_ne_true (nat_lt p (length c.gates)) (λ h. absurd (omega (arith, past, ltb-true p (length c.gates) h)))
-
-change_exchange : (s : State) (p : ℕ) (e : Event) → is_of_change e ≡ true → exchange_next s p e ≡ exchange s p
-change_exchange s p (Close q) h = refl
-change_exchange s p (Reopen q) h = refl
-change_exchange s p (Make n node from) h = refl
-change_exchange s p (Link q n x) h = refl
-change_exchange s p (Unlink q) h = refl
-change_exchange s p (Remove n) h = refl
-change_exchange s p _ h = absurd (both_ways false refl h)
 
 change_service : (s : State) (n : ℕ) (e : Event) → is_of_change e ≡ true → service_next s n e ≡ service s n
 change_service s n (Close q) h = refl

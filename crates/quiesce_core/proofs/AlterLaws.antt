@@ -25,6 +25,7 @@ use Rattle.quiesce_core.specs.Alters.{Alters, Reconfigures, exchange_next, gate_
 use Rattle.quiesce_core.proofs.LegalLaws.{legal}
 use Rattle.quiesce_core.proofs.StateLaws.{exchange_here, exchange_there, service_here, service_there, put_is, target_service_is}
 use Rattle.quiesce_core.proofs.TableLaws.{gate_place, exchange_place, owner_place, target_place}
+use Rattle.quiesce_core.specs.Doers.{is_of_change}
 use Rattle.base.proofs.PlaceLaws.{fresh_behind, slice_get-append_front, slice_get-last, slice_get-set_other, slice_get-set_same}
 
 -- a value that goes by the place where it is put
@@ -223,3 +224,12 @@ steps_alter s t e w step = subst (λ u. Alters s e u) (sym step.changed) (alters
 pub slots_grow : (c : Configuration) (e : Event) → length c.slots ≤ nodes_next c e
 slots_grow c (Make n node from) = omega arith
 slots_grow c _ = omega arith
+
+pub change_exchange : (s : State) (p : ℕ) (e : Event) → is_of_change e ≡ true → exchange_next s p e ≡ exchange s p
+change_exchange s p (Close q) h = refl
+change_exchange s p (Reopen q) h = refl
+change_exchange s p (Make n node from) h = refl
+change_exchange s p (Link q n x) h = refl
+change_exchange s p (Unlink q) h = refl
+change_exchange s p (Remove n) h = refl
+change_exchange s p _ h = absurd (both_ways false refl h)

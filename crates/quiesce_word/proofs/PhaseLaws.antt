@@ -95,3 +95,7 @@ more_not_answered phase.More h = refl
 
 pub idle_not_asked : (f : Phase) → is_idle f ≡ true → is_asked f ≡ false
 idle_not_asked f h = false_from_ne_true (is_asked f) (λ asked. both_ways (is_idle f) (asked_busy f asked) h)
+
+pub more_not_asked : (f : Phase) → is_in_more f ≡ true → is_asked f ≡ false
+more_not_asked phase.More h = refl
+more_not_asked _ h = absurd (both_ways false refl h)

@@ -28,14 +28,13 @@ use Rattle.quiesce_core.specs.declared.event.Event.TheVariants.{Make, Remove}
 use Rattle.quiesce_core.specs.declared.state.Exchange.{Exchange}
 use Rattle.quiesce_core.specs.declared.state.Service.{Service}
 use Rattle.quiesce_core.specs.declared.state.Slot.{Slot}
-use Rattle.quiesce_core.proofs.AlterLaws.{exchanges_next, reconfigured, services_next}
+use Rattle.quiesce_core.proofs.AlterLaws.{exchanges_next, reconfigured, services_next, change_exchange}
 use Rattle.quiesce_core.proofs.InductionLaws.{IsNext}
 use Rattle.quiesce_core.proofs.StabilityLaws.{serving_nodes_stay}
 use Rattle.change_round_laws.proofs.FoldLaws.{StatesAreHanded}
 use Rattle.result_laws.specs.Coming.{HasFolds, come}
 use Rattle.result_laws.proofs.AgreeingLaws.{change_does}
 use Rattle.result_laws.proofs.ComingLaws.{facts, folds_before, folds_stay, given_to, made_has, old_stays}
-use Rattle.result_laws.proofs.EventLaws.{nothing_there}
 use Rattle.result_laws.proofs.FactLaws.{Facts}
 use Rattle.result_laws.specs.Sums.{is_account}
 use Rattle.result_laws.proofs.Adding.{sum_more, sum_one, sum_two}
@@ -122,7 +121,7 @@ module _ (handed : StatesAreHanded) (es : List Event) (e : Event) (here : IsNext
   reconfigured_so = subst (λ (x : State). Reconfigures s.config e x.config) (sym here.next) (reconfigured s e here.legal)
 
   pub same_exchange : (q : ℕ) → exchange t q ≡ exchange s q
-  same_exchange q = ap (λ (x : State). exchange x q) here.next ∙ exchanges_next s e here.well here.legal q ∙ nothing_there s q e change
+  same_exchange q = ap (λ (x : State). exchange x q) here.next ∙ exchanges_next s e here.well here.legal q ∙ change_exchange s q e change
 
   same_service : (n : ℕ) → service t n ≡ service s n
   same_service n = ap (λ (x : State). service x n) here.next ∙ services_next s e here.well here.legal n ∙ ap (λ b. cond b (service_by (service s n) e) (service s n)) (change_does s e n change)

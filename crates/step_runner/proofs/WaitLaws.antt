@@ -11,6 +11,7 @@ use Rattle.change_engine.specs.Passivating.{IsPassivation, IsRound, Passivation,
 use Rattle.change_engine.specs.declared.passivating.LeftRoot.{LeftRoot}
 use Rattle.change_spec.specs.Scene.{Seen}
 use Rattle.change_spec.specs.Serial.{after_changes, is_none_left, looks_after, seen_at}
+use Rattle.change_spec.proofs.SerialLaws.{ports_seen}
 use Rattle.quiesce_word.specs.Words as words
 use Rattle.quiesce_word.specs.declared.word.Word.{Word}
 use Rattle.quiesce_core.proofs.RunLaws.{runs_are_well_formed}
@@ -87,10 +88,6 @@ module _ (w : World) (r : IsReached w) where
 ports_of_roots : (xs : List LeftRoot) → root_ports xs ≡ map (λ (d : Seen). d.port) (map seen_root xs)
 ports_of_roots [] = refl
 ports_of_roots (x ∷ xs) = ap (λ ps. x.port ∷ ps) (ports_of_roots xs)
-
-ports_seen : (w : World) (ps : List ℕ) → map (λ (d : Seen). d.port) (map (seen_at w) ps) ≡ ps
-ports_seen w [] = refl
-ports_seen w (p ∷ ps) = ap (λ xs. p ∷ xs) (ports_seen w ps)
 
 pub some_there : (xs : List LeftRoot) → (xs ≡ [] → ⊥) → (length (root_ports xs) == 0) ≡ false
 some_there [] h = absurd (h refl)

@@ -5,8 +5,8 @@ use Rattle.component_trait.specs.Making.{handed_over}
 use Rattle.base.proofs.PlaceLaws.{slice_get-push_cases}
 use Rattle.state_handover.specs.contracts.any_node.AnyNodeComponent.TheImpl.{ghosts}
 use Rattle.node_host.specs.Lines as line
+use Rattle.node_host.proofs.LineLaws.{opens_from, arg_is}
 use Rattle.step_board.specs.Entries.{Predecessor}
-use Rattle.step_board.proofs.LineLemmas.{arg_is, opens_from}
 use Rattle.step_board.proofs.making.host_from.Goals as goal
 
 pub host-requires-clause-opens : goal.host-requires-clause-opens

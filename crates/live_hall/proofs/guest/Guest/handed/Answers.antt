@@ -7,11 +7,11 @@ use Rattle.txn_spec.specs.Views.{node_at}
 use Rattle.base.proofs.PlaceLaws.{slice_get-push_cases}
 use Rattle.state_handover.specs.contracts.any_node.AnyNodeComponent.TheImpl.{ghosts}
 use Rattle.node_host.specs.Lines as line
+use Rattle.node_host.proofs.LineLaws.{opens_from, arg_is}
 use Rattle.live_hall.specs.Lines.{seen_word}
 use Rattle.atomic_table.specs.Seated.{TableId}
 use Rattle.txn_gate.specs.Seats.{node_in, table_of_node}
 use Rattle.live_hall.proofs.HandedLaws.{line_handed}
-use Rattle.live_hall.proofs.LineOpening.{arg_is, opens_from}
 use Rattle.live_hall.proofs.guest.Guest.handed.Goals as goal
 
 pub host-requires-clause-opens : goal.host-requires-clause-opens
