@@ -1,5 +1,6 @@
 -- What an answer owes of a part, it owes of the whole.
 use Rattle.std.proofs.Common.{◌≡◌, ◌∙◌, Result, Ok, Err, IsErrAnd, sym, subst}
+use Rattle.std.specs.Prelude.{OnErr}
 use Rattle.base.specs.Answers.{Answers, Refuses}
 
 -- an answer with less of its value, and with wider causes
@@ -21,3 +22,7 @@ pub Refuses-named :
     {T E : Type 0} {free refusal : E} (IsRight : T → Type 0) (Cause : E → Type 0) {answer : Result T E}
     → answer ≡ Err refusal → Answers free IsRight Cause answer → Refuses free Cause refusal
 Refuses-named {free = free} IsRight Cause is owed = subst (Answers free IsRight Cause) is owed
+
+pub if_err : {A E P : Type 0} → P → (r : Result A E) → OnErr r P
+if_err h (Ok x) = tt
+if_err h (Err e) = h

@@ -1,7 +1,7 @@
 -- What lists contain that are put together, mapped and filtered.
 use Rattle.std.proofs.Common.{◌≡◌, ℕ, zero, suc, Bool, true, false, cond, List, [], ◌∷◌, map, Option, Some, None, slice_get, refl, ap, sym, subst, ◌∙◌, arith, inl, inr, ◌⊎◌}
-use Rattle.std.specs.List.{Contains, filter, flat_map, filter_map, cons_option}
-use Rattle.std.proofs.lemmas.Bool.{false≢true}
+use Rattle.std.specs.List.{Contains, filter, flat_map, filter_map, cons_option, list_any}
+use Rattle.std.proofs.lemmas.Bool.{false≢true, or_left, or_right}
 use Rattle.std.proofs.lemmas.List.Elements.{Contains-append_left, Contains-append_right, Contains-append_cases}
 use Rattle.std.proofs.lemmas.Option.{slice_get-get_or, slice_get_within, get_or_from_slice_get}
 use Rattle.std.proofs.Common.{drop, get_or, ◌<◌, length}
@@ -115,3 +115,12 @@ pub Contains-from :
     {A B C : Type 0} (f : B → List C) (g : A → B) (xs : List A) (i : ℕ) (x : A) (whole : List C) → i < length xs → x ≡ get_or xs i x
     → whole ≡ flat_map f (map g (drop i xs)) → (e : C) → Contains (f (g x)) e → Contains whole e
 Contains-from f g xs i x whole within is rest e has = rw (rest, drop_more xs i x within, ← is) (Contains-append_left _ _ e has)
+
+-- a test passes somewhere in a list
+pub any_if : {A : Type 0} (f : A → Bool) (xs : List A) (x : A) → Contains xs x → f x ≡ true → list_any f xs ≡ true
+any_if f xs x there h = let w = at_some_place xs x there in at f xs w.0 x w.1 h
+  where
+    at : {A : Type 0} (f : A → Bool) (xs : List A) (i : ℕ) (x : A) → slice_get xs i ≡ Some x → f x ≡ true → list_any f xs ≡ true
+    at f [] i x e h = absurd (cc)
+    at f (y ∷ xs) zero x e h = let same : y ≡ x = cc in or_left (f y) (list_any f xs) (ap f same ∙ h)
+    at f (y ∷ xs) (suc i) x e h = or_right (f y) (list_any f xs) (at f xs i x e h)

@@ -1,5 +1,5 @@
 -- Decimal numbers, digit by digit.
-use Rattle.std.proofs.Common.{◌≡◌, ℕ, ◌+◌, ◌*◌, ◌<◌, ◌≤◌, true, List, length, get_or, take, arith, lit≤}
+use Rattle.std.proofs.Common.{◌≡◌, ℕ, ◌+◌, ◌*◌, ◌<◌, ◌≤◌, true, List, length, get_or, take, arith, lit≤, ◌==◌, not}
 use Rattle.std.specs.List.{AllPass}
 use Rattle.std.specs.Char.{is_ascii_digit, digit_value}
 use Rattle.std.specs.Str.Parse.{digits_value}
@@ -17,3 +17,6 @@ digits_value_next digits i all within =
     let here = digit_value-of_digit (get_or digits i 0) (all i 0 within) in
     let more = digits_value_more 10 digits i within in
     (omega arith, omega arith, omega arith, digits_value-take-le 10 digits (i + 1) (lit≤ tt))
+
+pub no_feed : (digit : ℕ) → not (48 + digit == 10) ≡ true
+no_feed digit = grind (arith, nat_tests)

@@ -34,7 +34,7 @@ each_weaker P Q before [] follows each = tt
 each_weaker P Q before (x ∷ xs) follows each = (follows before x each.0, each_weaker P Q (before ++ x ∷ []) xs follows each.1)
 
 -- the values of a partial function on a list, with one member more
-filter_map_pushed : {A B : Type 0} (f : A → Option B) (xs : List A) (x : A) (o : Option B) → f x ≡ o → filter_map f (xs ++ x ∷ []) ≡ filter_map f xs ++ cons_option o []
+pub filter_map_pushed : {A B : Type 0} (f : A → Option B) (xs : List A) (x : A) (o : Option B) → f x ≡ o → filter_map f (xs ++ x ∷ []) ≡ filter_map f xs ++ cons_option o []
 filter_map_pushed f xs x o is = filter_map-append f xs (x ∷ []) ∙ ap (λ (v : Option _). filter_map f xs ++ cons_option v []) is
 
 -- what holds at each place of a list is carried to the values of a partial function on it: each value is told by the member that it

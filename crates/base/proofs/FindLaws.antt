@@ -1,12 +1,13 @@
 -- What is found in a list, and where.
 use Rattle.std.proofs.Common.{◌≡◌, ℕ, Bool, true, false, cond, List, [], ◌∷◌, length, map, position, nat_lt, ◌||◌, Option, Some, None, option_map, is_some, slice_get, refl, ap, sym, subst, ◌∙◌, arith, inl, inr, ◌≤◌, ltb}
-use Rattle.std.specs.List.{Contains, find, list_any, position_or_len}
+use Rattle.std.specs.List.{Contains, find, list_any, position_or_len, AllByRecursion}
 use Rattle.std.specs.Option.{option_and_then}
 use Rattle.std.proofs.lemmas.Option.{slice_get_past, none-some, same_Some, cond_some}
 use Rattle.std.proofs.lemmas.List.Folds.{find_at}
 use Rattle.std.proofs.lemmas.Bool.{false≢true, ltb-false, ltb-true}
 use Rattle.std.proofs.lemmas.List.Elements.{Contains-append_right, Contains-get_or}
 use Rattle.std.proofs.lemmas.Bool.Decides.{nat_tests}
+use Rattle.std.specs.Prelude.{IfSome}
 use Rattle.base.proofs.PlaceLaws.{slice_get-there}
 use Rattle.base.proofs.ContainsLaws.{Contains-cons_cases, Contains-here, Contains-nil, Contains-there}
 
@@ -113,3 +114,12 @@ Contains-find p (y ∷ ys) x h = by (p y) (Contains-find p ys x) h
         let same : y ≡ x = cc in
         subst (Contains (y ∷ ys)) same (Contains-get_or (y ∷ ys) 0 y (omega arith))
     by false rest f = Contains-append_right (y ∷ []) ys x (rest f)
+
+-- what is found has what all have
+pub found_has : {A : Type 0} (P : A → Type 0) (test : A → Bool) (xs : List A) → AllByRecursion P xs → IfSome (find test xs) P
+found_has P test [] all = tt
+found_has {A} P test (x ∷ xs) all = by (test x) (found_has P test xs all.1)
+  where
+    by : (b : Bool) → IfSome (find test xs) P → IfSome (cond b (Some x) (find test xs)) P
+    by true rest = all.0
+    by false rest = rest

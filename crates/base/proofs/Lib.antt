@@ -16,3 +16,4 @@ pub mod RisingLaws
 pub mod SumLaws
 pub mod TellLaws
 pub mod PairedLaws
+pub mod BoolLaws

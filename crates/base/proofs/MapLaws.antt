@@ -72,10 +72,6 @@ length-filter_map {B = B} f (x ∷ xs) = one (f x) (length-filter_map f xs)
     one None few = omega (arith, few)
     one (Some y) few = omega (arith, few)
 
-pub no_length : {A : Type 0} (xs : List A) → length xs ≡ 0 → xs ≡ []
-no_length [] is = refl
-no_length (x ∷ xs) is = absurd (omega (arith, is))
-
 -- what was made of the members so far, and of one more
 pub mapped_more : {A B : Type 0} (f : A → B) (xs : List A) (i : ℕ) (x : A) (old new : List B) (y : B) → slice_get xs i ≡ Some x → old ≡ map f (take i xs) → y ≡ f x → new ≡ old ++ y ∷ [] → new ≡ map f (take (i + 1) xs)
 mapped_more f xs i x old new y at so_far is grown =
@@ -88,3 +84,7 @@ count_by-append p xs ys = sum_by-append (λ y. cond (p y) 1 0) xs ys
 pub filter-none : {A : Type 0} (p : A → Bool) (xs : List A) → ((x : A) → p x ≡ false) → filter p xs ≡ []
 filter-none p [] h = refl
 filter-none p (x ∷ xs) h = rw (h x) (filter-none p xs h)
+
+pub none_mapped : {A B : Type 0} (f : A → B) (xs : List A) → map f xs ≡ [] → xs ≡ []
+none_mapped f [] is = refl
+none_mapped f (x ∷ xs) is = absurd (cc is)

@@ -1,7 +1,8 @@
 -- The test that two numbers are one.
-use Rattle.std.proofs.Common.{◌≡◌, ◌∙◌, ℕ, true, eqb, refl, sym, ⊎_elim}
+use Rattle.std.proofs.Common.{◌≡◌, ◌∙◌, ℕ, true, eqb, refl, sym, ⊎_elim, ◌<◌, Bool, false, arith, ◌≤◌, nat_le, suc}
 use Rattle.std.specs.Prelude.{◌==◌}
-use Rattle.std.proofs.lemmas.Bool.{cases_eq, eq-eqb, ne_eqb}
+use Rattle.std.proofs.lemmas.Bool.{cases_eq, eq-eqb, ne_eqb, eqb-true}
+use Rattle.std.proofs.lemmas.Bool.Decides.{nat_tests}
 
 pub same_number : (n : ℕ) → (n == n) ≡ true
 same_number n = eq-eqb n n refl
@@ -10,3 +11,19 @@ pub eqb_flips : (x y : ℕ) → eqb x y ≡ eqb y x
 eqb_flips x y = ⊎_elim
     (λ (same : x ≡ y). eq-eqb x y same ∙ sym (eq-eqb y x (sym same)))
     (λ (other : x ≡ y → ⊥). ne_eqb x y other ∙ sym (ne_eqb y x (λ e. other (sym e)))) (cases_eq x y)
+
+pub other_number : (a b : ℕ) → a < b → (a == b) ≡ false
+other_number a b low = by (a == b) refl
+  where
+    by : (x : Bool) → (a == b) ≡ x → x ≡ false
+    by false e = refl
+    by true e = absurd (omega (arith, low, eqb-true a b e))
+
+pub at_most : (n most : ℕ) → nat_le n most ≡ true → n ≤ most
+at_most n most is = grind (arith, nat_tests)
+
+pub above : (n most : ℕ) → nat_le n most ≡ false → most < n
+above n most is = grind (arith, nat_tests)
+
+pub not_zero : (n : ℕ) → (suc n == 0) ≡ false
+not_zero n = grind (arith, nat_tests)

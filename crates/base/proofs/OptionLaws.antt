@@ -37,16 +37,6 @@ pub made_of_found : {A B C : Type 0} (g : A → B → C) (h : A → Option B) (o
 made_of_found g h None y e = absurd (none-some y e)
 made_of_found g h (Some x) y e = let w = option_map_some (g x) (h x) y e in (x, w.0, refl, w.1, w.2)
 
-pub true_from_not : (b : Bool) → not b ≡ false → b ≡ true
-true_from_not true h = refl
-true_from_not false h = sym h
-
-pub flip : (a b : Bool) → a ≡ not b → b ≡ not a
-flip true true h = h
-flip true false h = refl
-flip false true h = refl
-flip false false h = h
-
 pub None-from_is_none : {A : Type 0} (o : Option A) → is_none o ≡ true → o ≡ None
 None-from_is_none None h = refl
 None-from_is_none (Some x) h = absurd (false≢true h)
@@ -63,3 +53,7 @@ None-from_map f (Some x) h = absurd (none-some (f x) (sym h))
 pub made_of_one : {A B : Type 0} (f : A → Option B) (o : Option A) (y : B) → option_and_then f o ≡ Some y → (x : A) × (o ≡ Some x) × (f x ≡ Some y)
 made_of_one f None y h = absurd (none-some y h)
 made_of_one f (Some x) y h = (x, refl, h)
+
+pub is_some-map : {A B : Type 0} (f : A → B) (o : Option A) → is_some (option_map f o) ≡ is_some o
+is_some-map f None = refl
+is_some-map f (Some x) = refl

@@ -2,9 +2,9 @@
 use Rattle.std.proofs.Common.{◌≡◌, ◌∙◌, ℕ, zero, suc, ◌+◌, ◌<◌, List, [], ◌∷◌, ◌++◌, length, map, replicate, set, Some, sym, ap, refl, subst, arith}
 use Rattle.std.specs.Prelude.{slice_get, slice_index_or}
 use Rattle.std.proofs.lemmas.List.{map-append, replicate-append-replicate}
-use Rattle.std.proofs.lemmas.Option.{same_Some}
+use Rattle.std.proofs.lemmas.Option.{same_Some, slice_get_within}
 use Rattle.std.proofs.Math.Seq.{map-set_same}
-use Rattle.base.proofs.PlaceLaws.{one_at, slice_get-below}
+use Rattle.base.proofs.PlaceLaws.{one_at}
 use Rattle.base.specs.Paired.{Paired}
 
 -- what is found at a place within the list is there

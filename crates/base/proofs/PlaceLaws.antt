@@ -1,11 +1,11 @@
 -- The elements of lists by their places, in lists that are put together, grow or change.
-use Rattle.std.proofs.Common.{◌≡◌, ◌≢◌, ℕ, Bool, true, ◌≤◌, ◌<◌, zero, suc, List, [], ◌∷◌, ◌++◌, Some, length, set, refl, ap, sym, subst, ◌∙◌, arith, inl, inr, ◌⊎◌, ◌+◌, map, ◌-◌, get_or, replicate, ⊎_elim}
+use Rattle.std.proofs.Common.{◌≡◌, ◌≢◌, ℕ, ◌≤◌, ◌<◌, zero, suc, List, [], ◌∷◌, ◌++◌, Some, length, set, refl, ap, sym, subst, ◌∙◌, arith, inl, inr, ◌⊎◌, ◌+◌, map, ◌-◌, get_or, replicate, ⊎_elim}
 use Rattle.std.proofs.Common.{take, drop}
 use Rattle.std.proofs.lemmas.Grind.{common_steps}
-use Rattle.std.specs.List.{list_any, slice_get}
-use Rattle.std.proofs.lemmas.Option.{none-some, same_Some}
-use Rattle.std.proofs.lemmas.Bool.{cases_lt, or_left, or_right}
-use Rattle.std.proofs.lemmas.List.{get_or_past, get_or_append_left, get_or-append_right}
+use Rattle.std.specs.List.{slice_get}
+use Rattle.std.proofs.lemmas.Option.{none-some, same_Some, slice_get_within, get_or_from_slice_get, slice_get-get_or}
+use Rattle.std.proofs.lemmas.Bool.{cases_lt}
+use Rattle.std.proofs.lemmas.List.{get_or_past, get_or_append_left, get_or-append_right, take_more}
 
 -- ---- elements by their places
 
@@ -68,11 +68,6 @@ slice_get-append_cases (z ∷ xs) ys zero x at = inl at
 slice_get-append_cases (z ∷ xs) ys (suc a) x at =
     elim (slice_get-append_cases xs ys a x at) [ inl there ↦ inl there | inr more ↦ inr (more.0, omega (arith, more.1), more.2) ]
 
-pub slice_get-below : {A : Type 0} (xs : List A) (a : ℕ) (x : A) → slice_get xs a ≡ Some x → a < length xs
-slice_get-below [] a x at = absurd (none-some x at)
-slice_get-below (y ∷ xs) zero x at = omega arith
-slice_get-below (y ∷ xs) (suc a) x at = omega (arith, slice_get-below xs a x at)
-
 pub slice_get-there : {A : Type 0} (xs : List A) (a : ℕ) → a < length xs → (x : A) × (slice_get xs a ≡ Some x)
 slice_get-there [] a within = absurd (omega (arith, within))
 slice_get-there (x ∷ xs) zero within = (x, refl)
@@ -85,7 +80,7 @@ slice_get-before xs ys a x within at =
 pub slice_get-after : {A : Type 0} (xs ys : List A) (a b : ℕ) (x : A) → a ≡ length xs + b → slice_get (xs ++ ys) a ≡ Some x → slice_get ys b ≡ Some x
 slice_get-after xs ys a b x is at =
     elim (slice_get-append_cases xs ys a x at) [
-      | inl there ↦ absurd (omega (arith, slice_get-below xs a x there))
+      | inl there ↦ absurd (omega (arith, slice_get_within xs a x there))
       | inr more ↦ subst (λ c. slice_get ys c ≡ Some x) (omega (arith, more.1)) more.2
     ]
 
@@ -125,12 +120,22 @@ fresh_behind xs x k q = ⊎_elim
     get_or-append_right xs (replicate k x) (length xs) q x refl past ∙ replicated x k (q - length xs) ∙ sym (get_or_past xs q x past))
     (cases_lt q (length xs))
 
--- an element that passes is one of some that pass
-pub any_at : {A : Type 0} (f : A → Bool) (xs : List A) (i : ℕ) (x : A) → slice_get xs i ≡ Some x → f x ≡ true → list_any f xs ≡ true
-any_at f [] i x e h = absurd (none-some x e)
-any_at f (y ∷ xs) zero x e h = or_left (f y) (list_any f xs) (ap f (same_Some y x e) ∙ h)
-any_at f (y ∷ xs) (suc i) x e h = or_right (f y) (list_any f xs) (any_at f xs i x e h)
-
 -- what the code's `&xs[i..]` is
 pub rest_is : (xs : List ℕ) (i : ℕ) → i ≤ length xs → take (length xs - i) (drop i xs) ≡ drop i xs
 rest_is xs i within = grind (arith, common_steps)
+
+-- one more of the numbers at the front of a list
+pub taken_more : (xs ys : List ℕ) (i x : ℕ) → slice_get xs i ≡ Some x → ys ≡ take i xs → ys ++ x ∷ [] ≡ take (i + 1) xs
+taken_more xs ys i x there so_far =
+    ap (λ zs. zs ++ x ∷ []) so_far ∙ ap (λ y. take i xs ++ y ∷ []) (sym (get_or_from_slice_get xs i x x there)) ∙ sym (take_more xs i x (slice_get_within xs i x there))
+
+-- ---- places of a list
+
+pub own_place : {A : Type 0} (ys xs : List A) (x : A) → slice_get (ys ++ x ∷ xs) (length ys) ≡ Some x
+own_place ys xs x =
+    let e : length ys + 0 ≡ length ys = omega arith in
+    ap (slice_get (ys ++ x ∷ xs)) (sym e) ∙ slice_get-behind ys (x ∷ xs) 0 x refl
+
+-- what is read at the places of a move
+pub read_entry : {A : Type 0} (xs : List A) (i : ℕ) (x d : A) → i < length xs → x ≡ get_or xs i x → get_or xs i d ≡ x
+read_entry xs i x d low x_is = get_or_from_slice_get xs i x d (slice_get-get_or xs i x low ∙ ap Some (sym x_is))

@@ -1,5 +1,5 @@
 -- Ranges of numbers, and numbers that rise.
-use Rattle.std.proofs.Common.{◌≡◌, ℕ, zero, suc, ◌+◌, ◌<◌, List, [], ◌∷◌, ◌++◌, length, get_or, ◌∙◌, ap, add-one, arith, inl, inr, All}
+use Rattle.std.proofs.Common.{◌≡◌, ℕ, zero, suc, ◌+◌, ◌<◌, List, [], ◌∷◌, ◌++◌, length, get_or, ◌∙◌, ap, add-one, arith, inl, inr, All, subst}
 use Rattle.std.specs.List.{range_with_len}
 use Rattle.std.specs.List.Sorted.{IsStrictlyIncreasing}
 use Rattle.std.proofs.lemmas.Bool.{cases_lt}
@@ -28,3 +28,8 @@ IsStrictlyIncreasing-push xs y rise below k h =
           let end : length xs ≡ k + 1 = omega arith in
           rw (here, get_or_push xs y 0 (k + 1) end) (below k 0 (omega arith))
     ]
+
+pub rise_tail : (a : ℕ) (xs : List ℕ) → IsStrictlyIncreasing (a ∷ xs) → IsStrictlyIncreasing xs
+rise_tail a xs h k low =
+    let f : suc k + 1 ≡ suc (k + 1) = omega arith in
+    subst (λ n. get_or xs k 0 < get_or (a ∷ xs) n 0) f (h (suc k) (omega (arith, low)))

@@ -1,5 +1,5 @@
 -- Sums over a range of numbers, of which one term or two change.
-use Rattle.std.proofs.Common.{◌≡◌, ℕ, zero, suc, ◌+◌, ◌<◌, ◌≤◌, Bool, true, false, cond, refl, sym, ap, ◌∙◌, ⊎_elim, arith}
+use Rattle.std.proofs.Common.{◌≡◌, ℕ, zero, suc, ◌+◌, ◌<◌, ◌≤◌, Bool, true, false, cond, refl, sym, ap, ◌∙◌, ⊎_elim, arith, List, [], ◌∷◌, length}
 use Rattle.std.specs.Prelude.{◌==◌, sum_by}
 use Rattle.std.specs.List.{range_with_len}
 use Rattle.std.proofs.lemmas.Bool.{cases_Bool, cases_eq, eq-eqb, ne_eqb}
@@ -97,3 +97,10 @@ masked true after before x y zero_ was l =
     ⊎_elim (λ (e : after ≡ true). rw e (omega arith)) (λ (e : after ≡ false). rw e (omega arith)) (cases_Bool after)
 masked false true before x y zero_ was l = rw (was refl refl) l
 masked false false before x y zero_ was l = omega arith
+
+pub sum_same : (f g : ℕ → ℕ) (n : ℕ) → ((i : ℕ) → f i ≡ g i) → sum_by f (range_with_len 0 n) ≡ sum_by g (range_with_len 0 n)
+sum_same f g n h = omega (arith, sum_le f g 0 n (λ i. omega (arith, h i)), sum_le g f 0 n (λ i. omega (arith, h i)))
+
+pub one_each : {A : Type 0} (xs : List A) → sum_by (λ (_ : A). 1) xs ≡ length xs
+one_each [] = refl
+one_each {A} (x ∷ xs) = omega (arith, sum_by-cons (λ (_ : A). 1) x xs, one_each xs)

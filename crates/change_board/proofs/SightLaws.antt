@@ -2,7 +2,7 @@
 use Rattle.std.proofs.Common.{◌≡◌, ℕ, zero, suc, ◌<◌, List, length, Option, Some, None, refl, ap, ◌∙◌}
 use Rattle.std.specs.Prelude.{option_map, option_and_then}
 use Rattle.std.specs.Option.{option_map_or}
-use Rattle.base.proofs.PlaceLaws.{slice_get-below}
+use Rattle.std.proofs.lemmas.Option.{slice_get_within}
 use Rattle.change_spec.specs.Opening.{argument_of, fold_at, fold_of_node, fold_within}
 use Rattle.component_trait.specs.States.{NodeState}
 use Rattle.component_trait.specs.Tables.{opening}
@@ -40,7 +40,7 @@ module _ (es : List Event) (seen : ℕ → Option (List Event)) (all : (k : ℕ)
   by_slot fuel n (Some m) e h =
       ap (λ o. option_and_then (λ own. option_and_then (fold_at m own)
       (option_map_or (λ k. option_map (λ (s : NodeState). s.kept) (fold_seen_within c seen fuel k)) m.from (Some (opening m.node.kind (argument_of m))))) o)
-      (all n (slice_get-below c.slots n m e))
+      (all n (slice_get_within c.slots n m e))
       ∙ ap (option_and_then (fold_at m (done_by n es))) (same_opening fuel m m.from h)
 
   within : (fuel n : ℕ) → fold_seen_within c seen fuel n ≡ fold_within es fuel n

@@ -1,9 +1,9 @@
 -- An engine whose change is open.
-use Rattle.std.proofs.Common.{◌≡◌, ◌≤◌, ◌<◌, ◌+◌, ℕ, true, false, List, [], ◌∷◌, ◌++◌, length, map, Option, Some, None, get_or, refl, sym, ap, ◌∙◌, subst, ⊎_elim, arith, vec_len}
+use Rattle.std.proofs.Common.{◌≡◌, ◌≤◌, ◌<◌, ◌+◌, ℕ, true, false, List, [], ◌∷◌, ◌++◌, length, map, Option, Some, None, refl, sym, ap, ◌∙◌, subst, ⊎_elim, arith, vec_len}
 use Rattle.std.specs.Prelude.{IfErr, IfOk, OnOk, Result, Ok, Err, flat_map}
 use Rattle.std.specs.Global.{Vec}
 use Rattle.std.specs.Vec.{vec_capacity}
-use Rattle.std.proofs.lemmas.List.{append-nil, get_or-map, length-map, same_lists}
+use Rattle.std.proofs.lemmas.List.{append-nil}
 use Rattle.std.proofs.lemmas.List.Elements.{All-head, All-tail}
 use Rattle.std.proofs.lemmas.Option.{same_Some}
 use Rattle.change_plan.specs.Refusals.{CanPlan}
@@ -18,13 +18,12 @@ use Rattle.quiesce_laws.specs.Steps.{change_all}
 use Rattle.quiesce_laws.proofs.MemberLaws.{select, select_apart}
 use Rattle.quiesce_laws.proofs.TurningLaws.{SameLinks, live_port, same_graph, same_turned}
 use Rattle.config_graph.specs.Graph.{Graph}
-use Rattle.config_graph.specs.declared.node.Port.{Port}
 use Rattle.change_plan_laws.specs.Commit.{commit_events, is_one_of, ports_to_close}
 use Rattle.change_plan_laws.specs.Committing.{made_in}
 use Rattle.quiesce_core.specs.Effect.{with_closed}
 use Rattle.quiesce_core.specs.Live.{IsGraphOf}
 use Rattle.quiesce_core.specs.Rules.{is_live_port}
-use Rattle.quiesce_core.specs.State.{Configuration, fresh_gate, gate, owner}
+use Rattle.quiesce_core.specs.State.{Configuration, owner}
 use Rattle.quiesce_core.specs.WellFormed.{IsSound}
 use Rattle.quiesce_core.specs.declared.event.Event.TheVariants as event
 use Rattle.quiesce_core.specs.declared.state.Slot.{Slot}
@@ -45,13 +44,14 @@ use Rattle.change_engine.specs.declared.draining.PassError.{PassError}
 use Rattle.change_engine.specs.declared.draining.PassError.TheVariants.{NoMemory, Pending}
 use Rattle.change_engine.specs.Engines.{HasPlace, IsFor, IsOpen, IsPrepared, IsReadyToCommit, IsLaidOut, Tells}
 use Rattle.change_engine.specs.Growing.{Grew, telling}
-use Rattle.change_lists.specs.Layouts.{IsLayoutOf, place_in, port_of}
+use Rattle.change_lists.specs.Layouts.{IsLayoutOf}
 use Rattle.change_engine.specs.Leaving.{IsRootLeft}
 use Rattle.change_engine.specs.Passivating.{AreLivePorts, Passivated, Passivation, last_look, left_after, passivation_items}
 use Rattle.change_engine.specs.Planning.{MayCarryOut}
 use Rattle.change_engine.specs.declared.engine.Change.{Change}
 use Rattle.change_engine.specs.declared.engine.Engine.{Engine}
 use Rattle.change_lists.specs.declared.layout.Layout.{Layout}
+use Rattle.change_lists.proofs.LayoutLaws.{same_laid}
 use Rattle.change_engine.specs.declared.passivating.LeftRoot.{LeftRoot}
 use Rattle.change_engine.specs.declared.passivating.Waiting.{Waiting}
 use Rattle.change_engine.proofs.EngineLemmas.{record_sound, said_alone}
@@ -77,24 +77,6 @@ same_pending within (x ∷ left) h = ap (λ t. said (to.Pending within) ∷ root
 no_entries : (xs : List LeftRoot) → entries (map root_item xs) ≡ []
 no_entries [] = refl
 no_entries (x ∷ xs) = no_entries xs
-
--- A layout tells no gate's being closed or open.
-pub same_laid : (l : Layout) (c d : Configuration) (g : Graph) → SameLinks c d → IsLayoutOf l c g → IsLayoutOf l d g
-same_laid l c d g same h = record {
-  places_are = h.places_are ∙ ap (map (place_in g)) (sym same.slots);
-  ports_are = h.ports_are ∙ sym (same_lists (map port_of d.gates) (map port_of c.gates) long each);
-}
-  where
-    long : length (map port_of d.gates) ≡ length (map port_of c.gates)
-    long = length-map d.gates port_of ∙ same.long ∙ sym (length-map c.gates port_of)
-
-    each : (k : ℕ) (x : Port) → k < length (map port_of d.gates) → get_or (map port_of d.gates) k x ≡ get_or (map port_of c.gates) k x
-    each k x low =
-        let below : k < length d.gates = subst (λ n. k < n) (length-map d.gates port_of) low in
-        let under : k < length c.gates = subst (λ n. k < n) same.long below in
-        get_or-map port_of d.gates k fresh_gate x below
-        ∙ ap (λ n. record { node = n; require = (gate d k).require }) (same.owners k) ∙ ap (λ r. record { node = owner c k; require = r }) (same.requirements k)
-        ∙ sym (get_or-map port_of c.gates k fresh_gate x under)
 
 pub same_told : (l : Layout) (g : Graph) (c d : Configuration) → SameLinks c d → IsSound d → IsLaidOut l g c → IsLaidOut l g d
 same_told l g c d same sound h = record { laid = same_laid l c d g same h.laid; graph = same_graph c d g same h.graph; sound = sound }

@@ -1,6 +1,5 @@
 -- How records and histories grow.
 use Rattle.std.proofs.Common.{◌≡◌, List, ◌++◌, append_assoc, [], sym, ap, ◌∙◌, subst}
-use Rattle.std.specs.Prelude.{OnErr, Result, Ok, Err}
 use Rattle.std.proofs.lemmas.List.{append-nil}
 use Rattle.report_types.specs.declared.report.HistoryLine.{HistoryLine}
 use Rattle.txn_records.specs.declared.entry.Entry.{Entry}
@@ -23,7 +22,3 @@ module _ {B : Type 0} (W : BoardWords B) where
 -- nothing is told and recorded
 pub grew_none : {B : Type 0} (W : BoardWords B) (a : B) (h i : List HistoryLine) → i ≡ h → Grew W (telling a h) (telling a i) []
 grew_none W a h i same = record { adds = λ r s. subst (W.stands_for a) (sym (append-nil r)) s; adds_lines = same ∙ sym (append-nil h) }
-
-pub if_err : {A E P : Type 0} → P → (r : Result A E) → OnErr r P
-if_err h (Ok x) = tt
-if_err h (Err e) = h

@@ -6,6 +6,8 @@ use Rattle.std.specs.Option.{option_map_or}
 use Rattle.std.proofs.lemmas.List.Concat.{flat_map-cons}
 use Rattle.std.proofs.lemmas.List.Elements.{filter_map-append}
 use Rattle.std.proofs.lemmas.List.Folds.{list_all-append}
+use Rattle.std.proofs.lemmas.Grind.{flat_map-append}
+use Rattle.std.proofs.lemmas.List.{append-nil}
 use Rattle.config_graph.specs.Graph.{Graph, ports, target_of}
 use Rattle.config_graph.specs.declared.node.Port.{Port}
 use Rattle.config_graph.specs.declared.node.Target.{Target}
@@ -25,6 +27,7 @@ use Rattle.change_board.specs.Steps.{Deed, deed_entries, entries_of, events_of}
 use Rattle.change_board.specs.Transcripts.{Item, silent, told, said, entries, entry_in, line_in, lines}
 use Rattle.change_engine.specs.Carrying.{deed_items, event_item, sight_item}
 use Rattle.change_engine.specs.Passivating.{close_item, item_at, look_item, silent_items}
+use Rattle.change_engine.specs.Finishing.{ScanSeen, all_entries, seen_entries}
 
 pub entries_both : (t u : List Item) → entries (t ++ u) ≡ entries t ++ entries u
 entries_both t u = filter_map-append entry_in t u
@@ -142,3 +145,6 @@ start_is_of_change g =
     ∙ ap (λ b. b && list_all is_of_change links) (all_mapped is_of_change make_of (λ x. refl) (enumerate_from 0 g.nodes))
     ∙ links_of_change g (enumerate_from 0 (ports g.nodes)))
     ∙ all_mapped is_of_change reopen_of (λ x. refl) (enumerate_from 0 (ports g.nodes))
+
+pub entries_pushed : (scans : List ScanSeen) (w : ScanSeen) → all_entries (scans ++ w ∷ []) ≡ all_entries scans ++ seen_entries w
+entries_pushed scans w = flat_map-append seen_entries scans (w ∷ []) ∙ ap (λ es. all_entries scans ++ es) (append-nil (seen_entries w))

@@ -1,8 +1,8 @@
 -- A plan's commit on a board.
 use Rattle.std.proofs.Common.{◌≡◌, ℕ, ◌<◌, ◌≤◌, Bool, true, false, cond, not, ◌||◌, List, [], ◌∷◌, ◌++◌, append_assoc, length, map, None, refl, sym, ap, ◌∙◌, subst, inl, inr, ⊎_elim, arith}
-use Rattle.std.specs.Prelude.{◌⊎◌, ◌==◌, filter, nat_lt}
+use Rattle.std.specs.Prelude.{◌⊎◌, filter, nat_lt}
 use Rattle.std.specs.List.{list_any}
-use Rattle.std.proofs.lemmas.Bool.{both_ways, cases_Bool, cases_lt, eqb-true, lt-ltb, not-true, not_from_false, or_cases, or_left, or_parts}
+use Rattle.std.proofs.lemmas.Bool.{both_ways, cases_lt, lt-ltb, not-true, not_from_false, or_cases, or_left, or_parts}
 use Rattle.std.proofs.lemmas.List.{append-nil}
 use Rattle.std.proofs.lemmas.List.Folds.{list_any-append}
 use Rattle.change_plan.specs.Refusals.{CanPlan}
@@ -37,6 +37,7 @@ use Rattle.change_board.proofs.StepLaws.{may_do_all}
 use Rattle.change_engine.specs.Planning.{MayCarryOut}
 use Rattle.change_engine.proofs.Beginning.{none_mapped, turned_last}
 use Rattle.change_engine.proofs.ItemLaws.{all_mapped}
+use Rattle.base.proofs.NumberLaws.{other_number}
 
 -- A port that isn't made when a run ends was never reopened in it.
 record IsReopen (e : Event) : Type 0 where
@@ -60,9 +61,6 @@ reopen_or p (Link q n x) = inl refl
 reopen_or p (Unlink q) = inl refl
 reopen_or p (Remove n) = inl refl
 
-other_port : (q p : ℕ) → q < p → (q == p) ≡ false
-other_port q p lt = ⊎_elim (λ (same : (q == p) ≡ true). absurd (omega (arith, eqb-true q p same, lt))) (λ (other : (q == p) ≡ false). other) (cases_Bool (q == p))
-
 unopened : (before es : List Event) (p : ℕ) → IsRun (before ++ es) → length (state_after (before ++ es)).config.gates ≤ p → list_any (reopens p) es ≡ false
 unopened before [] p run past = refl
 unopened before (e ∷ es) p run past =
@@ -74,7 +72,7 @@ unopened before (e ∷ es) p run past =
     (λ (h : reopens p e ≡ false). h)
     (λ (h : IsReopen e).
     let made = (live_port (state_after before).config h.port (legal (state_after before) (Reopen h.port) (subst (λ f. denial (state_after before) f ≡ None) h.is step.1.allowed)).live).made in
-    ap (reopens p) h.is ∙ other_port h.port p (omega (arith, made, many, past)))
+    ap (reopens p) h.is ∙ other_number h.port p (omega (arith, made, many, past)))
     (reopen_or p e) in
     ap (λ b. b || list_any (reopens p) es) here
     ∙ unopened (before ++ e ∷ []) es p run' (subst (λ zs. length (state_after zs).config.gates ≤ p) (sym parts) past)

@@ -1,19 +1,16 @@
 -- A change that is prepared.
 use Rattle.std.proofs.Common.{◌≡◌, ℕ, ◌+◌, ◌≤◌, List, [], ◌∷◌, ◌++◌, length, Some, refl, sym, ap, ◌∙◌, subst, arith}
-use Rattle.std.specs.Prelude.{slice_get, sum_by}
+use Rattle.std.specs.Prelude.{sum_by}
 use Rattle.std.specs.List.{range_with_len}
 use Rattle.std.proofs.lemmas.List.{append-nil, length-append, length-map}
-use Rattle.std.proofs.lemmas.List.FromFn.{length-range_with_len}
-use Rattle.std.proofs.lemmas.List.Sums.{sum_by-cons}
 use Rattle.change_plan.specs.Differences.{IsGone}
 use Rattle.change_plan.specs.declared.plan_data.Move.{Move}
 use Rattle.change_plan.specs.declared.plan_data.Plan.{Plan}
 use Rattle.change_plan.proofs.SelectsLaws.{Selects-one}
 use Rattle.report_types.specs.declared.report.HistoryLine.TheVariants as to
 use Rattle.config_graph.specs.Graph.{Graph, requires_at}
-use Rattle.config_graph.specs.Kinds.{row}
 use Rattle.config_graph.specs.declared.TheConstants.{MAX_PORTS}
-use Rattle.change_plan_laws.specs.Commit.{commit_events, node_at}
+use Rattle.change_plan_laws.specs.Commit.{commit_events}
 use Rattle.quiesce_core.specs.State.{Configuration}
 use Rattle.txn_records.specs.Entries.{config_of}
 use Rattle.txn_records.specs.declared.entry.Entry.{Entry}
@@ -23,20 +20,13 @@ use Rattle.change_board.specs.Transcripts.{Item, entries, said}
 use Rattle.change_engine.specs.Calls.{Continues, HasPrepared}
 use Rattle.change_engine.specs.Engines.{HasPlace, IsFor, IsIdle, IsPlanned, IsPrepared, IsLaidOut}
 use Rattle.change_lists.specs.Layouts.{IsLayoutOf, port_of}
-use Rattle.change_lists.specs.Lists.{ports_after, ports_from, ports_in}
+use Rattle.change_lists.specs.Lists.{ports_after, ports_from}
 use Rattle.change_engine.specs.declared.engine.Change.{Change}
 use Rattle.change_engine.specs.declared.engine.Engine.{Engine}
 use Rattle.change_lists.specs.declared.layout.Layout.{Layout}
+use Rattle.change_lists.proofs.ListingLaws.{ports_many}
 use Rattle.change_board.specs.declared.board.Board.{Ghosts as BoardWords}
 use Rattle.change_engine.proofs.EngineLemmas.{config_goes, record_sound, tells_more}
-use Rattle.config_graph.proofs.KindLaws.{ports_wanted_at}
-
-ports_many : (new : Graph) (k : ℕ) (js : List ℕ) → length (ports_from new k js) ≡ sum_by (requires_at new.nodes) js
-ports_many new k [] = refl
-ports_many new k (j ∷ js) =
-    length-append (ports_in new k j) (ports_from new (k + 1) js)
-    ∙ ap (λ n. n + length (ports_from new (k + 1) js)) (length-map (range_with_len 0 (length (row (node_at new j).kind).requires_)) _ ∙ length-range_with_len 0 (length (row (node_at new j).kind).requires_) ∙ ports_wanted_at (slice_get new.nodes j))
-    ∙ ap (λ n. requires_at new.nodes j + n) (ports_many new (k + 1) js) ∙ sym (sum_by-cons (requires_at new.nodes) j js)
 
 ports_fit : (old new : Graph) (moves : List Move) (plan : Plan) (c : Configuration) → IsPlanned old new moves plan c → length c.gates + sum_by (requires_at new.nodes) plan.create ≤ MAX_PORTS
 ports_fit old new moves plan c h =

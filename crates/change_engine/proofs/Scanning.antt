@@ -1,7 +1,6 @@
 -- Scans, one after the other.
 use Rattle.std.proofs.Common.{◌≡◌, ℕ, ◌+◌, true, false, List, [], ◌∷◌, ◌++◌, refl, sym, ap, ◌∙◌, subst, arith}
 use Rattle.std.specs.List.{AllByRecursion}
-use Rattle.std.proofs.lemmas.Grind.{flat_map-append}
 use Rattle.std.proofs.lemmas.List.{append-nil}
 use Rattle.std.proofs.lemmas.List.Concat.{flat_map-cons}
 use Rattle.std.proofs.lemmas.List.Elements.{filter_map-append}
@@ -22,11 +21,8 @@ use Rattle.change_engine.specs.Passivating.{silent_items}
 use Rattle.change_engine.proofs.Growing.{adds_both}
 use Rattle.change_engine.proofs.Passing.{config_quiet, scan_quiet}
 use Rattle.change_engine.specs.Growing.{telling}
-use Rattle.change_engine.proofs.ItemLaws.{entries_both, lines_both, silent_entries, silent_lines}
+use Rattle.change_engine.proofs.ItemLaws.{entries_both, lines_both, silent_entries, silent_lines, entries_pushed}
 use Rattle.base.proofs.ListLaws.{AllByRecursion-push}
-
-pub entries_pushed : (scans : List ScanSeen) (w : ScanSeen) → all_entries (scans ++ w ∷ []) ≡ all_entries scans ++ seen_entries w
-entries_pushed scans w = flat_map-append seen_entries scans (w ∷ []) ∙ ap (λ es. all_entries scans ++ es) (append-nil (seen_entries w))
 
 pub all_quiet : (scans : List ScanSeen) → events_in (all_entries scans) ≡ []
 all_quiet [] = refl

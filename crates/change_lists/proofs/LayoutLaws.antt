@@ -8,7 +8,7 @@ use Rattle.std.specs.Ordering.{nat_cmp}
 use Rattle.std.specs.declared.cmp.Ordering.TheVariants.{Less}
 use Rattle.std.proofs.Math.Path.{fun_ext}
 use Rattle.std.proofs.lemmas.Bool.{cases_lt, le-ltb, lt-ltb}
-use Rattle.std.proofs.lemmas.List.{length-map}
+use Rattle.std.proofs.lemmas.List.{length-map, get_or-map, same_lists}
 use Rattle.std.proofs.lemmas.Option.{get_or_from_slice_get, slice_get-map, slice_get_past, slice_get_within}
 use Rattle.base.proofs.MapLaws.{map-map}
 use Rattle.base.proofs.PlaceLaws.{slice_get-there}
@@ -18,10 +18,11 @@ use Rattle.config_graph.specs.declared.node.Port.{Port}
 use Rattle.config_graph.proofs.PathLaws.{irreflexive}
 use Rattle.change_plan.proofs.NodeLaws.{index_found, index_missing, path_missing}
 use Rattle.quiesce_laws.specs.Steps.{live_ports}
+use Rattle.quiesce_laws.proofs.TurningLaws.{SameLinks}
 use Rattle.quiesce_core.specs.Live.{IsGraphOf}
 use Rattle.quiesce_core.specs.Rules.{is_live_port}
 use Rattle.quiesce_core.specs.Start.{gate_of, slot_of, started}
-use Rattle.quiesce_core.specs.State.{Configuration, fresh_gate, is_live, owner}
+use Rattle.quiesce_core.specs.State.{Configuration, fresh_gate, is_live, owner, gate}
 use Rattle.quiesce_core.specs.declared.state.Gate.{Gate}
 use Rattle.quiesce_core.specs.declared.state.Slot.{Slot}
 use Rattle.change_lists.specs.Layouts.{IsLayoutOf, is_live_at, live_at, place_at, place_in, port_of}
@@ -115,3 +116,21 @@ started_layout l g rise places_ ports_ = record {
     all_same : (ps : List Port) → map (λ (p : Port). port_of (gate_of g p)) ps ≡ ps
     all_same [] = refl
     all_same (p ∷ ps) = ap (λ qs. p ∷ qs) (all_same ps)
+
+-- A layout tells no gate's being closed or open.
+pub same_laid : (l : Layout) (c d : Configuration) (g : Graph) → SameLinks c d → IsLayoutOf l c g → IsLayoutOf l d g
+same_laid l c d g same h = record {
+  places_are = h.places_are ∙ ap (map (place_in g)) (sym same.slots);
+  ports_are = h.ports_are ∙ sym (same_lists (map port_of d.gates) (map port_of c.gates) long each);
+}
+  where
+    long : length (map port_of d.gates) ≡ length (map port_of c.gates)
+    long = length-map d.gates port_of ∙ same.long ∙ sym (length-map c.gates port_of)
+
+    each : (k : ℕ) (x : Port) → k < length (map port_of d.gates) → get_or (map port_of d.gates) k x ≡ get_or (map port_of c.gates) k x
+    each k x low =
+        let below : k < length d.gates = subst (λ n. k < n) (length-map d.gates port_of) low in
+        let under : k < length c.gates = subst (λ n. k < n) same.long below in
+        get_or-map port_of d.gates k fresh_gate x below
+        ∙ ap (λ n. record { node = n; require = (gate d k).require }) (same.owners k) ∙ ap (λ r. record { node = owner c k; require = r }) (same.requirements k)
+        ∙ sym (get_or-map port_of c.gates k fresh_gate x under)

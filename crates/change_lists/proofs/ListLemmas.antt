@@ -11,6 +11,7 @@ use Rattle.std.proofs.lemmas.List.Sums.{fold-append}
 use Rattle.std.proofs.lemmas.Option.{get_or_from_slice_get, same_Some, slice_get-get_or, slice_get-map, slice_get_within}
 use Rattle.base.proofs.MapLaws.{map-map, position-map}
 use Rattle.base.proofs.PlaceLaws.{slice_get-append_cases, slice_get-append_front, slice_get-behind, slice_get-front, slice_get-map_at, slice_get-map_some, slice_get-there}
+use Rattle.base.proofs.NumberLaws.{other_number}
 use Rattle.change_plan.specs.declared.plan_data.Plan.{Plan}
 use Rattle.change_plan.specs.declared.plan_data.Shift.{Shift}
 use Rattle.change_plan.proofs.NodeLaws.{index_found}
@@ -36,8 +37,8 @@ use Rattle.change_lists.specs.Layouts.{IsLayoutOf, is_among, is_place, place_at,
 use Rattle.change_lists.specs.PlanIn.{IsPlanIn}
 use Rattle.change_lists.specs.Lists.{closed_by, commit_by, is_link_at, is_port_at, is_reopened_at, is_unlinked_at, link_at, link_to, links_by, makes_by, owner_place, place_after, places_after, ports_after, ports_from, ports_in, removes_by, reopens_by, slot_of, source_by, unlinks_by}
 use Rattle.change_lists.proofs.LayoutLaws.{has_place, place_there}
-use Rattle.change_lists.proofs.StandLemmas.{one_by_place, path_there, slot_is, stands_by_place}
-use Rattle.change_plan_laws.proofs.StandingLaws.{one_live}
+use Rattle.change_lists.proofs.StandLemmas.{one_by_place, slot_is, stands_by_place}
+use Rattle.change_plan_laws.proofs.StandingLaws.{one_live, path_of}
 
 -- tests that agree below a bound pass the same numbers below it
 pub same_below : (f g : ℕ → Bool) (n : ℕ) → ((p : ℕ) → p < n → f p ≡ g p) → filter f (range_with_len 0 n) ≡ filter g (range_with_len 0 n)
@@ -134,13 +135,6 @@ killed rs k (m ∷ ms) = cond (list_any (λ r. r == k) rs) (kill m) m ∷ killed
 none_killed : (k : ℕ) (ms : List Slot) → killed [] k ms ≡ ms
 none_killed k [] = refl
 none_killed k (m ∷ ms) = ap (λ xs. m ∷ xs) (none_killed (k + 1) ms)
-
-other_number : (a b : ℕ) → a < b → (a == b) ≡ false
-other_number a b low = by (a == b) refl
-  where
-    by : (x : Bool) → (a == b) ≡ x → x ≡ false
-    by false e = refl
-    by true e = absurd (omega (arith, low, eqb-true a b e))
 
 above_number : (a b : ℕ) → b < a → (a == b) ≡ false
 above_number a b low = by (a == b) refl
@@ -305,7 +299,7 @@ module _ (c : Configuration) (old new : Graph) (is : IsGraphOf c old) (remove : 
               path_at : (i : ℕ) → index_of old.nodes m.node.path ≡ Some i → m.node.path ≡ node_path old i
               path_at i h =
                   let x = index_found old.nodes m.node.path i m.node h in
-                  x.1 ∙ sym (path_there old i (get_or old.nodes i m.node) (slice_get-get_or old.nodes i m.node x.0))
+                  x.1 ∙ sym (path_of old i (get_or old.nodes i m.node) (slice_get-get_or old.nodes i m.node x.0))
 
       by : (b' : Bool) → m.live ≡ b' → place_in new (cond b (kill m) m) ≡ place_after old new remove (place_in old m)
       by false dead = place_of_dead b dead ∙ sym (ap (place_after old new remove) (old_dead dead))

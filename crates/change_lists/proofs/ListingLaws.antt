@@ -1,11 +1,18 @@
 -- Lists that grow with a loop, behind what was there.
-use Rattle.std.proofs.Common.{◌≡◌, ℕ, ◌+◌, Bool, List, [], ◌∷◌, ◌++◌, append_assoc, map, take, Option, Some, None, refl, sym, ap, ◌∙◌}
-use Rattle.std.specs.Prelude.{filter, filter_map, option_to_list, slice_get}
+use Rattle.std.proofs.Common.{◌≡◌, ℕ, ◌+◌, Bool, List, [], ◌∷◌, ◌++◌, append_assoc, map, take, Option, Some, None, refl, sym, ap, ◌∙◌, length}
+use Rattle.std.specs.Prelude.{filter, filter_map, option_to_list, slice_get, sum_by}
 use Rattle.std.specs.List.{cons_option, range_with_len}
-use Rattle.std.proofs.lemmas.List.{map-append, take_more}
+use Rattle.std.proofs.lemmas.List.{map-append, take_more, length-append, length-map}
 use Rattle.std.proofs.lemmas.List.Elements.{filter-append, filter_map-append}
 use Rattle.std.proofs.lemmas.Option.{get_or_from_slice_get, slice_get_within}
+use Rattle.std.proofs.lemmas.List.FromFn.{length-range_with_len}
+use Rattle.std.proofs.lemmas.List.Sums.{sum_by-cons}
 use Rattle.base.proofs.RisingLaws.{places_more}
+use Rattle.config_graph.specs.Graph.{Graph, requires_at}
+use Rattle.config_graph.specs.Kinds.{row}
+use Rattle.config_graph.proofs.KindLaws.{ports_wanted_at}
+use Rattle.change_plan_laws.specs.Commit.{node_at}
+use Rattle.change_lists.specs.Lists.{ports_from, ports_in}
 
 next_of : {A : Type 0} (xs : List A) (i : ℕ) (x : A) → slice_get xs i ≡ Some x → take (i + 1) xs ≡ take i xs ++ x ∷ []
 next_of xs i x at = take_more xs i x (slice_get_within xs i x at) ∙ ap (λ z. take i xs ++ z ∷ []) (get_or_from_slice_get xs i x x at)
@@ -34,3 +41,10 @@ picked_on f xs i x first old new at so_far grown =
     grown ∙ ap (λ zs. zs ++ option_to_list (f x)) so_far ∙ append_assoc first (filter_map f (take i xs)) (option_to_list (f x))
     ∙ ap (λ zs. first ++ (filter_map f (take i xs) ++ zs)) (sym (one_of (f x)))
     ∙ ap (λ zs. first ++ zs) (sym (filter_map-append f (take i xs) (x ∷ [])) ∙ ap (filter_map f) (sym (next_of xs i x at)))
+
+pub ports_many : (new : Graph) (k : ℕ) (js : List ℕ) → length (ports_from new k js) ≡ sum_by (requires_at new.nodes) js
+ports_many new k [] = refl
+ports_many new k (j ∷ js) =
+    length-append (ports_in new k j) (ports_from new (k + 1) js)
+    ∙ ap (λ n. n + length (ports_from new (k + 1) js)) (length-map (range_with_len 0 (length (row (node_at new j).kind).requires_)) _ ∙ length-range_with_len 0 (length (row (node_at new j).kind).requires_) ∙ ports_wanted_at (slice_get new.nodes j))
+    ∙ ap (λ n. requires_at new.nodes j + n) (ports_many new (k + 1) js) ∙ sym (sum_by-cons (requires_at new.nodes) j js)

@@ -11,6 +11,7 @@ use Rattle.std.proofs.lemmas.Bool.Decides.{nat_tests}
 use Rattle.std.proofs.lemmas.List.{length-take-le, take_more}
 use Rattle.std.proofs.Math.Seq.{drop-cons}
 use Rattle.std.proofs.lemmas.List.Folds.{find-append, list_any_more}
+use Rattle.std.proofs.Math.Numerals.{one-add}
 use Rattle.base.proofs.NumberLaws.{eqb_flips}
 
 abbrev pub are_same_keys : ℕ × ℕ → ℕ × ℕ → Bool
@@ -18,10 +19,6 @@ are_same_keys a b = eqb a.0 b.0 && eqb a.1 b.1
 
 shifted : (a b : ℕ) → nat_lt (suc a) (suc b) ≡ nat_lt a b
 shifted a b = grind (arith, nat_tests)
-
--- the first position at which a test passes, in a list with one element more
-one_more : (n : ℕ) → 1 + n ≡ suc n
-one_more n = omega arith
 
 some_there : (n : ℕ) → nat_lt 0 (suc n) ≡ true
 some_there n = grind (arith, nat_tests)
@@ -41,7 +38,7 @@ position-cons {A} p x xs = by (p x)
 
     by : (b : Bool) → cond (nat_lt (cond (not b) (1 + first) 0) (suc (length xs))) (Some (cond (not b) (1 + first) 0)) None ≡ cond b (Some 0) (option_map suc (position p xs))
     by true = ap (λ t. cond t (Some 0) None) (some_there (length xs))
-    by false = rw (one_more first) (later (nat_lt first (length xs)) (shifted first (length xs)) refl)
+    by false = rw (one-add first) (later (nat_lt first (length xs)) (shifted first (length xs)) refl)
 
 position-push : {A : Type 0} (p : A → Bool) (xs : List A) (y : A) → position p (xs ++ y ∷ []) ≡ option_or (position p xs) (cond (p y) (Some (length xs)) None)
 position-push p [] y = position-cons p y []

@@ -10,11 +10,12 @@ use Rattle.std.proofs.lemmas.Option.{slice_get_past, slice_get_within}
 use Rattle.base.proofs.FindLaws.{find-some}
 use Rattle.change_plan.specs.Differences.{GoneLinks, IsGone, IsKeptLink, link_port}
 use Rattle.change_plan.specs.Plans.{IsPlanOf}
-use Rattle.change_plan.specs.Touched.{Frozen, IsTouched}
+use Rattle.change_plan.specs.Touched.{Frozen}
 use Rattle.change_plan.specs.declared.plan_data.Move.{Move}
 use Rattle.change_plan.specs.declared.plan_data.Plan.{Plan}
 use Rattle.change_plan.specs.declared.plan_data.Shift.{Shift}
 use Rattle.change_plan.proofs.SelectsLaws.{Selects-only, Selects-part}
+use Rattle.change_plan.proofs.DifferenceLaws.{gone_low, touched_low}
 use Rattle.config_graph.specs.Cycles.{IsLinked, graph_wiring}
 use Rattle.config_graph.specs.Graph.{Graph, IsGraph, IsLinkWithin, begins_at, provides_of, requires_of}
 use Rattle.config_graph.specs.Wiring.{Reach, direct, through}
@@ -41,9 +42,6 @@ ends_low g h l there =
     let w = All-contains (IsLinkWithin g.nodes) g.links l h.within there in
     (low_if requires_of g.nodes l.from l.require w.begins, low_if provides_of g.nodes l.to l.provide w.ends)
 
-gone_low : (g h : Graph) (i : ℕ) → IsGone g h i → i < length g.nodes
-gone_low g h i x = slice_get_within g.nodes i x.node x.here
-
 abbrev end_at : Link → Target
 end_at l = record { node = l.to; provide = l.provide }
 
@@ -59,10 +57,6 @@ linked_low g h i r j x e = by (find (begins_at i r) g.links) refl e
 reached_low : (g : Graph) → IsGraph g → (n : ℕ) (p : Port) → Reach (graph_wiring g) n p → p.node < length g.nodes
 reached_low g h n p (direct {x = x} l) = linked_low g h p.node p.require n x l
 reached_low g h n p (through {m = m} {x = x} r d l) = linked_low g h p.node p.require m x l
-
-touched_low : (old new : Graph) (i : ℕ) → IsTouched old new i → i < length old.nodes
-touched_low old new i (inl gone) = gone_low old new i gone
-touched_low old new i (inr other) = slice_get_within old.nodes i other.stays.node other.stays.here
 
 frozen_low : (old new : Graph) → IsGraph old → (i : ℕ) → Frozen old new i → i < length old.nodes
 frozen_low old new h i (inl touched) = touched_low old new i touched

@@ -11,13 +11,11 @@ use Rattle.config_graph.specs.Graph.{Graph, PathsRise, index_of}
 use Rattle.config_graph.specs.declared.node.Node.{Node}
 use Rattle.change_plan.proofs.NodeLaws.{index_found}
 use Rattle.change_plan_laws.specs.Commit.{is_at, is_one_of, node_path, stands_in}
+use Rattle.change_plan_laws.proofs.StandingLaws.{path_of}
 use Rattle.quiesce_core.specs.State.{Configuration}
 use Rattle.quiesce_core.specs.declared.state.Slot.{Slot}
 use Rattle.change_lists.specs.Layouts.{is_among, is_place, place_at, place_in}
 use Rattle.change_lists.proofs.LayoutLaws.{place_there}
-
-pub path_there : (g : Graph) (i : ℕ) (m : Node) → slice_get g.nodes i ≡ Some m → node_path g i ≡ m.path
-path_there g i m at = ap (λ (o : Option Node). option_map_or (λ (n : Node). n.path) o []) at
 
 -- a path is that of the node at the place where it is found
 path_is : (g : Graph) → PathsRise g.nodes → (p : List ℕ) (i : ℕ) → i < length g.nodes → bytes_eq p (node_path g i) ≡ is_place i (index_of g.nodes p)
@@ -35,12 +33,12 @@ path_is g rise p i within = by (bytes_eq p (node_path g i)) refl
         at true t =
             let found = index_found g.nodes p j node.0 e in
             let same : p ≡ node_path g i =
-            found.1 ∙ sym (path_there g j (get_or g.nodes j node.0) (slice_get-get_or g.nodes j node.0 found.0)) ∙ ap (node_path g) (eqb-true j i t) in
+            found.1 ∙ sym (path_of g j (get_or g.nodes j node.0) (slice_get-get_or g.nodes j node.0 found.0)) ∙ ap (node_path g) (eqb-true j i t) in
             absurd (both_ways (bytes_eq p (node_path g i)) h ((bytes_eq-Decides p (node_path g i)).1 same))
 
     by : (b : Bool) → bytes_eq p (node_path g i) ≡ b → b ≡ is_place i (index_of g.nodes p)
     by true h =
-        let same : p ≡ node.0.path = (bytes_eq-Decides p (node_path g i)).0 h ∙ path_there g i node.0 node.1 in
+        let same : p ≡ node.0.path = (bytes_eq-Decides p (node_path g i)).0 h ∙ path_of g i node.0 node.1 in
         sym (ap (is_place i) (ap (index_of g.nodes) same ∙ place_there g.nodes rise i node.0 node.1) ∙ eq-eqb i i refl)
     by false h = other (index_of g.nodes p) refl h
 

@@ -7,10 +7,10 @@ use Rattle.std.proofs.lemmas.List.{append-nil, drop_all, take_all}
 use Rattle.std.proofs.lemmas.List.FromFn.{get_or-range_with_len, length-range_with_len}
 use Rattle.std.proofs.lemmas.Bool.{and_from, and_parts, eq-eqb, eqb-true, false≢true, or_cases}
 use Rattle.std.specs.Option.{option_map_or}
-use Rattle.base.proofs.PlaceLaws.{any_at}
 use Rattle.change_parts.specs.Groupings.{LeadsIn, leads}
 use Rattle.std.proofs.lemmas.List.Kept.{AllPairs-cons}
 use Rattle.std.proofs.lemmas.Option.{get_or_from_slice_get, slice_get-get_or, slice_get_within}
+use Rattle.std.proofs.lemmas.Map.Keys.{any_passes_from_place}
 use Rattle.base.proofs.ContainsLaws.{Contains-at, Contains-here, Contains-there, at_some_place}
 use Rattle.base.proofs.MapLaws.{All-filter_map}
 use Rattle.base.proofs.OrderedLaws.{before_all, rest_rises}
@@ -76,7 +76,7 @@ any_has k (x ∷ xs) e =
     ]
 
 has_any : (k : ℕ) (xs : List ℕ) → Contains xs k → list_any (λ j. eqb k j) xs ≡ true
-has_any k xs held = let w = at_some_place xs k held in any_at (λ j. eqb k j) xs w.0 k w.1 (eq-eqb k k refl)
+has_any k xs held = let w = at_some_place xs k held in any_passes_from_place (λ j. eqb k j) xs w.0 k w.1 (eq-eqb k k refl)
 
 -- ---- a selection by a test
 

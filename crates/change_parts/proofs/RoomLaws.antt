@@ -8,9 +8,7 @@ use Rattle.std.proofs.lemmas.List.Elements.{All-contains, Contains-append_cases}
 use Rattle.std.proofs.lemmas.List.Sums.{sum_by-append, sum_by-cons}
 use Rattle.std.proofs.lemmas.Option.{none-some, slice_get_within}
 use Rattle.base.proofs.ContainsLaws.{Contains-at, Contains-filter_map, Contains-from_filter_map, Contains-here, Contains-nil, Contains-there, at_some_place}
-use Rattle.base.proofs.PlaceLaws.{one_at, slice_get-there}
-use Rattle.base.specs.Telling.{CanTell}
-use Rattle.config_graph.proofs.TellLaws.{tell_contained}
+use Rattle.base.proofs.PlaceLaws.{slice_get-there}
 use Rattle.config_graph.specs.Graph.{Graph, IsGraph, PathsRise, requires_at, requires_of}
 use Rattle.config_graph.specs.Sound.{Sound}
 use Rattle.config_graph.specs.declared.node.Made.{Made}
@@ -22,8 +20,9 @@ use Rattle.change_plan.specs.Refusals.{CanPlan}
 use Rattle.change_plan.specs.Selects.{Selects}
 use Rattle.change_plan.specs.Selects.Selects.{ends, takes, skips}
 use Rattle.change_plan.specs.declared.plan_data.Move.{Move}
-use Rattle.change_plan.proofs.SelectsLaws.{Selects-only, Selects-part}
+use Rattle.change_plan.proofs.SelectsLaws.{Selects-only, Selects-part, those_told}
 use Rattle.change_plan.proofs.StepLaws.{gone_listed, listed_gone}
+use Rattle.change_plan.proofs.DifferenceLaws.{tell_gone}
 use Rattle.change_parts.specs.Groups.{IsBefore, IsIn}
 use Rattle.change_parts.specs.Parts.{AreParts, ArePartsFrom, HasEndsIn, IsPart}
 use Rattle.change_parts.specs.Parts.ArePartsFrom.{none_left, then_}
@@ -188,24 +187,6 @@ module _ (old new : Graph) (old_graph : IsGraph old) (new_graph : IsGraph new) (
   -- the parts of a change that may be planned may be carried out one after the other
   pub parts_can_carry_out : (ps : List Part) → AreParts old new moves ps → ((p : Part) → Contains ps p → IsGraph p.next) → CanCarryOutAll old made ps
   parts_can_carry_out ps parts graphs = can_carry_out [] parts.groups old ps parts.parts parts.are_groups.rise (first_stage old new old_graph new_graph moves) graphs [] nil (λ n held. absurd (Contains-nil n held)) made (omega arith) (omega arith)
-
--- which elements of a list have a property that can be told
-those_told : {A : Type 0} (P : A → Type 0) → ((x : A) → CanTell (P x)) → (xs : List A) → (ys : List A) × Selects P xs ys
-those_told P tell [] = ([], ends)
-those_told P tell (x ∷ xs) =
-    let w = those_told P tell xs in
-    elim (tell x) [ inl has ↦ (x ∷ w.0, takes has w.1) | inr lacks ↦ (w.0, skips lacks w.1) ]
-
-tell_gone : (g h : Graph) (i : ℕ) → CanTell (IsGone g h i)
-tell_gone g h i = by (slice_get g.nodes i) refl
-  where
-    by : (o : Option Node) → slice_get g.nodes i ≡ o → CanTell (IsGone g h i)
-    by None at = inr (λ gone. none-some gone.node (sym at ∙ gone.here))
-    by (Some n) at =
-        elim (tell_contained h.nodes n) [
-          | inl there ↦ inr (λ gone. gone.gone (subst (Contains h.nodes) (one_at g.nodes i n gone.node at gone.here) there))
-          | inr lost ↦ inl (record { node = n; here = at; gone = lost })
-        ]
 
 -- what a part makes may be planned where the whole change may
 module _ (old new : Graph) (old_graph : IsGraph old) (new_graph : IsGraph new) (old_sound : Sound old) (new_sound : Sound new) (moves : List Move) (made : Made) (can : CanPlan old new moves made)

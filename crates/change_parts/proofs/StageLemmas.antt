@@ -1,11 +1,10 @@
 -- Stages of a change for which there is room have few nodes and ports, and so are graphs.
-use Rattle.std.proofs.Common.{◌≡◌, ◌≤◌, ◌+◌, ℕ, suc, List, [], ◌∷◌, ◌++◌, length, refl, subst, inl, inr, arith, Contains}
-use Rattle.std.specs.List.{sum_by}
+use Rattle.std.proofs.Common.{◌≡◌, ◌≤◌, ℕ, suc, List, [], ◌∷◌, ◌++◌, length, subst, inl, inr, arith, Contains}
 use Rattle.std.specs.Cmp.Lexicographic.{slice_cmp}
 use Rattle.std.specs.Ordering.{nat_cmp}
 use Rattle.std.specs.declared.cmp.Ordering.TheVariants.{Less}
 use Rattle.std.proofs.lemmas.List.Elements.{Contains-append_left, Contains-append_right}
-use Rattle.std.proofs.lemmas.List.Sums.{sum_by-append, sum_by-cons}
+use Rattle.std.proofs.lemmas.List.Sums.{sum_by-append}
 use Rattle.config_graph.specs.Graph.{Graph, IsGraph, PathsRise, ports, requires_of}
 use Rattle.config_graph.specs.Sound.{Sound}
 use Rattle.config_graph.specs.declared.node.Made.{Made}
@@ -19,6 +18,7 @@ use Rattle.change_parts.specs.Stages.{IsAfter}
 use Rattle.change_parts.proofs.CountLaws.{Distinct, sum_within}
 use Rattle.change_parts.proofs.CountLaws.Distinct.{nil, cons}
 use Rattle.change_parts.proofs.RoomLaws.{gone_length, gone_sum, is_gone, ns}
+use Rattle.base.proofs.SumLaws.{one_each}
 
 -- ---- nodes in the order of their paths stand once, so there are no more of them than in a list that has them all
 
@@ -32,10 +32,6 @@ not_later n nodes rise (k, below, is) =
 distinct : (nodes : List Node) → PathsRise nodes → Distinct nodes
 distinct [] rise = nil
 distinct (n ∷ nodes) rise = cons (not_later n nodes rise) (distinct nodes (rest_rises n nodes rise))
-
-one_each : (nodes : List Node) → sum_by (λ (n : Node). 1) nodes ≡ length nodes
-one_each [] = refl
-one_each (n ∷ nodes) = omega (arith, sum_by-cons (λ (k : Node). 1) n nodes, one_each nodes)
 
 -- ---- stages
 

@@ -1,5 +1,5 @@
 -- There is a plan, or a refusal: each fault of a move can be told, and how much is wanted.
-use Rattle.std.proofs.Common.{◌≡◌, ◌⊎◌, ℕ, zero, suc, ◌<◌, ◌≤◌, List, [], ◌∷◌, length, take, get_or, Some, None, slice_get, refl, sym, ◌∙◌, ap, subst, inl, inr, arith, Contains, sum_by}
+use Rattle.std.proofs.Common.{◌≡◌, ◌⊎◌, ℕ, zero, suc, ◌<◌, ◌≤◌, List, length, take, get_or, Some, None, slice_get, refl, sym, ◌∙◌, ap, subst, inl, inr, arith, Contains, sum_by}
 use Rattle.std.specs.List.{range_with_len}
 use Rattle.std.proofs.lemmas.Bool.Decides.{eqb_tells}
 use Rattle.std.proofs.lemmas.Option.{none-some, slice_get_cases, slice_get-get_or}
@@ -11,31 +11,18 @@ use Rattle.config_graph.proofs.TellLaws.{tell_contained}
 use Rattle.change_plan.specs.Differences.{GoneNodes, IsGone}
 use Rattle.change_plan.specs.Moves.{IsFit, IsPathGone, MayMove, MayMoveAll, MoveLeads, MovesFrom, MovesTo}
 use Rattle.change_plan.specs.Refusals.{CanPlan, FirstMoveFault, IsRefusal, CreatesSoMany, MoveFault}
-use Rattle.change_plan.specs.Selects.{Selects}
-use Rattle.change_plan.specs.Selects.Selects.{ends, takes, skips}
 use Rattle.change_plan.specs.declared.error.PlanError.{PlanError}
 use Rattle.change_plan.specs.declared.error.PlanError.TheVariants.{NotRemoved, NotCreated, KindsDiffer, MovedTwice}
 use Rattle.change_plan.specs.declared.plan_data.Move.{Move}
 use Rattle.change_plan.proofs.DifferenceLemmas.{one_node}
 use Rattle.change_plan.proofs.NodeLaws.{one_path}
 use Rattle.change_plan.proofs.RoomLaws.{room_or_fault}
+use Rattle.change_plan.proofs.SelectsLaws.{those_told}
+use Rattle.change_plan.proofs.DifferenceLaws.{tell_gone}
 use Rattle.base.proofs.ContainsLaws.{Contains-at}
 use Rattle.base.proofs.TellLaws.{any_or_none, told_by}
 use Rattle.base.specs.Telling.{CanTell}
 use Rattle.config_graph.proofs.SameLaws.{kind_decides}
-
--- ---- what is gone
-
-tell_gone : (g h : Graph) (i : ℕ) → CanTell (IsGone g h i)
-tell_gone g h i =
-    elim (slice_get_cases g.nodes i).1 [
-      | inr (past, none) ↦ inr (λ gone. none-some gone.node (sym none ∙ gone.here))
-      | inl (n, low, at, read) ↦
-          elim (tell_contained h.nodes n) [
-            | inl there ↦ inr (λ gone. gone.gone (subst (Contains h.nodes) (one_node g.nodes i n gone.node at gone.here) there))
-            | inr lost ↦ inl (record { node = n; here = at; gone = lost })
-          ]
-    ]
 
 tell_path_gone : (g h : Graph) → IsGraph g → (path : List ℕ) → CanTell (IsPathGone g h path)
 tell_path_gone g h graph path =
@@ -111,19 +98,9 @@ module _ (old new : Graph) (old_graph : IsGraph old) (new_graph : IsGraph new) w
               | inr (e, fault) ↦ inr (e, record { count = count; move = m; at = at; before = may; fault = fault })
             ]
 
--- ---- how much is wanted
-
-part : {A : Type 0} (P : A → Type 0) → ((x : A) → CanTell (P x)) → (xs : List A) → (ys : List A) × Selects P xs ys
-part P tell [] = ([], ends)
-part {A = A} P tell (x ∷ xs) = by (tell x) (part P tell xs)
-  where
-    by : CanTell (P x) → ((ys : List A) × Selects P xs ys) → (ys : List A) × Selects P (x ∷ xs) ys
-    by (inl has) (ys, s) = (x ∷ ys, takes has s)
-    by (inr lacks) (ys, s) = (ys, skips lacks s)
-
 module _ (old new : Graph) (old_graph : IsGraph old) (new_graph : IsGraph new) (moves : List Move) (made : Made) where
   created : (ys : List ℕ) × GoneNodes new old ys
-  created = part (IsGone new old) (tell_gone new old) (range_with_len 0 (length new.nodes))
+  created = those_told (IsGone new old) (tell_gone new old) (range_with_len 0 (length new.nodes))
 
   nodes : ℕ
   nodes = length created.0

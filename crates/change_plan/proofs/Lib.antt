@@ -11,3 +11,4 @@ pub mod TextLemmas
 pub mod RoomLaws
 pub mod RefusalLemmas
 pub mod ExistenceLemmas
+pub mod DifferenceLaws

@@ -195,10 +195,6 @@ module _ (old new : Graph) (old_graph : IsGraph old) (new_graph : IsGraph new) (
                 get_or-set_at targets j y (Some i) None place j_low ∙ ap Some source
           ]
 
--- what is read at the places of a move
-pub read_entry : {A : Type 0} (xs : List A) (i : ℕ) (x d : A) → i < length xs → x ≡ get_or xs i x → get_or xs i d ≡ x
-read_entry xs i x d low x_is = get_or_from_slice_get xs i x d (slice_get-get_or xs i x low ∙ ap Some (sym x_is))
-
 pub is_there : (o : Option ℕ) (b : Bool) → b ≡ is_some o → b ≡ true → (k : ℕ) × (o ≡ Some k)
 is_there None b tested e = absurd (false≢true (sym tested ∙ e))
 is_there (Some k) b tested e = (k, refl)
@@ -308,5 +304,4 @@ marked_all old new moves k sources targets all marked =
 
 pub may_move_all : (old new : Graph) (moves : List Move) (k : ℕ) → length moves ≤ k → MayMoveAll old new moves k → MayMoveAll old new moves (length moves)
 may_move_all old new moves k all may j m low at = may j m (omega (arith, low, all)) at
-
 -- where all moves may be made, the moves of one source, or of one target, are one

@@ -1,5 +1,5 @@
 -- Lemmas on the part of a list that has a property.
-use Rattle.std.proofs.Common.{◌≡◌, ℕ, zero, suc, ◌+◌, ◌<◌, ◌≤◌, List, [], ◌∷◌, ◌++◌, length, take, get_or, refl, sym, ◌∙◌, ap, subst, arith, sum_by, All, Contains}
+use Rattle.std.proofs.Common.{◌≡◌, ℕ, zero, suc, ◌+◌, ◌<◌, ◌≤◌, List, [], ◌∷◌, ◌++◌, length, take, get_or, refl, sym, ◌∙◌, ap, subst, arith, sum_by, All, Contains, inl, inr}
 use Rattle.std.specs.List.{range_with_len}
 use Rattle.std.proofs.lemmas.List.{take_more}
 use Rattle.std.proofs.lemmas.List.Elements.{All-cons, All-nil, Contains-append_right, Contains-get_or}
@@ -8,6 +8,7 @@ use Rattle.std.proofs.lemmas.List.Sums.{sum_by-cons}
 use Rattle.change_plan.specs.Selects.{Selects}
 use Rattle.change_plan.specs.Selects.Selects.{ends, takes, skips}
 use Rattle.base.proofs.RisingLaws.{places_more}
+use Rattle.base.specs.Telling.{CanTell}
 
 -- one element more, which has the property
 pub Selects-push : {A : Type 0} (P : A → Type 0) (x : A) → P x → (xs ys : List A) → Selects P xs ys → Selects P (xs ++ x ∷ []) (ys ++ x ∷ [])
@@ -90,3 +91,10 @@ pub Selects-shorter : {A : Type 0} (P : A → Type 0) (xs ys : List A) → Selec
 Selects-shorter P all part ends = omega arith
 Selects-shorter P all part (takes {xs = xs} {ys = ys} has s) = let rest = Selects-shorter P xs ys s in omega (arith, rest)
 Selects-shorter P all part (skips {xs = xs} {ys = ys} lacks s) = let rest = Selects-shorter P xs ys s in omega (arith, rest)
+
+-- which elements of a list have a property that can be told
+pub those_told : {A : Type 0} (P : A → Type 0) → ((x : A) → CanTell (P x)) → (xs : List A) → (ys : List A) × Selects P xs ys
+those_told P tell [] = ([], ends)
+those_told P tell (x ∷ xs) =
+    let w = those_told P tell xs in
+    elim (tell x) [ inl has ↦ (x ∷ w.0, takes has w.1) | inr lacks ↦ (w.0, skips lacks w.1) ]

@@ -87,7 +87,7 @@ module _ (g h : Graph) (g_graph : IsGraph g) (h_graph : IsGraph h) where
         | inr missing ↦ inr (kept_none g h k from.0 from.1 missing)
       ]
 
-turned_target : (g h : Graph) (t u : Option Target) → SameTarget g h t u → SameTarget h g u t
+pub turned_target : (g h : Graph) (t u : Option Target) → SameTarget g h t u → SameTarget h g u t
 turned_target g h None None same = tt
 turned_target g h None (Some u) same = same
 turned_target g h (Some t) None same = same

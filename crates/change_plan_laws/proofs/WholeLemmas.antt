@@ -18,9 +18,10 @@ use Rattle.change_plan_laws.specs.Committing.{IsTouchedSlot}
 use Rattle.change_plan_laws.proofs.ReadyLemmas.{IsReady}
 use Rattle.change_plan_laws.proofs.LinkedLemmas.{are_links}
 use Rattle.change_plan_laws.proofs.PlannedLemmas.{is_work}
-use Rattle.quiesce_laws.proofs.MemberLaws.{any_if, selected}
+use Rattle.quiesce_laws.proofs.MemberLaws.{selected}
 use Rattle.change_plan_laws.proofs.StandingLaws.{in_if_stands}
 use Rattle.quiesce_laws.specs.Commits.{AreNoted, IsCommit, AreLinks, IsWork}
+use Rattle.base.proofs.ContainsLaws.{any_if}
 
 module _ (old new : Graph) (plan : Plan) (c : Configuration) (ready : IsReady old new plan c) where
   is_frozen : (n i : ℕ) → Contains plan.freeze i → StandsAt c old.nodes n i → is_one_of old plan.freeze c n ≡ true

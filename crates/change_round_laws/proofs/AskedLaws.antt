@@ -9,7 +9,7 @@ use Rattle.change_spec.specs.declared.steps.Start.{Start}
 use Rattle.change_spec.specs.declared.steps.Step.{Step}
 use Rattle.change_spec.specs.declared.steps.Step.TheVariants as steps
 
-started_graph : (g : Graph) → Sound g → HasRoomFor nothing_made g → IsSoundGraph g
+pub started_graph : (g : Graph) → Sound g → HasRoomFor nothing_made g → IsSoundGraph g
 started_graph g sound room = record {
   is_graph = record {
     paths_rise = sound.paths_rise;
@@ -21,7 +21,7 @@ started_graph g sound room = record {
   sound = sound;
 }
 
-go_on : (above : Above) (all : List Step) → CanDoAll above all → GoOnSoundly (map statement_of all) above.graph above.made
+pub go_on : (above : Above) (all : List Step) → CanDoAll above all → GoOnSoundly (map statement_of all) above.graph above.made
 go_on above [] can = tt
 go_on above (steps.Change c ∷ more) can = record {
   graph = record { is_graph = can.0.is_graph; sound = can.0.sound };

@@ -38,12 +38,6 @@ filter_same f g h (x ∷ xs) = λ i. cond (h x i) (x ∷ filter_same f g h xs i)
 pub frozen_same : (old : Graph) (places : List ℕ) (c d : Configuration) → SameLinks c d → (n : ℕ) → is_one_of old places d n ≡ is_one_of old places c n
 frozen_same old places c d same n = ap (λ (s : List Slot). is_one_of old places (record { slots = s; gates = [] }) n) same.slots
 
-pub same_to_close : (old : Graph) (plan : Plan) (c d : Configuration) → SameLinks c d → ports_to_close old plan d ≡ ports_to_close old plan c
-same_to_close old plan c d same =
-    filter_same (λ p. is_one_of old plan.freeze d (owner d p)) (λ p. is_one_of old plan.freeze c (owner c p))
-    (λ p. frozen_same old plan.freeze c d same (owner d p) ∙ ap (is_one_of old plan.freeze c) (same.owners p)) (range_with_len 0 (length d.gates))
-    ∙ ap (λ n. filter (λ p. is_one_of old plan.freeze c (owner c p)) (range_with_len 0 n)) same.long
-
 -- what is closed and not drained has a root
 pub root_there : (s : State) (p : ℕ) → (gate s.config p).closed ≡ true → is_drained s p ≡ false → has_root s p (exchange s p).serial ≡ true
 root_there s p shut undrained =

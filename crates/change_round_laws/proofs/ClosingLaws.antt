@@ -32,10 +32,6 @@ pub lines_of_closes : (ports : List ℕ) → lines_of_events (map event.Close po
 lines_of_closes [] = refl
 lines_of_closes (p ∷ ports) = ap (λ ls. to.Close p ∷ ls) (lines_of_closes ports)
 
-pub lines_of_reopens : (ports : List ℕ) → lines_of_events (map event.Reopen ports) ≡ map to.Reopen ports
-lines_of_reopens [] = refl
-lines_of_reopens (p ∷ ports) = ap (λ ls. to.Reopen p ∷ ls) (lines_of_reopens ports)
-
 pub reopens_are_of_change : (ports : List ℕ) → filter is_of_change (map event.Reopen ports) ≡ map event.Reopen ports
 reopens_are_of_change [] = refl
 reopens_are_of_change (p ∷ ports) = ap (λ es. event.Reopen p ∷ es) (reopens_are_of_change ports)

@@ -4,7 +4,7 @@ use Rattle.std.proofs.Common.{◌≡◌, ◌∙◌, ℕ, zero, suc, ◌+◌, ◌
 use Rattle.std.specs.Prelude.{◌⊎◌, fold, is_some, nat_le, nat_lt, option_map, slice_index_or, slice_set, sum_by}
 use Rattle.std.specs.List.{cons_option, count_by, list_any, range_with_len}
 use Rattle.std.specs.Option.{option_map_or}
-use Rattle.std.proofs.lemmas.Bool.{and_parts, both_ways, cases_Bool, cases_eq, cases_lt, ltb-true, or_cases, or_parts}
+use Rattle.std.proofs.lemmas.Bool.{and_parts, both_ways, cases_Bool, cases_eq, cases_lt, ltb-true, or_cases, or_parts, not-false}
 use Rattle.std.proofs.lemmas.List.{append-nil, length-append}
 use Rattle.std.proofs.lemmas.List.Sums.{sum_by-cons}
 use Rattle.base.proofs.MapLaws.{count_by-append}
@@ -28,7 +28,7 @@ use Rattle.quiesce_core.specs.WellFormed.{IsWellFormed}
 use Rattle.quiesce_core.proofs.InductionLaws.{IsNext, further}
 use Rattle.quiesce_core.proofs.LegalLaws.{allowed}
 use Rattle.quiesce_core.proofs.RunLaws.{node_events_keep_the_configuration}
-use Rattle.base.proofs.OptionLaws.{Some-from_is_some, true_from_not}
+use Rattle.base.proofs.OptionLaws.{Some-from_is_some}
 use Rattle.quiesce_laws.specs.Lists.{In}
 use Rattle.quiesce_laws.proofs.MemberLaws.{selected}
 use Rattle.node_turn_laws.specs.Round.{Round, after_rounds, ended, give_turn, ends_transaction, live_nodes, round, stands_still}
@@ -284,7 +284,7 @@ rounds_long begins w zero h = omega arith
 rounds_long begins w (suc j) h =
     let v = after_rounds begins w j in
     let before = rounds_long begins w j (λ i low. h i (omega (arith, low))) in
-    let moved : (round begins v).moved ≡ true = true_from_not (round begins v).moved (h (suc j) (omega arith)) in
+    let moved : (round begins v).moved ≡ true = not-false (round begins v).moved (h (suc j) (omega arith)) in
     let grew = turns_grew begins (length v.events) (live_nodes v) (record { world = v; moved = false }) (record { no_less = omega arith; by_one = λ e. absurd (both_ways false refl e) }) in
     let more = grew.by_one moved in
     omega (arith, before, more)

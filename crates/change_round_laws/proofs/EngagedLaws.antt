@@ -3,9 +3,9 @@ use Rattle.std.proofs.Common.{◌≡◌, ◌∙◌, ℕ, zero, suc, ◌+◌, ◌
 use Rattle.std.specs.Prelude.{◌==◌, filter, nat_lt}
 use Rattle.std.specs.List.{count_by, list_any, range_with_len}
 use Rattle.std.proofs.lemmas.Bool.{and_parts, both_ways, cases_eq, eq-eqb, eqb-true, or_left, or_right}
+use Rattle.std.proofs.lemmas.Option.{slice_get_within}
 use Rattle.base.proofs.MapLaws.{list_any-map}
 use Rattle.base.proofs.OptionLaws.{option_map_some}
-use Rattle.base.proofs.PlaceLaws.{slice_get-below}
 use Rattle.config_graph.specs.declared.node.Target.{Target}
 use Rattle.quiesce_core.specs.Doers.{is_of_change}
 use Rattle.quiesce_core.specs.Legal.{Legal}
@@ -62,7 +62,7 @@ made_later : (es more_ : List Event) (n : ℕ) → IsRun (es ++ more_) → n < l
 made_later es more_ n run made =
     let there = Rattle.base.proofs.PlaceLaws.slice_get-there (state_after es).config.slots n made in
     let later = (extends_further es more_ run).nodes n there.0 there.1 in
-    slice_get-below (state_after (es ++ more_)).config.slots n later.now later.there
+    slice_get_within (state_after (es ++ more_)).config.slots n later.now later.there
 
 module _ (es : List Event) (p k : ℕ) (b : Begun es p k) (run : IsRun es) where
   run_split : IsRun (b.before ++ b.event ∷ b.after)

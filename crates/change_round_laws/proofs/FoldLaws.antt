@@ -5,10 +5,10 @@ use Rattle.std.specs.Option.{option_map_or}
 use Rattle.std.proofs.lemmas.Bool.{both_ways, cases_eq, cases_lt, eq-eqb, ne_eqb}
 use Rattle.std.proofs.lemmas.List.{append-nil, get_or_append_left, get_or_past}
 use Rattle.std.proofs.lemmas.List.Sums.{fold_push}
-use Rattle.std.proofs.lemmas.Option.{none-some, same_Some}
+use Rattle.std.proofs.lemmas.Option.{none-some, same_Some, slice_get_within}
 use Rattle.std.proofs.Math.Seq.{get_or-append_seam}
 use Rattle.base.proofs.OptionLaws.{map_or_at, map_or_true, option_map_some}
-use Rattle.base.proofs.PlaceLaws.{slice_get-below, slice_get-snoc, slice_get-there}
+use Rattle.base.proofs.PlaceLaws.{slice_get-snoc, slice_get-there}
 use Rattle.config_graph.specs.declared.node.Node.{Node}
 use Rattle.component_trait.specs.Fold.{fold_next}
 use Rattle.component_trait.specs.States.{Kept, NodeState, at_rest}
@@ -86,7 +86,7 @@ same_come f g own m h = ap (option_and_then (fold_at m own)) (same_opened f g m 
 module _ (folds : List (Option NodeState)) (es : List Event) (n : ℕ) (m : Slot) (e : Event) (run : IsRun es) (made : length folds ≡ length (state_after es).config.slots) (there : slot (state_after es).config n ≡ Some m)
     (live : m.live ≡ true) (own : doer (state_after es) e ≡ Some n) (node : is_of_change e ≡ false) (are : AreFolds (in_folds folds) es) where
   within : n < length folds
-  within = let low = slice_get-below (state_after es).config.slots n m there in omega (arith, low, made)
+  within = let low = slice_get_within (state_after es).config.slots n m there in omega (arith, low, made)
 
   abbrev after : List (Option NodeState)
   after = set folds n (fold_next m.first_port (in_folds folds n) e)

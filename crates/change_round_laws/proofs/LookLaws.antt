@@ -26,6 +26,7 @@ use Rattle.change_spec.specs.Members.{Member, by_node, of_history, lines}
 use Rattle.change_spec.specs.Scene.{AreSeen, Seen, drained_line}
 use Rattle.change_spec.specs.Serial.{Looks, look_once, looks_after, seen_at}
 use Rattle.change_spec.proofs.MemberLaws.{all_parts, events_of_nodes, events_parts, lines_of_nodes, lines_parts}
+use Rattle.change_spec.proofs.SerialLaws.{ports_seen}
 use Rattle.change_round_laws.specs.Courses.{Course}
 use Rattle.change_round_laws.proofs.CourseLaws.{WentOn, course_machine, course_run, with_rounds, with_said}
 
@@ -76,10 +77,6 @@ counted_seen : (w : World) (p : ℕ) (ds : List ℕ) → count_by (λ (d : Seen)
 counted_seen w p [] = refl
 counted_seen w p (x ∷ ds) =
     Rattle.std.proofs.lemmas.List.Sums.sum_by-cons (λ (d : Seen). cond (d.port == p) 1 0) (seen_at w x) (map (seen_at w) ds) ∙ ap (λ n. cond (x == p) 1 0 + n) (counted_seen w p ds) ∙ sym (one_counted p x ds)
-
-ports_seen : (w : World) (ds : List ℕ) → map (λ (d : Seen). d.port) (map (seen_at w) ds) ≡ ds
-ports_seen w [] = refl
-ports_seen w (x ∷ ds) = ap (λ xs. x ∷ xs) (ports_seen w ds)
 
 pub seen_more : (looks : List (List Seen)) (seen : List Seen) → seen_in_all (looks ++ seen ∷ []) ≡ seen_in_all looks ++ seen
 seen_more looks seen = flat_map-append (λ (s : List Seen). s) looks (seen ∷ []) ∙ ap (λ xs. seen_in_all looks ++ xs) (append-nil seen)

@@ -10,7 +10,7 @@ use Rattle.std.proofs.lemmas.List.Elements.{All-contains, filter-append}
 use Rattle.std.proofs.lemmas.List.Folds.{Any-from_list_any}
 use Rattle.std.proofs.lemmas.Option.{get_or_from_slice_get, slice_get_within}
 use Rattle.std.proofs.lemmas.Slice.Eq.{bytes_eq-Decides}
-use Rattle.base.proofs.ContainsLaws.{Contains-flat_map, Contains-here, Contains-map, Contains-there, at_some_place}
+use Rattle.base.proofs.ContainsLaws.{Contains-flat_map, Contains-here, Contains-map, Contains-there, at_some_place, any_if}
 use Rattle.base.proofs.OptionLaws.{Some-from_is_some}
 use Rattle.base.proofs.PlaceLaws.{one_at}
 use Rattle.base.proofs.RangeLaws.{count_in, count_in-le, count_in_rises, range_all}
@@ -34,7 +34,7 @@ use Rattle.change_plan.proofs.SelectsLaws.{Contains-places}
 use Rattle.change_spec.specs.Planning.{all_shifts, can_be_planned, have_one_kind, is_fit, is_fit_as, is_led, is_shift, is_touched, leads_no_further, leads_to, leads_within, may_move, may_move_all, may_move_at, planned, rises, shifts, shifts_to}
 use Rattle.change_spec.specs.Statements.{Statement, start, change, run, finish, show}
 use Rattle.change_spec.proofs.PlanningLaws.{led_decides, planned_so, shift_decides}
-use Rattle.quiesce_laws.proofs.MemberLaws.{any_if, any_of}
+use Rattle.quiesce_laws.proofs.MemberLaws.{any_of}
 use Rattle.change_round_laws.specs.Existing.{HavePlans, HavePlansFrom}
 use Rattle.change_round_laws.specs.SoundStatements.{AreSound, GoOnSoundly, IsSoundGraph}
 

@@ -3,8 +3,8 @@ use Rattle.std.proofs.Common.{◌≡◌, ◌∙◌, ℕ, ◌+◌, ◌-◌, ◌<�
 use Rattle.std.specs.Prelude.{◌⊎◌, ◌==◌, ℤ, filter}
 use Rattle.std.specs.List.{count_by, list_any}
 use Rattle.std.proofs.lemmas.Bool.{both_ways, cases_Bool, cases_lt, eqb-true, eq-eqb, or_right}
-use Rattle.std.proofs.lemmas.List.{append-nil}
-use Rattle.base.proofs.MapLaws.{count_by-append, no_length}
+use Rattle.std.proofs.lemmas.List.{append-nil, nil_from_length}
+use Rattle.base.proofs.MapLaws.{count_by-append}
 use Rattle.config_graph.specs.Graph.{Graph, ports}
 use Rattle.config_graph.specs.declared.node.Made.{Made}
 use Rattle.config_graph.proofs.GraphByLaws.{one_graph}
@@ -41,10 +41,12 @@ use Rattle.change_spec.specs.Serial.{ChangesTo, FinishesAt, Looks, Plays, RunsTo
 use Rattle.change_spec.specs.Statements.{Statement, start, change, run, finish, show}
 use Rattle.change_spec.proofs.MemberLaws.{events_of_nodes, events_parts}
 use Rattle.change_spec.proofs.SerialLaws.{changed_lines, changed_world}
+use Rattle.change_spec.proofs.PortLaws.{same_ports}
+use Rattle.change_spec.proofs.ClosingLaws.{reopen_lines}
 use Rattle.change_round_laws.specs.Courses.{Course}
 use Rattle.change_round_laws.specs.SoundStatements.{GoOnSoundly, IsSoundGraph}
-use Rattle.change_round_laws.proofs.ClosedPortLaws.{frozen_listed, frozen_live, frozen_same, same_to_close, where_rise}
-use Rattle.change_round_laws.proofs.ClosingLaws.{lines_of_reopens, reopens_are_of_change, reopens_run, shut, shut_same, with_roots}
+use Rattle.change_round_laws.proofs.ClosedPortLaws.{frozen_listed, frozen_live, frozen_same, where_rise}
+use Rattle.change_round_laws.proofs.ClosingLaws.{reopens_are_of_change, reopens_run, shut, shut_same, with_roots}
 use Rattle.change_round_laws.proofs.CommitGraphLaws.{CommitsByConfiguration, Fits, Stands}
 use Rattle.change_round_laws.proofs.CourseLaws.{WentOn, course_config, course_machine, course_run, with_changes, with_rounds, with_said}
 use Rattle.change_round_laws.proofs.LookLaws.{Looked, all_seen, are_looks, looked}
@@ -272,7 +274,7 @@ module _ (commits_run : CommitsRun) (by_config : CommitsByConfiguration) (done :
                 (inl (record {
                   looks = l.seen;
                   are_looks = looks_are;
-                  all_seen = subst (λ ports. AreSeen ports (seen_in_all l.seen)) (p.closed_are ∙ sym (ap (ports_to_close p.old p.plan) (sym after_opening) ∙ same_to_close p.old p.plan w.machine.config v0.machine.config same_then))
+                  all_seen = subst (λ ports. AreSeen ports (seen_in_all l.seen)) (p.closed_are ∙ sym (ap (ports_to_close p.old p.plan) (sym after_opening) ∙ same_ports p.old p.plan w.machine.config v0.machine.config same_then))
                       (subst (AreSeen p.closed) (ap (λ xs. seen_in_all l.seen ++ map (seen_at v0) xs) none ∙ append-nil (seen_in_all l.seen)) seen_are);
                   are = ap (λ d. drained ++ commit_lines p.old new p.plan d) after_opening;
                 })),
@@ -324,7 +326,7 @@ module _ (commits_run : CommitsRun) (by_config : CommitsByConfiguration) (done :
         let ev = map event.Reopen p.closed in
         let next = with_changes ev (((opened ++ drained) ++ to.Pending within ∷ []) ++ roots) v0 (base ++ later) (reopens_are_of_change p.closed) run rooted in
         let next_so : Course ((((opened ++ drained) ++ to.Pending within ∷ []) ++ roots) ++ map to.Reopen p.closed) (after_changes v0 ev) ((base ++ later) ++ map of_history (map to.Reopen p.closed)) =
-        subst (λ xs. Course ((((opened ++ drained) ++ to.Pending within ∷ []) ++ roots) ++ xs) (after_changes v0 ev) ((base ++ later) ++ map of_history xs)) (lines_of_reopens p.closed) next in
+        subst (λ xs. Course ((((opened ++ drained) ++ to.Pending within ∷ []) ++ roots) ++ xs) (after_changes v0 ev) ((base ++ later) ++ map of_history xs)) (reopen_lines p.closed) next in
         let end_ = with_said ((((opened ++ drained) ++ to.Pending within ∷ []) ++ roots) ++ map to.Reopen p.closed) (after_changes v0 ev) ((base ++ later) ++ map of_history (map to.Reopen p.closed)) to.Abandon next_so refl refl tt tt in
         let members = ((base ++ later) ++ map of_history (map to.Reopen p.closed)) ++ of_history to.Abandon ∷ [] in
         let tail = (roots ++ map to.Reopen p.closed) ++ to.Abandon ∷ [] in
@@ -355,7 +357,7 @@ module _ (commits_run : CommitsRun) (by_config : CommitsByConfiguration) (done :
   play_change = by (length (looks_after p.waiting p.closed p.rounds).left == 0) refl
     where
       by : (b : Bool) → (length (looks_after p.waiting p.closed p.rounds).left == 0) ≡ b → GoesBy h (change name args new within moves) ls v
-      by true none = committed (no_length (looks_after p.waiting p.closed p.rounds).left (eqb-true (length (looks_after p.waiting p.closed p.rounds).left) 0 none))
+      by true none = committed (nil_from_length (looks_after p.waiting p.closed p.rounds).left (eqb-true (length (looks_after p.waiting p.closed p.rounds).left) 0 none))
       by false some = given_up some
 
 -- a statement behind the start
@@ -403,7 +405,7 @@ stops_by h ls w v m c s =
     let rise = where_rise (is_live_port w.machine.config) w.machine.config in
     let waited = looked opened s.waiting base ports s.rounds closed in
     let l = looks_after s.waiting ports s.rounds in
-    let none : l.left ≡ [] = no_length l.left (eqb-true (length l.left) 0 s.number.holds) in
+    let none : l.left ≡ [] = nil_from_length l.left (eqb-true (length l.left) 0 s.number.holds) in
     let seen_so : AreSeen ports (seen_in_all l.seen) =
     subst (AreSeen ports) (ap (λ xs. seen_in_all l.seen ++ map (seen_at (after_rounds false s.waiting s.rounds)) xs) none ∙ append-nil (seen_in_all l.seen)) (all_seen s.waiting (after_rounds false s.waiting s.rounds) ports rise s.rounds) in
     let whole : opened ++ drained_lines l.seen ≡ h ++ ls =

@@ -3,6 +3,7 @@ use Rattle.std.proofs.Common.{◌≡◌, ◌⊎◌, inl, inr, ℕ, Bool, true, f
 use Rattle.std.specs.Prelude.{◌↔◌}
 use Rattle.std.specs.List.{list_all}
 use Rattle.std.proofs.lemmas.List.Folds.{list_all-append}
+use Rattle.std.proofs.Math.Bool.{and-true}
 use Rattle.base.proofs.BytesLaws.{same_bytes}
 use Rattle.base.proofs.FindLaws.{find_passes}
 use Rattle.config_graph.specs.declared.kind.Kind.{Kind}
@@ -49,10 +50,6 @@ with_checked h true true a = refl
 with_checked h true false a = refl
 with_checked h false f a = refl
 
-and_true : (x : Bool) → x && true ≡ x
-and_true true = refl
-and_true false = refl
-
 swapped : (a p c : Bool) → a && (p && c) ≡ p && (a && c)
 swapped true true c = refl
 swapped true false c = refl
@@ -63,8 +60,8 @@ swapped false false c = refl
 
 one_read : (bytes : List ℕ) → number_in bytes ≡ checked (list_all is_number (bytes ∷ [])) (list_all number_fits (bytes ∷ [])) (number bytes)
 one_read bytes =
-    ap (λ r. checked r (number_fits bytes) (number bytes)) (sym (and_true (is_number bytes)))
-    ∙ ap (λ f. checked (is_number bytes && true) f (number bytes)) (sym (and_true (number_fits bytes)))
+    ap (λ r. checked r (number_fits bytes) (number bytes)) (sym (and-true (is_number bytes)))
+    ∙ ap (λ f. checked (is_number bytes && true) f (number bytes)) (sym (and-true (number_fits bytes)))
 
 abbrev triple : List ℕ → List ℕ → List ℕ → Triple
 triple a b c = record { first = number a; second = number b; third = number c }
@@ -164,7 +161,7 @@ start_read name args =
     let fits = list_all integer_fits args in
     let value = statements.Start name (map integer args) in
     ap (λ o. start_of_words name (at_end o)) (arguments_read args) ∙ started name args right fits
-    ∙ ap (λ r. checked r fits value) (sym (and_true right)) ∙ ap (λ f. checked (right && true) f value) (sym (and_true fits))
+    ∙ ap (λ r. checked r fits value) (sym (and-true right)) ∙ ap (λ f. checked (right && true) f value) (sym (and-true fits))
 
 make_read : (slot path : List ℕ) (kind : Kind) (arg from : Option (List ℕ))
     → event_line (λ event. event) (make (word slot ∷ word path ∷ word (row kind).name ∷ kind_tokens arg (source_tokens from))) ≡ judged (forms.make slot path kind arg from)

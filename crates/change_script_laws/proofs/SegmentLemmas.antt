@@ -1,9 +1,9 @@
 -- A path whose segments are names of the language, with an index in brackets or without one, is a path of scripts.
-use Rattle.std.proofs.Common.{◌≡◌, ◌⊎◌, ◌<◌, ◌^◌, ◌-◌, ◌+◌, ◌==◌, ◌&&◌, ◌||◌, ℕ, suc, ℤ, pos, Bool, true, false, not, nat_le, inl, inr, List, [], ◌∷◌, ◌++◌, Option, Some, None, take, drop, length, codes, decimal, refl, sym, ap, subst, ◌∙◌, arith}
+use Rattle.std.proofs.Common.{◌≡◌, ◌⊎◌, ◌<◌, ◌^◌, ◌-◌, ◌+◌, ◌==◌, ◌&&◌, ℕ, suc, ℤ, pos, Bool, true, false, not, nat_le, inl, inr, List, [], ◌∷◌, ◌++◌, Option, Some, None, take, drop, length, codes, decimal, refl, sym, ap, subst, ◌∙◌, arith}
 use Rattle.std.specs.List.{list_all, onto_first, slice_index}
 use Rattle.std.specs.Char.{is_ascii_digit}
 use Rattle.std.specs.Str.Parse.{AllDigits, IsNumeral}
-use Rattle.std.proofs.lemmas.Bool.{and_parts, cases_Bool, and_from, not-true}
+use Rattle.std.proofs.lemmas.Bool.{and_parts, cases_Bool, and_from, not-true, or_right}
 use Rattle.std.proofs.lemmas.Bool.Decides.{nat_tests}
 use Rattle.std.proofs.lemmas.Fmt.{decimal_is_IsNumeral}
 use Rattle.std.proofs.Math.Seq.{drop-append_seam, get_or-append_seam, take-append_seam}
@@ -89,10 +89,6 @@ numeral_number : (bytes : List ℕ) → IsNumeral 10 bytes → is_number bytes �
 numeral_number [] h = let none : ⊥ = omega (arith, h.0) in absurd none
 numeral_number (b ∷ bytes) h = (digits_ascii (b ∷ bytes) h.1).0
 
-or_second : (a b : Bool) → b ≡ true → a || b ≡ true
-or_second true b h = refl
-or_second false b h = h
-
 index_of : (n : ℕ) → n < 2 ^ 32 → IsBracketed n
 index_of n small =
     let numeral = decimal_is_IsNumeral n (omega arith) in
@@ -107,7 +103,7 @@ index_of n small =
     ap (slice_index all) place ∙ get_or-append_seam d 93 [] 0 in
     record {
       is = and_from (ends_index all) (is_number (index_number all)) (ap (λ b. b == 93) last) (ap is_number inner ∙ numeral_number d numeral.0);
-      fits = or_second (not (is_number (index_number all))) (number_fits (index_number all)) (ap number_fits inner ∙ ap (λ v. nat_le v 4294967295) numeral.1 ∙ (let low : nat_le n 4294967295 ≡ true = grind (arith, nat_tests) in low));
+      fits = or_right (not (is_number (index_number all))) (number_fits (index_number all)) (ap number_fits inner ∙ ap (λ v. nat_le v 4294967295) numeral.1 ∙ (let low : nat_le n 4294967295 ≡ true = grind (arith, nat_tests) in low));
       no_stops = list_all-append (λ b. not (b == 46)) d (93 ∷ []) ∙ ap (λ x. x && true) (digits_ascii d numeral.0.1).1;
     }
 

@@ -10,6 +10,7 @@ use Rattle.base.specs.Each.{Each, EachAfter}
 use Rattle.base.proofs.EachLaws.{each_joined}
 use Rattle.base.proofs.PlaceLaws.{heads_are, tails_are}
 use Rattle.base.proofs.RangeLaws.{all_in_range, any_in_range}
+use Rattle.base.proofs.BoolLaws.{then_so}
 use Rattle.component_trait.specs.States.{NodeState}
 use Rattle.config_graph.specs.Graph.{Graph}
 use Rattle.quiesce_core.specs.Runs.{IsRun, done_by}
@@ -106,10 +107,6 @@ held_if before test h =
       held = ap test (events_parts (up_to_line before) (map by_node (take n es)) ∙ ap (λ k. events (up_to_line before) ++ k) (events_of_nodes (take n es))) ∙ w.passes;
     }
 
-done_if_live : (a b : Bool) → (not a || b) ≡ true → a ≡ true → b ≡ true
-done_if_live true b h live = h
-done_if_live false b h live = absurd (both_ways false refl live)
-
 rests_if : (before : List Member) → came_to_rest before ≡ true → CameToRest before
 rests_if before h =
     let c = (state_at before).config in
@@ -117,7 +114,7 @@ rests_if before h =
     (list_all (λ p. held_since before (is_idle_after p)) (live_ports c)) h in
     record {
       nodes = λ n live. held_if before (λ es. is_done es n)
-          (done_if_live (is_live c n) (held_since before (λ es. is_done es n))
+          (then_so (is_live c n) (held_since before (λ es. is_done es n))
           (all_in_range (λ k. not (is_live c k) || held_since before (λ es. is_done es k)) 0 (length c.slots) n w.0 (omega arith) (omega (arith, live_made c n live))) live);
       ports = all_by (λ p. HeldSince before (is_idle_after p)) (λ p. held_since before (is_idle_after p)) (λ p e. held_if before (is_idle_after p) e) (live_ports c) w.1;
     }

@@ -2,8 +2,9 @@
 use Rattle.std.proofs.Common.{◌≡◌, ◌∙◌, ℕ, ◌<◌, true, false, not, ◌&&◌, List, length, Option, Some, refl, ap, sym, subst, ⊎_elim, arith}
 use Rattle.std.specs.Option.{option_map_or}
 use Rattle.std.proofs.lemmas.Bool.{and_parts, cases_eq, eq-eqb, ne_eqb}
+use Rattle.std.proofs.lemmas.Option.{slice_get_within}
 use Rattle.base.proofs.OptionLaws.{option_map_some, map_or_true}
-use Rattle.base.proofs.PlaceLaws.{slice_get-below, slice_get-snoc}
+use Rattle.base.proofs.PlaceLaws.{slice_get-snoc}
 use Rattle.config_graph.specs.declared.node.Node.{Node}
 use Rattle.quiesce_core.specs.Alters.{Reconfigures}
 use Rattle.quiesce_core.specs.declared.event.Event.{Event}
@@ -28,7 +29,7 @@ source_there c node from k may is =
     let here : can_move c k node.kind ≡ true = sym (ap (λ o. option_map_or (λ k. can_move c k node.kind) o true) is) ∙ may in
     let found = map_or_true (λ (m : Slot). not m.live && is_kind m.node.kind node.kind) (slot c k)
     (and_parts (option_map_or (λ (m : Slot). not m.live && is_kind m.node.kind node.kind) (slot c k) false) (not (was_moved c k)) here).0 in
-    slice_get-below c.slots k found.0 found.1
+    slice_get_within c.slots k found.0 found.1
 
 lower_made : (c : Configuration) (n : ℕ) (node : Node) (from : Option ℕ) → CanMake c n node from → SourcesAreLower c → SourcesAreLower (with_node c node from)
 lower_made c n node from l h = record {

@@ -17,6 +17,7 @@ use Rattle.report_types.specs.declared.report.HistoryLine.TheVariants as to
 use Rattle.change_spec.specs.Lawful.{IsOfItsKind, EndsAs}
 use Rattle.change_spec.specs.Members.{Member, by_node, of_history, event_in, event_of, events, is_root, line_in, lines, state_at, without_roots}
 use Rattle.change_spec.specs.Scene.{config_after}
+use Rattle.change_spec.specs.Follows.{Part, lines_of}
 use Rattle.component_trait.specs.States.{NodeState}
 use Rattle.report_types.specs.declared.report.Last.{Last}
 
@@ -181,3 +182,13 @@ pub ended_there : (o : Option NodeState) (j : Option ℕ) (l : Last) → EndsAs 
 ended_there None None l h = absurd h
 ended_there None (Some j) l h = absurd h
 ended_there (Some s) j l h = (s, refl)
+
+pub root_event : (l : HistoryLine) → is_root l ≡ true → event_of l ≡ None
+root_event (to.Root p k) h = refl
+root_event _ h = absurd (both_ways false refl h)
+
+-- all statements
+
+pub lines_more : (parts : List Part) (p : Part) → lines_of (parts ++ p ∷ []) ≡ lines_of parts ++ p.lines
+lines_more [] p = append-nil p.lines
+lines_more (q ∷ parts) p = ap (λ ls. q.lines ++ ls) (lines_more parts p) ∙ sym (append_assoc q.lines (lines_of parts) p.lines)

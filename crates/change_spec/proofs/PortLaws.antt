@@ -62,7 +62,7 @@ closed_live g plan c = All-from_recursion (λ p. is_live_port c p ≡ true) (por
 pub closing_rise : (old : Graph) (plan : Plan) (c : Configuration) → IsStrictlyIncreasing (ports_to_close old plan c)
 closing_rise old plan c = IsStrictlyIncreasing-filter (λ p. is_one_of old plan.freeze c (owner c p)) (range_with_len 0 (length c.gates)) (range_rises 0 (length c.gates))
 
-same_ports : (old : Graph) (plan : Plan) (c d : Configuration) → SameLinks c d → ports_to_close old plan d ≡ ports_to_close old plan c
+pub same_ports : (old : Graph) (plan : Plan) (c d : Configuration) → SameLinks c d → ports_to_close old plan d ≡ ports_to_close old plan c
 same_ports old plan c d same =
     ap (λ k. filter (λ p. is_one_of old plan.freeze d (owner d p)) (range_with_len 0 k)) same.long
     ∙ filter_agree (λ p. is_one_of old plan.freeze d (owner d p)) (λ p. is_one_of old plan.freeze c (owner c p))

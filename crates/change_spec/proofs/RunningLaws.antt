@@ -2,8 +2,8 @@
 -- is open at the end each has ended once.
 use Rattle.std.proofs.Common.{◌≡◌, ◌∙◌, ℕ, true, false, not, ◌&&◌, cond, List, [], ◌∷◌, ◌++◌, ap, sym, subst}
 use Rattle.std.specs.List.{count_by, list_any}
+use Rattle.std.proofs.lemmas.Bool.{not-false}
 use Rattle.base.specs.Each.{Each}
-use Rattle.base.proofs.OptionLaws.{true_from_not}
 use Rattle.quiesce_core.specs.declared.event.Event.{Event}
 use Rattle.quiesce_core.specs.declared.event.Event.TheVariants as event
 use Rattle.quiesce_core.specs.Runs.{IsRun, is_end_of, is_open_after}
@@ -32,7 +32,7 @@ quiet m run = each_if IsQuiescentAt [] m (λ ys zs x e. quiescent_in ys zs x (su
 
 pub ended_once : (es : List Event) → IsRun es → (p k : ℕ) → is_open_after es p k ≡ false → IsEndedOnce es p k
 ended_once es run p k none begun =
-    let ended : list_any (is_end_of p k) es ≡ true = true_from_not (list_any (is_end_of p k) es) (sym (ap (λ b. b && not (list_any (is_end_of p k) es)) begun) ∙ none) in
+    let ended : list_any (is_end_of p k) es ≡ true = not-false (list_any (is_end_of p k) es) (sym (ap (λ b. b && not (list_any (is_end_of p k) es)) begun) ∙ none) in
     let order = in_order es p k run in
     let once : count_by (is_end_of p k) es ≡ 1 = ended_count es p k run ∙ ap (λ b. cond b 1 0) (sym (any_counted (is_end_of p k) es _ (ended_count es p k run)) ∙ ended) in
     let whole = whole_once es p k run once in

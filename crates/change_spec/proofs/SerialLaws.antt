@@ -20,10 +20,11 @@ use Rattle.report_types.specs.declared.report.Report.{Report}
 use Rattle.change_spec.specs.Changes.{drained_lines, opening_lines}
 use Rattle.change_spec.specs.Members.{is_pending}
 use Rattle.quiesce_laws.specs.Steps.{live_ports}
-use Rattle.change_spec.specs.Serial.{ChangesTo, FinishesAt, IsPlayed, Played, Plays, RunsTo, Serial, ShowsGraph, StopsAt, after_changes, end_events, end_lines, finish_ends, is_none_left, lines_played, looks_after, report_of, run_ends, wait_ends, world_after}
+use Rattle.change_spec.specs.Serial.{ChangesTo, FinishesAt, IsPlayed, Played, Plays, RunsTo, Serial, ShowsGraph, StopsAt, after_changes, end_events, end_lines, finish_ends, is_none_left, lines_played, looks_after, report_of, run_ends, wait_ends, world_after, seen_at}
 use Rattle.change_spec.specs.Statements.{Statement, start, change, run, finish, show}
 use Rattle.change_plan.proofs.PlanLaws.{one_plan}
 use Rattle.change_spec.proofs.FirstLemmas.{one_first}
+use Rattle.change_spec.specs.Scene.{Seen}
 
 -- a change that was tried, by its rounds
 module _ (w : World) (name : List ℕ) (args : List ℤ) (new : Graph) (within : ℕ) (moves : List Move) (lines : List HistoryLine) (v : World) (c : ChangesTo w name args new within moves lines v) where
@@ -120,3 +121,7 @@ module _ (statements : List Statement) (r s : Report) (a : Serial statements r) 
 
   pub one_serial : r ≡ s
   one_serial = a.report_is ∙ (λ i. report_of statements (lines_played (one_parts i) ++ one_end.lines_are i) (one_world i)) ∙ sym b.report_is
+
+pub ports_seen : (w : World) (ds : List ℕ) → map (λ (d : Seen). d.port) (map (seen_at w) ds) ≡ ds
+ports_seen w [] = refl
+ports_seen w (x ∷ ds) = ap (λ xs. x ∷ xs) (ports_seen w ds)

@@ -11,6 +11,7 @@ use Rattle.quiesce_laws.specs.Steps.{is_shaping, live_ports}
 use Rattle.quiesce_laws.proofs.EndingLaws.{graph_stays}
 use Rattle.change_plan_laws.specs.Commit.{commit_events, ports_to_close}
 use Rattle.quiesce_laws.specs.Starts.{start_of}
+use Rattle.quiesce_laws.proofs.TurningLaws.{no_node_shapes}
 use Rattle.quiesce_core.specs.Live.{IsGraphOf}
 use Rattle.quiesce_core.specs.Runs.{IsRun, state_after}
 use Rattle.quiesce_core.specs.State.{Configuration}
@@ -28,7 +29,6 @@ use Rattle.change_spec.specs.Scene.{config_after, drained_line, root_line}
 use Rattle.change_spec.specs.Statements.{Statement, start, change, run, finish, show}
 use Rattle.change_spec.proofs.GraphLemmas.{graph_is_one}
 use Rattle.change_spec.proofs.MemberLaws.{all_parts, events_parts, lines_parts, none_happens}
-use Rattle.change_spec.proofs.StopLemmas.{no_node_shapes}
 
 -- whether the configuration was shaped since the last commit, behind a line
 abbrev shaped_by : Bool → HistoryLine → Bool

@@ -29,7 +29,7 @@ use Rattle.quiesce_core.proofs.TableLaws.{gate_place}
 use Rattle.quiesce_laws.specs.Events.{reopens}
 use Rattle.quiesce_laws.specs.Roots.{has_root}
 use Rattle.quiesce_laws.proofs.ExchangeLaws.{PortStep, begins, calls, ends, port_step, stays}
-use Rattle.quiesce_laws.proofs.RootLaws.{closed_stays, root_since, closed_by}
+use Rattle.quiesce_laws.proofs.RootLaws.{closed_stays, root_since, closed_by, root_parts}
 use Rattle.report_types.specs.declared.report.HistoryLine.{HistoryLine}
 use Rattle.report_types.specs.declared.report.HistoryLine.TheVariants as to
 use Rattle.change_spec.specs.Lawful.{IsOfItsKind, StoodOpen}
@@ -45,21 +45,6 @@ record LastClose (es : List Event) (p : ℕ) : Type 0 where
   after : List Event
   parts : es ≡ before ++ event.Close p ∷ after
   kept : list_any (reopens p) after ≡ false
-
--- a root that is there now
-record IsRoot (x : Exchange) (k : ℕ) : Type 0 where
-  busy : is_idle x.phase ≡ false
-  serial : (x.serial == k) ≡ true
-  alone : is_some x.within ≡ false
-
-abbrev is_root : ℕ → Exchange → Bool
-is_root k x = (not (is_idle x.phase) && not (is_some x.within)) && x.serial == k
-
-root_parts : (k : ℕ) (x : Exchange) → is_root k x ≡ true → IsRoot x k
-root_parts k x h =
-    let a = and_parts (not (is_idle x.phase) && not (is_some x.within)) (x.serial == k) h in
-    let b = and_parts (not (is_idle x.phase)) (not (is_some x.within)) a.0 in
-    record { busy = not-true (is_idle x.phase) b.0; serial = a.1; alone = not-true (is_some x.within) b.1 }
 
 -- a port that was made is closed after an event where it was so before, or by this event
 record WasClosed (s : State) (e : Event) (p : ℕ) : Type 0 where

@@ -12,19 +12,15 @@ use Rattle.base.proofs.RangeLaws.{range_has}
 use Rattle.quiesce_core.specs.declared.event.Event.{Event}
 use Rattle.quiesce_core.specs.declared.event.Event.TheVariants as event
 use Rattle.quiesce_core.specs.Doers.{is_of_change}
-use Rattle.quiesce_core.specs.Effect.{effect}
-use Rattle.quiesce_core.specs.Legal.{Legal}
 use Rattle.quiesce_core.specs.Runs.{IsRun, is_open_after, state_after}
 use Rattle.quiesce_core.specs.Rules.{is_live_port}
-use Rattle.quiesce_core.specs.State.{Configuration, State, empty, is_live, owner}
-use Rattle.quiesce_core.proofs.InductionLaws.{along}
-use Rattle.quiesce_core.proofs.TableLaws.{gate_place}
+use Rattle.quiesce_core.specs.State.{empty, is_live, owner}
 use Rattle.quiesce_laws.specs.Drained.{is_drained}
 use Rattle.quiesce_laws.specs.Events.{reopens}
 use Rattle.quiesce_laws.proofs.DrainingLaws.{drained_stays, no_node_reopens}
 use Rattle.quiesce_laws.specs.Steps.{change_all, is_shaping, live_ports}
 use Rattle.quiesce_laws.proofs.EndingLaws.{none_open}
-use Rattle.quiesce_laws.proofs.TurningLaws.{SameLinks, live_still, same_turned}
+use Rattle.quiesce_laws.proofs.TurningLaws.{SameLinks, live_still, links_stay, no_node_shapes}
 use Rattle.report_types.specs.declared.report.HistoryLine.{HistoryLine}
 use Rattle.report_types.specs.declared.report.HistoryLine.TheVariants as to
 use Rattle.report_types.specs.declared.report.Report.{Report}
@@ -69,40 +65,6 @@ none_shapes : (test : Event → Bool) → ((p : ℕ) → test (event.Close p) �
 none_shapes test h [] [] = refl
 none_shapes test h [] (d ∷ seen) = none_shapes test h [] seen
 none_shapes test h (p ∷ ports) seen = ap (λ b. b || list_any test (filter_map event_of (closings ports ++ sightings seen))) (h p) ∙ none_shapes test h ports seen
-
-pub no_node_shapes : (e : Event) → is_of_change e ≡ false → is_shaping e ≡ false
-no_node_shapes (event.Close p) h = refl
-no_node_shapes (event.Reopen p) h = refl
-no_node_shapes (event.Make n node from) h = absurd (both_ways true h refl)
-no_node_shapes (event.Link p n x) h = absurd (both_ways true h refl)
-no_node_shapes (event.Unlink p) h = absurd (both_ways true h refl)
-no_node_shapes (event.Remove n) h = absurd (both_ways true h refl)
-no_node_shapes _ h = refl
-
--- while nothing shapes the configuration its nodes and links stay
-
-links_next : (c : Configuration) (s : State) (e : Event) → Legal s e → is_shaping e ≡ false → SameLinks c s.config → SameLinks c (effect s e).config
-links_next c s (event.Begin p k v) l h same = same
-links_next c s (event.Call p k v) l h same = same
-links_next c s (event.Miss p) l h same = same
-links_next c s (event.Take p k v) l h same = same
-links_next c s (event.Give p k v) l h same = same
-links_next c s (event.More p k v) l h same = same
-links_next c s (event.Ask p k v) l h same = same
-links_next c s (event.Hear p k v) l h same = same
-links_next c s (event.End p k v) l h same = same
-links_next c s (event.Close p) l h same = same_turned c s.config p true (gate_place s p l.live) same
-links_next c s (event.Reopen p) l h same = same_turned c s.config p false (gate_place s p l.live) same
-links_next c s (event.Make n node from) l h same = absurd (both_ways true h refl)
-links_next c s (event.Link p n x) l h same = absurd (both_ways true h refl)
-links_next c s (event.Unlink p) l h same = absurd (both_ways true h refl)
-links_next c s (event.Remove n) l h same = absurd (both_ways true h refl)
-
-pub links_stay : (es more_ : List Event) → IsRun (es ++ more_) → list_any is_shaping more_ ≡ false → SameLinks (state_after es).config (state_after (es ++ more_)).config
-links_stay es more_ run h =
-    along (λ xs. SameLinks (state_after es).config (state_after xs).config) is_shaping
-    (λ before e here free same. subst (λ (s : State). SameLinks (state_after es).config s.config) (sym here.next) (links_next (state_after es).config (state_after before) e here.legal free same))
-    es more_ run h (record { slots = refl; long = refl; owners = λ q. refl; requirements = λ q. refl; targets = λ q. refl })
 
 -- a line on which port p was found drained
 abbrev pub is_sighting : ℕ → HistoryLine → Bool

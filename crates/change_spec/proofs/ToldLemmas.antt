@@ -1,9 +1,8 @@
 -- A history that was computed follows its script.
-use Rattle.std.proofs.Common.{◌≡◌, ◌∙◌, ℕ, ◌+◌, Bool, true, false, ◌||◌, cond, List, [], ◌∷◌, ◌++◌, append_assoc, map, length, drop, refl, sym, ap, subst, ⊎_elim, inl, inr, arith}
+use Rattle.std.proofs.Common.{◌≡◌, ◌∙◌, ℕ, ◌+◌, Bool, true, false, ◌||◌, cond, List, [], ◌∷◌, ◌++◌, map, length, drop, refl, sym, ap, subst, ⊎_elim, inl, inr, arith}
 use Rattle.std.specs.Prelude.{◌==◌, ◌⊎◌, ℤ, nat_le}
 use Rattle.std.specs.List.{count_by, list_all, list_any}
 use Rattle.std.proofs.lemmas.Bool.{and_parts, both_ways, cases_Bool, eqb-true, leb-true, or_parts}
-use Rattle.std.proofs.lemmas.List.{append-nil}
 use Rattle.std.proofs.lemmas.List.Folds.{list_any-append}
 use Rattle.base.specs.Each.{EachAfter}
 use Rattle.base.proofs.MapLaws.{list_any-map}
@@ -27,6 +26,7 @@ use Rattle.change_spec.proofs.PlanningLaws.{moves_lead_so, planned_so}
 use Rattle.change_spec.proofs.StandingLaws.{graph_by}
 use Rattle.quiesce_laws.proofs.MemberLaws.{any_of}
 use Rattle.change_spec.proofs.TestLaws.{rise_if}
+use Rattle.change_spec.proofs.MemberLaws.{lines_more}
 use Rattle.base.proofs.ListLaws.{all_have, count_by-none}
 
 abbrev all_ports : List ℕ → List Seen → List ℕ
@@ -122,12 +122,6 @@ tells_so before show (shown_graph d) h = record { graph = d; are = refl }
 tells_so before show no_more h = absurd (both_ways false refl h)
 tells_so before show (counted n) h = absurd (both_ways false refl h)
 tells_so before show (looked old looks left) h = absurd (both_ways false refl h)
-
--- all statements
-
-lines_more : (parts : List Part) (p : Part) → lines_of (parts ++ p ∷ []) ≡ lines_of parts ++ p.lines
-lines_more [] p = append-nil p.lines
-lines_more (q ∷ parts) p = ap (λ ls. q.lines ++ ls) (lines_more parts p) ∙ sym (append_assoc q.lines (lines_of parts) p.lines)
 
 all_told : (parts : List Part) (ss : List Statement) (ts : List Told) → can_tell_all (lines_of parts) ss ts ≡ true
     → EachAfter (λ before (p : Part). IsRight (lines_of before) p.statement p.lines) parts (told_parts (lines_of parts) ss ts)

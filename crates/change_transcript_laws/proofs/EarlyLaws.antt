@@ -1,19 +1,18 @@
 -- Where a finish made fewer rounds than were allowed and no change was committed behind it, no node is left undone.
-use Rattle.std.proofs.Common.{◌≡◌, ◌∙◌, ◌++◌, ◌∷◌, List, [], true, false, length, map, append_assoc, filter_map, None, refl, sym, ap, subst, ⊎_elim, arith}
+use Rattle.std.proofs.Common.{◌≡◌, ◌∙◌, ◌++◌, ◌∷◌, List, [], false, length, map, append_assoc, filter_map, None, sym, ap, subst, ⊎_elim, arith}
 use Rattle.std.specs.Prelude.{◌<◌, All, not}
 use Rattle.std.specs.List.{list_any, range_with_len}
-use Rattle.std.proofs.lemmas.Bool.{both_ways, or_parts}
+use Rattle.std.proofs.lemmas.Bool.{or_parts}
 use Rattle.std.proofs.lemmas.List.{append_cancel_left}
 use Rattle.std.proofs.lemmas.List.Elements.{All-tail, filter-append}
 use Rattle.base.specs.Each.{Each}
 use Rattle.base.proofs.EachLaws.{each_at}
 use Rattle.base.proofs.PlaceLaws.{tails_are}
 use Rattle.quiesce_laws.specs.Steps.{is_shaping}
-use Rattle.quiesce_core.specs.Doers.{is_of_change}
+use Rattle.quiesce_laws.proofs.TurningLaws.{no_node_shapes}
 use Rattle.quiesce_core.specs.Runs.{IsRun, state_after}
 use Rattle.quiesce_core.specs.State.{Configuration}
 use Rattle.quiesce_core.specs.declared.event.Event.{Event}
-use Rattle.quiesce_core.specs.declared.event.Event.TheVariants.{Make, Link, Unlink, Remove}
 use Rattle.report_types.specs.declared.report.HistoryLine.{HistoryLine}
 use Rattle.report_types.specs.declared.report.HistoryLine.TheVariants as to
 use Rattle.report_types.specs.declared.report.Report.{Report}
@@ -38,15 +37,6 @@ use Rattle.change_transcript_laws.proofs.LawfulLaws.{events_are, join, runs}
 use Rattle.change_transcript_laws.proofs.MergeLaws.{merge}
 use Rattle.change_transcript_laws.proofs.RestLaws.{rested_at}
 use Rattle.change_transcript_laws.proofs.StaysLaws.{none_unfinished}
-
--- ---- what is calm
-
-no_node_shapes : (e : Event) → is_of_change e ≡ false → is_shaping e ≡ false
-no_node_shapes (Make n node from) h = absurd (both_ways true h refl)
-no_node_shapes (Link p n x) h = absurd (both_ways true h refl)
-no_node_shapes (Unlink p) h = absurd (both_ways true h refl)
-no_node_shapes (Remove n) h = absurd (both_ways true h refl)
-no_node_shapes _ h = refl
 
 calm_nodes : (es : List Event) → AreByNodes es → AreCalm es
 calm_nodes [] h = tt

@@ -6,8 +6,8 @@ use Rattle.std.specs.Option.{option_map_or}
 use Rattle.std.proofs.lemmas.Bool.{and_parts, cases_eq, cases_lt, eq-eqb, eqb-true, le-ltb, lt-ltb, ne_eqb}
 use Rattle.std.proofs.lemmas.List.{length_push}
 use Rattle.std.proofs.lemmas.List.Folds.{list_any-append}
-use Rattle.std.proofs.lemmas.Option.{slice_get_past}
-use Rattle.base.proofs.PlaceLaws.{slice_get-append_front, slice_get-below, slice_get-last, slice_get-set_other, slice_get-set_same}
+use Rattle.std.proofs.lemmas.Option.{slice_get_past, slice_get_within}
+use Rattle.base.proofs.PlaceLaws.{slice_get-append_front, slice_get-last, slice_get-set_other, slice_get-set_same}
 use Rattle.config_graph.specs.declared.node.Node.{Node}
 use Rattle.quiesce_core.specs.Effect.{change_next}
 use Rattle.quiesce_core.specs.Runs.{IsRun, state_after}
@@ -69,7 +69,7 @@ module _ (n : ℕ) where
   removed_from c r j None is = refl
   removed_from c r j (Some m) is = ⊎_elim
       (λ (same : j ≡ r). ap (λ i. option_map_or (took_over n) (slice_get (set c.slots r (record m { live = false })) i) false) same
-      ∙ ap (λ o. option_map_or (took_over n) o false) (slice_get-set_same c.slots r (record m { live = false }) (slice_get-below c.slots r m is))
+      ∙ ap (λ o. option_map_or (took_over n) o false) (slice_get-set_same c.slots r (record m { live = false }) (slice_get_within c.slots r m is))
       ∙ sym (ap (λ o. option_map_or (took_over n) o false) (ap (slot c) same ∙ is)))
       (λ (other : j ≡ r → ⊥). ap (λ o. option_map_or (took_over n) o false) (slice_get-set_other c.slots r (record m { live = false }) j other))
       (cases_eq j r)

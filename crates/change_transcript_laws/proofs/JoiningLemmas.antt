@@ -3,12 +3,11 @@
 use Rattle.std.proofs.Common.{◌≡◌, ◌∙◌, Bool, true, false, not, cond, List, [], ◌∷◌, ◌++◌, append_assoc, map, Option, Some, None, refl, sym, ap, subst}
 use Rattle.std.specs.Prelude.{filter_map}
 use Rattle.std.specs.List.{cons_option}
-use Rattle.std.proofs.lemmas.Bool.{both_ways}
 use Rattle.std.proofs.lemmas.List.{append-nil}
 use Rattle.std.proofs.lemmas.List.Elements.{filter_map-append}
 use Rattle.std.proofs.lemmas.Option.{none-some, same_Some}
 use Rattle.base.specs.Each.{Each, EachAfter}
-use Rattle.base.proofs.EachLaws.{each_carried, each_parts, each_weaker}
+use Rattle.base.proofs.EachLaws.{each_carried, each_parts, each_weaker, filter_map_pushed}
 use Rattle.base.proofs.PlaceLaws.{heads_are, tails_are}
 use Rattle.quiesce_core.specs.declared.event.Event.{Event}
 use Rattle.quiesce_core.specs.Runs.{IsRun}
@@ -17,6 +16,7 @@ use Rattle.report_types.specs.declared.report.HistoryLine.{HistoryLine}
 use Rattle.report_types.specs.declared.report.HistoryLine.TheVariants as to
 use Rattle.change_spec.specs.Members as members
 use Rattle.change_spec.specs.Members.{Member, event_of, is_root, without_roots}
+use Rattle.change_spec.proofs.MemberLaws.{root_event}
 use Rattle.txn_records.specs.Entries.{event_in}
 use Rattle.txn_records.specs.declared.entry.Entry.{Entry}
 use Rattle.txn_records.specs.Records as records
@@ -116,10 +116,6 @@ member_lines (of_entry x None ∷ js) = member_lines js
 member_lines (of_entry x (Some l) ∷ js) =
     line_of_member l (members_in js) (is_root l) ∙ ap (λ ls. cond (not (is_root l)) (l ∷ ls) ls) (member_lines js)
 
-root_event : (l : HistoryLine) → is_root l ≡ true → event_of l ≡ None
-root_event (to.Root p k) h = refl
-root_event _ h = absurd (both_ways false refl h)
-
 event_by : (l : HistoryLine) (ms : List Member) (b : Bool) → is_root l ≡ b → members.events (cons_option (cond b None (Some (members.of_history l))) ms) ≡ cons_option (event_of l) (members.events ms)
 event_by l ms true h = sym (ap (λ o. cons_option o (members.events ms)) (root_event l h))
 event_by l ms false h = refl
@@ -137,11 +133,6 @@ member_events (of_entry x (Some l) ∷ js) f =
     event_of_member l (members_in js) ∙ ap (λ o. cons_option o (members.events (members_in js))) (sym f.0.0)
     ∙ ap (cons_option (event_in x)) (member_events js f.1)
 
--- ---- what holds at each place
-
-pushed : {A B : Type 0} (f : A → Option B) (xs : List A) (x : A) (o : Option B) → f x ≡ o → filter_map f (xs ++ x ∷ []) ≡ filter_map f xs ++ cons_option o []
-pushed f xs x o is = filter_map-append f xs (x ∷ []) ∙ ap (λ (v : Option _). filter_map f xs ++ cons_option v []) is
-
 -- what holds at each place of the values of a partial function holds at each place of the list, of its value there
 abbrev pub Lifted : {A B : Type 0} → (A → Option B) → (List B → B → Type 0) → List A → A → Type 0
 Lifted {A} {B} f Q before x = (y : B) → f x ≡ Some y → Q (filter_map f before) y
@@ -151,11 +142,11 @@ lift_by : {A B : Type 0} (f : A → Option B) (Q : List B → B → Type 0) (bef
     → EachAfter Q (filter_map f before) (cons_option o (filter_map f xs)) → Lifted f Q before x × EachAfter (Lifted f Q) (before ++ x ∷ []) xs
 lift_by f Q before xs x None is later each = (
   λ y e. absurd (none-some y (sym is ∙ e)),
-  later (subst (λ zs. EachAfter Q zs (filter_map f xs)) (sym (pushed f before x None is ∙ append-nil (filter_map f before))) each),
+  later (subst (λ zs. EachAfter Q zs (filter_map f xs)) (sym (filter_map_pushed f before x None is ∙ append-nil (filter_map f before))) each),
 )
 lift_by f Q before xs x (Some y) is later each = (
   λ z e. subst (Q (filter_map f before)) (same_Some y z (sym is ∙ e)) each.0,
-  later (subst (λ zs. EachAfter Q zs (filter_map f xs)) (sym (pushed f before x (Some y) is)) each.1),
+  later (subst (λ zs. EachAfter Q zs (filter_map f xs)) (sym (filter_map_pushed f before x (Some y) is)) each.1),
 )
 
 pub lifted : {A B : Type 0} (f : A → Option B) (Q : List B → B → Type 0) (before xs : List A) → EachAfter Q (filter_map f before) (filter_map f xs) → EachAfter (Lifted f Q) before xs

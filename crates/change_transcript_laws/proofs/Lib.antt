@@ -20,7 +20,6 @@ pub mod OpenLaws
 pub mod PendingLaws
 pub mod RootLaws
 pub mod RoomLaws
-mod Doers
 mod Still
 mod Shown
 mod SeenFolds

@@ -13,7 +13,6 @@ use Rattle.base.proofs.PlaceLaws.{heads_are, tails_are}
 use Rattle.quiesce_word.specs.Words as words
 use Rattle.quiesce_word.specs.Phases.{is_idle}
 use Rattle.quiesce_word.specs.declared.word.Word.{Word}
-use Rattle.quiesce_core.specs.Doers.{is_of_change}
 use Rattle.quiesce_core.specs.Fields.{fields_of}
 use Rattle.quiesce_core.specs.Runs.{IsRun, state_after}
 use Rattle.quiesce_core.specs.State.{exchange, gate}
@@ -26,6 +25,7 @@ use Rattle.quiesce_core.proofs.WordLaws.{port_words_decode}
 use Rattle.quiesce_laws.specs.Events.{reopens}
 use Rattle.quiesce_laws.specs.Roots.{has_root}
 use Rattle.quiesce_laws.proofs.RootLaws.{closed_stays, root_since, closed_by}
+use Rattle.quiesce_laws.proofs.DrainingLaws.{no_node_reopens}
 use Rattle.report_types.specs.declared.report.HistoryLine.{HistoryLine}
 use Rattle.report_types.specs.declared.report.HistoryLine.TheVariants as to
 use Rattle.change_spec.specs.Lawful.{IsOfItsKind, StoodOpen}
@@ -153,10 +153,6 @@ root_loads es p k w run so root =
     let fields : words.unpack w ≡ fields_of s p = ap words.unpack so ∙ port_words_decode s (runs_are_well_formed es run) p in
     and_from (p == p) (words.has_root (words.unpack w) && serial_of w == k) (eq-eqb p p refl) (ap (λ (f : Word). words.has_root f && f.serial == k) fields ∙ root)
 
-node_reopens_none : (p : ℕ) (e : Event) → is_of_change e ≡ false → reopens p e ≡ false
-node_reopens_none p (event.Reopen q) h = absurd (both_ways true h refl)
-node_reopens_none p _ h = refl
-
 -- ---- a look behind a close that finds the port not drained
 
 -- items of which none is seen by a test of their lines
@@ -234,7 +230,7 @@ module _ (t : List Item) (m : List Moment) (ms : List Member) (fair : AreFair t)
     since_lines = member_lines between ∙ ap (λ k. without_roots (lines k)) second.before_items
 
     not_reopened : list_any (reopens p) (members.events since) ≡ false
-    not_reopened = none_happens (reopens p) (node_reopens_none p) since since_kinds
+    not_reopened = none_happens (reopens p) (no_node_reopens p) since since_kinds
         (ap (λ ls. list_any (reopens p) (filter_map event_of ls)) since_lines ∙ ap (list_any (reopens p)) (events_without_roots (lines ys)) ∙ none_reopened)
 
     run_there : IsRun (members.events (front_members ++ of_history (to.Close p) ∷ since))

@@ -31,7 +31,7 @@ use Rattle.change_engine.specs.Finishing.{EndsAfter, EndsWith, SawTwice, ScansGo
 use Rattle.change_engine.specs.Passivating.{silent_items}
 use Rattle.change_engine.specs.Running.{ends_run, is_out_after}
 use Rattle.change_engine.specs.Stopping.{stop_items}
-use Rattle.change_engine.proofs.ItemLaws.{sight_lines, silent_entries}
+use Rattle.change_engine.proofs.ItemLaws.{sight_lines, silent_entries, entries_pushed}
 use Rattle.change_transcript_laws.proofs.Still.{same_config}
 use Rattle.quiesce_core.specs.Rules.{is_live_port}
 use Rattle.change_transcript_laws.specs.Joining.{AreJoined, Joint, of_node, of_line, of_entry, item_of, items_in, member_of, members_in, moment_of, moments_in}
@@ -65,10 +65,6 @@ out_last b (w ∷ scans) h = ⊎_elim
 
 last_out : (scans : List ScanSeen) → is_out_after false scans ≡ true → LastDone scans
 last_out scans h = ⊎_elim (λ (e : (false ≡ true) × (scans ≡ [])). absurd (both_ways false refl e.0)) (λ (l : LastDone scans). l) (out_last false scans h)
-
-all_last : (bs : List ScanSeen) (w : ScanSeen) → all_entries (bs ++ w ∷ []) ≡ all_entries bs ++ seen_entries w
-all_last [] w = append-nil (seen_entries w)
-all_last (x ∷ bs) w = ap (λ k. seen_entries x ++ k) (all_last bs w) ∙ sym (append_assoc (seen_entries x) (all_entries bs) (seen_entries w))
 
 quiet_scan : (w : ScanSeen) → AreQuiet (seen_entries w)
 quiet_scan w = (refl, quiet_both (map sight_entry w.sights) (map look_entry w.found) (quiet_sights w.sights) (quiet_looks w.found))
@@ -122,7 +118,7 @@ rested before looks scans quiet saw l = record {
   first = looks ++ all_entries l.bs;
   quiet = quiet_both looks (all_entries l.bs) quiet (quiet_scans l.bs);
   scan = l.w;
-  parts = ap (λ k. before ++ silent_items k) (ap (λ k. looks ++ all_entries k) l.parts ∙ ap (λ k. looks ++ k) (all_last l.bs l.w) ∙ sym (append_assoc looks (all_entries l.bs) (seen_entries l.w)));
+  parts = ap (λ k. before ++ silent_items k) (ap (λ k. looks ++ all_entries k) l.parts ∙ ap (λ k. looks ++ k) (entries_pushed l.bs l.w) ∙ sym (append_assoc looks (all_entries l.bs) (seen_entries l.w)));
   twice = subst (λ r. IsSeenTwice r l.w.sights) (append_assoc (entries before) looks (all_entries l.bs))
       (((each_pushed (SawTwice (entries before ++ looks)) l.bs l.w).0 (subst (Each (SawTwice (entries before ++ looks))) l.parts saw)).1 l.done);
 }

@@ -8,6 +8,7 @@ use Rattle.component_trait.specs.Moves as moves
 use Rattle.component_trait.specs.States.{Kept, NodeState}
 use Rattle.component_trait.specs.Tables as tables
 use Rattle.component_trait.specs.declared.next.Ask.{Ask as AskFor}
+use Rattle.component_trait.proofs.FoldLaws.{fold_none}
 use Rattle.config_graph.specs.declared.kind.Kind.{Kind}
 use Rattle.config_graph.specs.declared.kind.Kind.TheVariants as kind
 use Rattle.quiesce_word.specs.Phases.{is_idle}
@@ -45,14 +46,9 @@ wants_none kind.Adder a s h = refl
 pub done_wants_none : (s : NodeState) → moves.is_done s ≡ true → moves.wants s ≡ None
 done_wants_none s h = wants_none s.kind s.arg s.kept h
 
--- so it begins none
-none_on : (first : ℕ) (es : List Event) → fold (fold_next first) None es ≡ None
-none_on first [] = refl
-none_on first (e ∷ es) = none_on first es
-
 pub begins_none : (first p k v : ℕ) (s : NodeState) (es : List Event) → moves.is_done s ≡ true → fold_from first s (Begin p k v ∷ es) ≡ None
 begins_none first p k v s es h =
-    ap (λ (a : Option AskFor). fold (fold_next first) (where_so (is_request first p v a) s) es) (done_wants_none s h) ∙ none_on first es
+    ap (λ (a : Option AskFor). fold (fold_next first) (where_so (is_request first p v a) s) es) (done_wants_none s h) ∙ fold_none first es
 
 -- no transaction is open at a live port
 abbrev pub AreAllIdle : State → Type 0

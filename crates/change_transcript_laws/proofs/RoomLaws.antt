@@ -30,6 +30,7 @@ use Rattle.quiesce_core.specs.declared.event.Event.TheVariants.{Close, Reopen, U
 use Rattle.change_spec.specs.Scripts.{more_made}
 use Rattle.change_transcript_laws.proofs.MadeLaws.{gates_all, nodes_made, ports_made, slots_all}
 use Rattle.std.proofs.Math.Nat.{add-zero}
+use Rattle.base.proofs.SumLaws.{one_each}
 
 -- events that count for nothing
 none_summed : {A : Type 0} (count : Event → ℕ) (f : A → Event) → ((x : A) → count (f x) ≡ 0) → (xs : List A) → sum_by count (map f xs) ≡ 0
@@ -72,10 +73,6 @@ module _ (g : Graph) (count : Event → ℕ) (of_node : Node → ℕ) (makes : (
         none_summed count starts.reopen_of (λ p. reopens p.0) (enumerate_from 0 (ports g.nodes)),
       )
 
-ones : (nodes : List Node) → sum_by (λ (n : Node). 1) nodes ≡ length nodes
-ones [] = refl
-ones (n ∷ nodes) = omega (arith, sum_by-cons (λ (k : Node). 1) n nodes, ones nodes)
-
 abbrev made_of : ℕ → ℕ → Made
 made_of i j = record { nodes = i; ports = j }
 
@@ -84,7 +81,7 @@ same_made a b c d e f = ap (λ i. made_of i b) e ∙ ap (made_of c) f
 
 pub start_makes : (g : Graph) → made_in (change_all empty.config (start_of g)) ≡ more_made (record { nodes = 0; ports = 0 }) (length g.nodes) (length (ports g.nodes))
 start_makes g = same_made _ _ _ _
-    (slots_all empty.config (start_of g) ∙ ap (λ k. 0 + k) (start_summed g nodes_made (λ n. 1) (λ p. refl) (λ p n x. refl) (λ p. refl) ∙ ones g.nodes))
+    (slots_all empty.config (start_of g) ∙ ap (λ k. 0 + k) (start_summed g nodes_made (λ n. 1) (λ p. refl) (λ p n x. refl) (λ p. refl) ∙ one_each g.nodes))
     (gates_all empty.config (start_of g) ∙ ap (λ k. 0 + k) (start_summed g ports_made requires_of (λ p. refl) (λ p n x. refl) (λ p. refl) ∙ sym (length-ports g.nodes)))
 
 -- ---- commits

@@ -31,9 +31,8 @@ use Rattle.quiesce_core.specs.declared.event.Event.TheVariants.{Begin, Close, Re
 use Rattle.quiesce_core.specs.declared.state.Exchange.{Exchange}
 use Rattle.quiesce_core.specs.declared.state.Slot.{Slot}
 use Rattle.quiesce_core.proofs.LegalLaws.{legal}
-use Rattle.quiesce_core.proofs.RunLaws.{fronts_are_runs, runs_are_consistent, runs_are_well_formed, state_more}
+use Rattle.quiesce_core.proofs.RunLaws.{fronts_are_runs, runs_are_consistent, runs_are_well_formed, state_more, done_by_other}
 use Rattle.quiesce_laws.proofs.DoerLaws.{doer_live, gone_does_nothing}
-use Rattle.change_transcript_laws.proofs.Doers.{log_same}
 use Rattle.change_transcript_laws.proofs.Resting.{begins_none, is_begin, only_begins}
 use Rattle.change_transcript_laws.proofs.Still.{log_parts, one_more}
 
@@ -66,7 +65,7 @@ gone_calm es (e ∷ later) n run calm gone =
     let w = one_more es e later run in
     ap (done_by n) (sym w.whole)
     ∙ gone_calm (es ++ e ∷ []) later n w.runs_on calm.1 (live_by n (es ++ e ∷ []) es (slots_more es e calm.0) ∙ gone)
-    ∙ log_same n es e (gone_does_nothing (state_after es) e n (runs_are_well_formed es w.run) (legal (state_after es) e w.step.allowed) gone)
+    ∙ done_by_other n es e (gone_does_nothing (state_after es) e n (runs_are_well_formed es w.run) (legal (state_after es) e w.step.allowed) gone)
 
 -- ---- folds
 
@@ -172,7 +171,7 @@ turn_fold es e turn (suc fuel) n =
 
     by : ((k : ℕ) → fold_within (es ++ e ∷ []) fuel k ≡ fold_within es fuel k) → (o : Option Slot) → option_and_then (of_slot (es ++ e ∷ []) fuel n) o ≡ option_and_then (of_slot es fuel n) o
     by rec None = refl
-    by rec (Some m) = (λ i. option_and_then (fold_at m (log_same n es e (turn_log (state_after es) n e turn) i)) (opens rec m m.from i))
+    by rec (Some m) = (λ i. option_and_then (fold_at m (done_by_other n es e (turn_log (state_after es) n e turn) i)) (opens rec m m.from i))
 
 -- no event of a node but a Begin may happen, and none of those has a fold
 no_node_event : (es later : List Event) (e : Event) → is_of_change e ≡ false → IsRun (es ++ e ∷ later) → AreCalm later → IsIdleAll es → AreDone es → HaveFolds (es ++ e ∷ later) → ⊥

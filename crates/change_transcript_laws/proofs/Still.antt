@@ -1,29 +1,17 @@
 -- What nodes did between two places of a run, by their logs.
-use Rattle.std.proofs.Common.{◌≡◌, ◌∙◌, ℕ, ◌≤◌, Bool, true, false, List, [], ◌∷◌, ◌++◌, append_assoc, length, refl, sym, ap, subst, arith}
-use Rattle.std.specs.Prelude.{◌==◌, fold, if◌then◌else◌}
+use Rattle.std.proofs.Common.{◌≡◌, ◌∙◌, ℕ, ◌≤◌, true, false, List, [], ◌∷◌, ◌++◌, append_assoc, length, refl, sym, ap, subst, arith}
+use Rattle.std.specs.Prelude.{◌==◌}
 use Rattle.std.specs.Option.{option_map_or}
 use Rattle.std.proofs.lemmas.Bool.{eq-eqb}
 use Rattle.std.proofs.lemmas.List.{append-nil, length-append}
 use Rattle.quiesce_core.specs.Doers.{is_of_change}
-use Rattle.quiesce_core.specs.Effect.{effect}
 use Rattle.quiesce_core.specs.Runs.{IsRun, Step, done_by, done_from, is_doer, state_after}
 use Rattle.quiesce_core.specs.State.{State, empty, is_live}
 use Rattle.quiesce_core.specs.declared.event.Event.{Event}
 use Rattle.quiesce_core.proofs.LegalLaws.{legal}
-use Rattle.quiesce_core.proofs.RunLaws.{doer_there, fronts_are_runs, last_step, node_events_keep_the_configuration, runs_are_consistent, runs_are_well_formed, state_more}
+use Rattle.quiesce_core.proofs.RunLaws.{doer_there, fronts_are_runs, last_step, node_events_keep_the_configuration, runs_are_consistent, runs_are_well_formed, state_more, done_parts, done_by_own, done_by_other}
 use Rattle.change_spec.specs.Resting.{AreByNodes}
 use Rattle.quiesce_laws.proofs.DoerLaws.{doer_live, gone_does_nothing}
-use Rattle.change_transcript_laws.proofs.Doers.{log_more, log_same}
-
-done_parts : (s : State) (n : ℕ) (xs ys : List Event) → done_from s n (xs ++ ys) ≡ done_from s n xs ++ done_from (fold effect s xs) n ys
-done_parts s n [] ys = refl
-done_parts s n (e ∷ xs) ys = by (is_doer s n e) (done_parts (effect s e) n xs ys)
-  where
-    by : (b : Bool) → done_from (effect s e) n (xs ++ ys) ≡ done_from (effect s e) n xs ++ done_from (fold effect (effect s e) xs) n ys
-        → (if b then e ∷ done_from (effect s e) n (xs ++ ys) else done_from (effect s e) n (xs ++ ys))
-        ≡ (if b then e ∷ done_from (effect s e) n xs else done_from (effect s e) n xs) ++ done_from (fold effect (effect s e) xs) n ys
-    by true h = ap (λ es. e ∷ es) h
-    by false h = h
 
 pub log_parts : (n : ℕ) (es later : List Event) → done_by n (es ++ later) ≡ done_by n es ++ done_from (state_after es) n later
 log_parts n es later = done_parts empty n es later
@@ -76,7 +64,7 @@ gone_log es (e ∷ later) n run by_ gone =
     let w = one_more es e later run in
     ap (done_by n) (sym w.whole)
     ∙ gone_log (es ++ e ∷ []) later n w.runs_on by_.1 (ap (λ c. is_live c n) (same_one es e by_.0) ∙ gone)
-    ∙ log_same n es e (gone_does_nothing (state_after es) e n (runs_are_well_formed es w.run) (legal (state_after es) e w.step.allowed) gone)
+    ∙ done_by_other n es e (gone_does_nothing (state_after es) e n (runs_are_well_formed es w.run) (legal (state_after es) e w.step.allowed) gone)
 
 -- where no live node did more, nothing was done
 pub nothing_done : (es later : List Event) → IsRun (es ++ later) → AreByNodes later
@@ -94,6 +82,6 @@ nothing_done es (e ∷ later) run by_ few =
       few d.0 live,
       ap (λ k. length (done_by d.0 k)) w.whole,
       log_grows d.0 (es ++ e ∷ []) later,
-      ap length (log_more d.0 es e own),
+      ap length (done_by_own d.0 es e own),
       length-append (done_by d.0 es) (e ∷ []),
     ))

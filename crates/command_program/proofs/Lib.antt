@@ -1,7 +1,6 @@
 pub mod ReportingLaws
 pub mod RunningLaws
 mod ScriptRuns
-mod SoundSteps
 pub mod Planning
 pub mod Refusing
 pub mod Calls

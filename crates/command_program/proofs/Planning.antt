@@ -1,5 +1,6 @@
 -- What the parts of planning answer, as refusals and as changes.
-use Rattle.std.proofs.Common.{◌≡◌, ◌≢◌, false, ◌⊎◌, inl, inr, ℕ, List, [], Result, Ok, Err, IfOk, IfErr, refl, sym, subst}
+use Rattle.std.proofs.Common.{◌≡◌, ◌≢◌, false, ◌⊎◌, inl, inr, ℕ, List, [], Result, IfOk, refl, sym, subst}
+use Rattle.std.proofs.lemmas.Result.{IfOk-weaker}
 use Rattle.config_graph.specs.Graph.{Graph}
 use Rattle.config_graph.specs.declared.node.Made.{Made}
 use Rattle.change_plan.specs.Refusals.{IsRefusal}
@@ -21,19 +22,11 @@ use Rattle.command_program.specs.Planning.{IsFull}
 use Rattle.command_program.specs.Refusals.{IsLine, IsRefusalFor}
 use Rattle.command_program.specs.declared.answer.Answer.{Answer}
 
-pub if_ok : {A E : Type 0} (r : Result A E) (P Q : A → Type 0) → ((a : A) → P a → Q a) → IfOk r P → IfOk r Q
-if_ok (Ok a) P Q leads holds = leads a holds
-if_ok (Err e) P Q leads holds = tt
-
-pub if_err : {A E : Type 0} (r : Result A E) (P Q : E → Type 0) → ((e : E) → P e → Q e) → IfErr r P → IfErr r Q
-if_err (Ok a) P Q leads holds = tt
-if_err (Err e) P Q leads holds = leads e holds
-
 -- what holds of a line and its status holds of the answer that is this line
 pub of_line :
     {E : Type 0} (P : Status → List ℕ → Type 0) (s : Status) (line : List ℕ) (r : Result Answer E) → P s line → IfOk r (IsLine s line)
     → IfOk r (λ answer. P answer.status answer.text.items)
-of_line P s line r holds = if_ok r (IsLine s line) (λ answer. P answer.status answer.text.items) (λ answer is. rw (is.status_is, is.text_is) holds)
+of_line P s line r holds = IfOk-weaker r (IsLine s line) (λ answer. P answer.status answer.text.items) (λ answer is. rw (is.status_is, is.text_is) holds)
 
 -- a refusal of a plan without moves
 pub full_words :
@@ -79,5 +72,5 @@ pub query_refused :
     {E : Type 0} (file : List ℕ) (query : Query) (text : List ℕ) (e : DescriptionFault) (r : Result Answer E) → MayRefuse (IsRefused query text) e
     → IfOk r (IsRefusalFor file e) → IfOk r (λ answer. DescriptionAnswers file query (Held text) answer.status answer.text.items)
 query_refused file query text e r may =
-    if_ok r (IsRefusalFor file e) (λ answer. DescriptionAnswers file query (Held text) answer.status answer.text.items)
+    IfOk-weaker r (IsRefusalFor file e) (λ answer. DescriptionAnswers file query (Held text) answer.status answer.text.items)
     (λ answer is. rw (is.status_is, is.text_is) (refused text (fault_words e) (may is.plain)))

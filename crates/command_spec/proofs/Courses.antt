@@ -1,5 +1,5 @@
 -- What the course of one description comes to, in both directions.
-use Rattle.std.proofs.Common.{◌≡◌, ◌≢◌, ◌∙◌, ◌+◌, ◌⊎◌, inl, inr, ℕ, ℤ, List, [], ◌∷◌, Some, codes, length, refl, sym, ap, subst, arith}
+use Rattle.std.proofs.Common.{◌≡◌, ◌≢◌, ◌∙◌, ◌+◌, ◌⊎◌, inl, inr, ℕ, ℤ, List, [], ◌∷◌, Some, codes, length, refl, sym, ap, subst, zero-add}
 use Rattle.std.proofs.lemmas.Option.{same_Some}
 use Rattle.config_graph.specs.Graph.{Graph, ports}
 use Rattle.config_graph.specs.declared.node.Made.{Made}
@@ -101,14 +101,10 @@ head_is g h gs hs is = cc
 tail_is : (g h : Graph) (gs hs : List Graph) → g ∷ gs ≡ h ∷ hs → gs ≡ hs
 tail_is g h gs hs is = cc
 
--- what a first start has made
-zero_and : (n : ℕ) → 0 + n ≡ n
-zero_and n = omega arith
-
 pub first_made : (g : Graph) → more_made nothing_made (length g.nodes) (length (ports g.nodes)) ≡ made_of_graph g
 first_made g =
     let of : ℕ → ℕ → Made = λ n p. record { nodes = n; ports = p } in
-    ap (λ n. of n (0 + length (ports g.nodes))) (zero_and (length g.nodes)) ∙ ap (of (length g.nodes)) (zero_and (length (ports g.nodes)))
+    ap (λ n. of n (0 + length (ports g.nodes))) (zero-add (length g.nodes)) ∙ ap (of (length g.nodes)) (zero-add (length (ports g.nodes)))
 
 module _ (file text : List ℕ) (tree : Tree) (checked : IsChecked text tree) where
   used : Progress

@@ -1,12 +1,13 @@
 -- The logs of a lawful report, and the slots of its nodes.
 use Rattle.std.proofs.Common.{◌≡◌, ◌∙◌, ℕ, zero, suc, ◌+◌, ◌<◌, ◌≤◌, Bool, true, false, cond, List, [], ◌∷◌, ◌++◌, append_assoc, length, map, Option, Some, None, refl, sym, ap, subst, arith}
-use Rattle.std.specs.Prelude.{All, IfSome, filter_map, find}
+use Rattle.std.specs.Prelude.{All, IfSome, filter_map}
 use Rattle.std.specs.List.{AllByRecursion, cons_option, list_any, range_with_len}
 use Rattle.std.proofs.lemmas.Bool.{both_ways}
 use Rattle.std.proofs.lemmas.List.{length-append}
 use Rattle.std.proofs.lemmas.List.Elements.{All-cons, All-from_recursion, All-head, All-nil, All-tail, filter_map-append}
 use Rattle.base.specs.Each.{EachAfter}
 use Rattle.base.proofs.PlaceLaws.{heads_are, tails_are}
+use Rattle.base.proofs.FindLaws.{found_has}
 use Rattle.component_trait.specs.States.{NodeState}
 use Rattle.quiesce_core.specs.declared.event.Event.{Event}
 use Rattle.quiesce_core.specs.declared.event.Event.TheVariants as events
@@ -86,15 +87,6 @@ log_events es run n own is = subst (All CanBeLogged) is (All-from_recursion CanB
 pub range_below : (a n limit : ℕ) → a + n ≤ limit → AllByRecursion (λ k. k < limit) (range_with_len a n)
 range_below a zero limit few = tt
 range_below a (suc n) limit few = (omega (arith, few), range_below (a + 1) n limit (omega (arith, few)))
-
--- what is found has what all have
-pub found_has : {A : Type 0} (P : A → Type 0) (test : A → Bool) (xs : List A) → AllByRecursion P xs → IfSome (find test xs) P
-found_has P test [] all = tt
-found_has {A} P test (x ∷ xs) all = by (test x) (found_has P test xs all.1)
-  where
-    by : (b : Bool) → IfSome (find test xs) P → IfSome (cond b (Some x) (find test xs)) P
-    by true rest = all.0
-    by false rest = rest
 
 -- the slots of a run's nodes are numbers
 pub slots_are_numbers : (es : List Event) → IsRun es → AllByRecursion IsNumber (range_with_len 0 (length (state_after es).config.slots))

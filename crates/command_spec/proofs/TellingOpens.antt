@@ -16,7 +16,8 @@ use Rattle.quiesce_core.specs.State.{Configuration}
 use Rattle.quiesce_laws.specs.Starts.{start_of}
 use Rattle.report_types.specs.declared.report.HistoryLine.{HistoryLine}
 use Rattle.report_types.specs.declared.report.HistoryLine.TheVariants as to
-use Rattle.report_texts.specs.ReportTexts.{ends_pending, is_pending_or_root, is_root}
+use Rattle.report_texts.specs.ReportTexts.{ends_pending, is_root}
+use Rattle.report_texts.proofs.PendingLaws.{ends_so}
 use Rattle.change_spec.specs.Changes.{IsChange, IsCommitted, IsGivenUp, commit_lines, drained_lines, opening_lines, seen_in_all}
 use Rattle.change_spec.specs.Follows.{Follows, IsRight, IsStop, Part, lines_of}
 use Rattle.change_spec.specs.Members.{is_pending, line_of, lines_of_events}
@@ -33,18 +34,13 @@ OpensBehind before l = is_root l ≡ true → ends_pending before ≡ true
 abbrev IsNoRoot : HistoryLine → Type 0
 IsNoRoot l = is_root l ≡ false
 
-ends_last : (before : List HistoryLine) (l : HistoryLine) → ends_pending (before ++ l ∷ []) ≡ is_pending_or_root l
-ends_last [] l = refl
-ends_last (x ∷ []) l = refl
-ends_last (x ∷ y ∷ before) l = ends_last (y ∷ before) l
-
 no_roots : (before lines : List HistoryLine) → AllByRecursion IsNoRoot lines → EachAfter OpensBehind before lines
 no_roots before [] all = tt
 no_roots before (l ∷ lines) all = ((λ root. absurd (both_ways (is_root l) all.0 root)), no_roots (before ++ l ∷ []) lines all.1)
 
 roots_open : (before : List HistoryLine) (left : List Seen) → ends_pending before ≡ true → EachAfter OpensBehind before (map root_line left)
 roots_open before [] pending = tt
-roots_open before (d ∷ left) pending = ((λ root. pending), roots_open (before ++ root_line d ∷ []) left (ends_last before (root_line d)))
+roots_open before (d ∷ left) pending = ((λ root. pending), roots_open (before ++ root_line d ∷ []) left (ends_so before (root_line d)))
 
 -- ---- lines without a root
 
@@ -81,7 +77,7 @@ given_up_opens closed within lines before x =
     (each_joined OpensBehind before looked (((to.Pending within ∷ roots) ++ back) ++ to.Abandon ∷ []) (no_roots before looked (drained_no_root x.looks))
     (each_joined OpensBehind behind ((to.Pending within ∷ roots) ++ back) (to.Abandon ∷ [])
     (each_joined OpensBehind behind (to.Pending within ∷ roots) back
-    ((λ root. absurd (both_ways false refl root)), roots_open (behind ++ to.Pending within ∷ []) x.left (ends_last behind (to.Pending within)))
+    ((λ root. absurd (both_ways false refl root)), roots_open (behind ++ to.Pending within ∷ []) x.left (ends_so behind (to.Pending within)))
     (no_roots (behind ++ (to.Pending within ∷ roots)) back (all_mapped IsNoRoot to.Reopen closed (λ p. refl))))
     (no_roots (behind ++ ((to.Pending within ∷ roots) ++ back)) (to.Abandon ∷ []) (refl, tt))))
 

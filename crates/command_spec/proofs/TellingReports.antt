@@ -42,10 +42,11 @@ use Rattle.change_round_laws.proofs.RoundLaws as rounds
 use Rattle.command_spec.specs.Telling.{AreStated, CountFits, NumbersFit}
 use Rattle.command_spec.proofs.NumberLemmas.{serial_number}
 use Rattle.command_spec.proofs.TellingLines.{HasEventNumbers, IsSaid, MakesWord, all_at, all_split, history_numbers, history_said}
-use Rattle.command_spec.proofs.TellingLogs.{IsNextSlot, found_has, logs_are, next_slots, numbers_of_run, slots_are_numbers, slots_made, status_small}
+use Rattle.command_spec.proofs.TellingLogs.{IsNextSlot, logs_are, next_slots, numbers_of_run, slots_are_numbers, slots_made, status_small}
 use Rattle.command_spec.proofs.TellingOpens.{OpensBehind, history_opens}
 use Rattle.command_spec.proofs.TellingTexts.{HasSerial, HasTold, can_stand}
 use Rattle.base.proofs.ListLaws.{AllByRecursion-push}
+use Rattle.base.proofs.FindLaws.{found_has}
 
 -- ---- the paths of the nodes of a configuration
 

@@ -5,7 +5,6 @@ use Rattle.std.specs.Fmt.{signed_decimal}
 use Rattle.std.specs.List.{AllByRecursion}
 use Rattle.std.specs.Option.{option_map_or}
 use Rattle.std.proofs.lemmas.Bool.{and_from, leb-true}
-use Rattle.std.proofs.lemmas.Bool.Decides.{nat_tests}
 use Rattle.std.proofs.lemmas.Fmt.{decimal_by_steps}
 use Rattle.config_graph.specs.GraphText.{kind_text}
 use Rattle.config_graph.specs.Kinds.{row}
@@ -26,14 +25,12 @@ use Rattle.report_texts.specs.declared.version.Version.TheVariants as versions
 use Rattle.change_spec.specs.Consistent.{keeps_to_limit}
 use Rattle.command_spec.specs.Telling.{CountFits, IsCall}
 use Rattle.command_spec.proofs.TellingLines.{HasEventNumbers, IsSaid}
+use Rattle.base.proofs.DecimalLaws.{no_feed}
 
 -- ---- texts without a line feed
 
 abbrev OnOneLine : List ℕ → Type 0
 OnOneLine text = lacks 10 text ≡ true
-
-no_feed : (digit : ℕ) → not (48 + digit == 10) ≡ true
-no_feed digit = grind (arith, nat_tests)
 
 number_line : (n : ℕ) → n < 2 ^ 64 → OnOneLine (decimal n)
 number_line =

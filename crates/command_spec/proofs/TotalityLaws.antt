@@ -2,11 +2,11 @@
 use Rattle.std.proofs.Common.{◌≡◌, ◌<◌, ◌⊎◌, inl, inr, ℕ, ℤ, false, List, [], Option, Some, None, length, map, sum_by, slice_get, refl, subst, sym, arith, IsTrue}
 use Rattle.std.specs.List.{range_with_len}
 use Rattle.std.specs.Option.{option_map_or}
-use Rattle.base.proofs.PlaceLaws.{slice_get-below}
 use Rattle.base.proofs.ContainsLaws.{Contains-nil}
 use Rattle.base.proofs.FindLaws.{find-some}
 use Rattle.base.proofs.OptionLaws.{option_map_some}
 use Rattle.std.proofs.lemmas.List.Elements.{All-contains}
+use Rattle.std.proofs.lemmas.Option.{slice_get_within}
 use Rattle.darwin_lexer.proofs.TokensLaws as lexing
 use Rattle.darwin_lexer.specs.Tokens.{IsTokens, FirstFault, refusal}
 use Rattle.darwin_lexer.specs.declared.front.LexicalFault.{LexicalFault}
@@ -37,13 +37,14 @@ use Rattle.change_plan.specs.PlanText.{plan_text}
 use Rattle.change_plan.specs.Plans.{IsPlanOf}
 use Rattle.change_plan.specs.Refusals.{CanPlan, CreatesSoMany, IsRefusal}
 use Rattle.change_plan.specs.Room.{HasRoom, HasRoomFor, LacksRoomFor, RoomFault}
-use Rattle.change_plan.specs.Touched.{Frozen, IsTouched}
+use Rattle.change_plan.specs.Touched.{Frozen}
 use Rattle.change_plan.specs.declared.error.PlanError.{PlanError}
 use Rattle.change_plan.specs.declared.plan_data.Move.{Move}
 use Rattle.change_plan.specs.declared.plan_data.Plan.{Plan}
 use Rattle.change_parts.specs.Parts.{AreParts}
 use Rattle.change_parts.specs.declared.part.Part.{Part}
 use Rattle.change_plan.proofs.RoomLaws.{room_or_fault}
+use Rattle.change_plan.proofs.DifferenceLaws.{touched_low}
 use Rattle.quiesce_core.specs.Runs.{Steps}
 use Rattle.quiesce_core.specs.Settled.{Settled}
 use Rattle.quiesce_core.specs.Start.{started}
@@ -79,18 +80,9 @@ use Rattle.command_spec.proofs.GraphLaws.{GraphOrFault, has_bounds, is_sound}
 pub room_for : (made : Made) (g : Graph) → HasRoomFor made g ⊎ ((e : PlanError) × LacksRoomFor made g e)
 room_for made g = room_or_fault made (length g.nodes) (length (ports g.nodes))
 
--- ---- plans without moves
-
-gone_within : (old new : Graph) (i : ℕ) → IsGone old new i → i < length old.nodes
-gone_within old new i gone = slice_get-below old.nodes i gone.node gone.here
-
-touched_within : (old new : Graph) (i : ℕ) → IsTouched old new i → i < length old.nodes
-touched_within old new i (inl gone) = gone_within old new i gone
-touched_within old new i (inr anew) = slice_get-below old.nodes i anew.stays.node anew.stays.here
-
 within_of : (nodes : List Node) (i : ℕ) (o : Option Node) → slice_get nodes i ≡ o → 0 < option_map_or requires_of o 0 → i < length nodes
 within_of nodes i None is some = absurd (omega (arith, some))
-within_of nodes i (Some n) is some = slice_get-below nodes i n is
+within_of nodes i (Some n) is some = slice_get_within nodes i n is
 
 linked_within : (g : Graph) (i r j x : ℕ) → Sound g → IsLinked g i r j x → i < length g.nodes
 linked_within g i r j x sound linked =
@@ -105,7 +97,7 @@ reach_within g sound n p (direct {x = x} linked) = linked_within g p.node p.requ
 reach_within g sound n q (through {p = p} {m = m} {x = x} reached depends linked) = linked_within g q.node q.require m x sound linked
 
 frozen_within : (old new : Graph) → Sound old → (i : ℕ) → Frozen old new i → i < length old.nodes
-frozen_within old new sound i (inl touched) = touched_within old new i touched
+frozen_within old new sound i (inl touched) = touched_low old new i touched
 frozen_within old new sound i (inr (n, r, set, reached)) = reach_within old sound n (record { node = i; require = r }) reached
 
 no_shift : (old new : Graph) → IsShifts old new [] []
@@ -196,7 +188,7 @@ settled_within s n settled = by (slot s.config n) refl settled.live
   where
     by : (o : Option Slot) → slot s.config n ≡ o → IsTrue (option_map_or (λ (m : Slot). m.live) o false) → n < length s.config.slots
     by None is live = cc
-    by (Some m) is live = slice_get-below s.config.slots n m is
+    by (Some m) is live = slice_get_within s.config.slots n m is
 
 settled_nodes : (s : State) → ¬ ¬ ((nodes : List ℕ) × AreSettled s nodes)
 settled_nodes s none = those (Settled s) (length s.config.slots) (λ t.

@@ -1,6 +1,5 @@
 -- Words are parted where the first `--` stands.
-use Rattle.std.proofs.lemmas.List.{take_all}
-use Rattle.std.proofs.Common.{◌≡◌, ◌+◌, ◌-◌, length-drop, ◌<◌, ◌≤◌, ℕ, zero, suc, Bool, true, false, not, cond, List, [], ◌∷◌, map, length, take, drop, codes, bytes_eq, refl, ap, arith}
+use Rattle.std.proofs.Common.{◌≡◌, ◌+◌, ◌<◌, ◌≤◌, ℕ, zero, suc, Bool, true, false, not, cond, List, [], ◌∷◌, map, length, take, drop, codes, bytes_eq, refl, ap, arith}
 use Rattle.std.specs.List.{AllByRecursion, prefix_len}
 use Rattle.command_words.specs.CommandLine.{is_part}
 use Rattle.command_words.proofs.Asking.{IsPart, Parted}
@@ -47,7 +46,3 @@ module _ {A : Type 0} (f : A → List ℕ) where
       by again false is n n_is high = absurd (omega (arith, n_is, high))
       by again true is zero n_is high = absurd (omega (arith, n_is))
       by again true is (suc n) n_is high = (part_is (f x) is, again n (omega (arith, n_is)) (omega (arith, high)))
-
--- what is left from a place on, as a slice has it
-pub rest_is : {A : Type 0} (xs : List A) (n : ℕ) → take (length xs - n) (drop n xs) ≡ drop n xs
-rest_is xs n = take_all (length xs - n) (drop n xs) (omega (arith, length-drop n xs))

@@ -1,5 +1,5 @@
 -- The table of kinds: how many services and requirements a kind has, which of them depend on which, and how much a service does.
-use Rattle.std.proofs.Common.{◌≡◌, ℕ, zero, suc, Some, true, false, refl, Option, None, []}
+use Rattle.std.proofs.Common.{◌≡◌, ℕ, zero, suc, Some, true, false, refl, Option, None, [], rules}
 use Rattle.std.proofs.lemmas.Bool.{both_ways}
 use Rattle.std.proofs.Math.Bool.{or-false}
 use Rattle.config_graph.specs.Kinds.{row, kind_named, calls_of, depends_on, is_depended_on, mores_of}
@@ -160,3 +160,10 @@ depends_on_all Adder x r h i other = absurd (omega (arith, i))
 pub ports_wanted_at : (o : Option Node) → length (row (unwrap_or o (record { path = []; kind = Fork; arg = None })).kind).requires_ ≡ option_map_or requires_of o 0
 ports_wanted_at None = refl
 ports_wanted_at (Some n) = refl
+
+-- a requirement on which the kind's service depends is one that it has
+pub depended_within : (k : Kind) (r : ℕ) → depends_on k 0 r ≡ true → r < length (row k).requires_
+depended_within Place r h = search rules
+depended_within Map r h = search rules
+depended_within Branch r h = search rules
+depended_within _ r h = absurd (both_ways false refl h)

@@ -20,7 +20,8 @@ use Rattle.darwin_lexer.specs.declared.front.LexicalFault.TheVariants.{BadByte, 
 use Rattle.darwin_lexer.specs.Keywords.{begins_name, is_blank, keyword_bytes, keyword_of, kind_or_name, word_kind, sign_at, sign_bytes}
 use Rattle.darwin_lexer.specs.Fronts.{line_comment, block_comment, front_of}
 use Rattle.darwin_lexer.specs.Spelling.{Spells, KeepsLimit, IsLongest, BeginsNothing, opens_line_comment, opens_block_comment, IsLineComment, IsBlockComment, NeverCloses, Means}
-use Rattle.darwin_lexer.proofs.SpellingLemmas.{spelled_as, letters_first, digits_first, sign_first, sign_length, found_is, at_most, above, line_is, block_or_open, front_means}
+use Rattle.darwin_lexer.proofs.SpellingLemmas.{spelled_as, letters_first, digits_first, sign_first, sign_length, found_is, line_is, block_or_open, front_means}
+use Rattle.base.proofs.NumberLaws.{at_most, above}
 
 -- Two numbers of which neither is less are one.
 same_by : (n m : ℕ) → (n < m → ⊥) → (m < n → ⊥) → n ≡ m

@@ -22,12 +22,8 @@ use Rattle.darwin_lexer.specs.declared.front.LexicalFault.TheVariants.{OpenComme
 use Rattle.darwin_lexer.specs.Fronts.{through_close, closed_or_open, block_comment, name, number, sign, sign_or_bad, front_of}
 use Rattle.darwin_lexer.proofs.FrontLemmas.{prefix_within, find_passes, starts_long}
 use Rattle.darwin_lexer.specs.Spelling.{Spells, KeepsLimit, IsLongest, opens_line_comment, opens_block_comment, closes_at, IsLineComment, IsBlockComment, NeverCloses, Means}
-
--- searches of a table
-
-find_among : {X : Type 0} (P : X → Type 0) (test : X → Bool) (xs : List X) → AllByRecursion P xs → IfSome (find test xs) P
-find_among P test [] all = tt
-find_among P test (x ∷ xs) all = cond_both (test x) (Some x) (find test xs) (λ o. IfSome o P) (λ _. all.0) (λ _. find_among P test xs all.1)
+use Rattle.base.proofs.NumberLaws.{at_most, above}
+use Rattle.base.proofs.FindLaws.{found_has}
 
 all_fail : {X : Type 0} (test : X → Bool) (xs : List X) → find test xs ≡ None → AllByRecursion (λ x. test x ≡ false) xs
 all_fail test [] none_found = tt
@@ -159,12 +155,6 @@ word_longest text other more begins longer within is = ⊎_elim
     others)
     (spelled_as other (take more text) is)
 
-pub at_most : (n most : ℕ) → nat_le n most ≡ true → n ≤ most
-at_most n most is = grind (arith, nat_tests)
-
-pub above : (n most : ℕ) → nat_le n most ≡ false → most < n
-above n most is = grind (arith, nat_tests)
-
 name_means : (first : ℕ) (rest : List ℕ) → begins_name first ≡ true → opens_line_comment (first ∷ rest) ≡ false → opens_block_comment (first ∷ rest) ≡ false → Means (first ∷ rest) (name (first ∷ rest))
 name_means first rest begins no_line no_block =
     let text : List ℕ = first ∷ rest in
@@ -247,7 +237,7 @@ sign_longest text sign other found begins = go (find (fits text) two_byte_signs)
     go (Some two) is =
         let first : find (fits text) signs ≡ Some two = find_front (fits text) two_byte_signs one_byte_signs two is in
         let same : two ≡ sign = cc in
-        let long : 2 ≤ length (sign_bytes two) = subst (λ o. IfSome o (λ s. 2 ≤ length (sign_bytes s))) is (find_among (λ s. 2 ≤ length (sign_bytes s)) (fits text) two_byte_signs (lit≤ tt, (lit≤ tt, (lit≤ tt, (lit≤ tt, (lit≤ tt, (lit≤ tt, tt))))))) in
+        let long : 2 ≤ length (sign_bytes two) = subst (λ o. IfSome o (λ s. 2 ≤ length (sign_bytes s))) is (found_has (λ s. 2 ≤ length (sign_bytes s)) (fits text) two_byte_signs (lit≤ tt, (lit≤ tt, (lit≤ tt, (lit≤ tt, (lit≤ tt, (lit≤ tt, tt))))))) in
         omega (arith, (sign_length other).1, ap (λ s. length (sign_bytes s)) same)
 
 sign_means : (text : List ℕ) → 0 < length text → is_blank (get_or text 0 0) ≡ false → opens_line_comment text ≡ false → opens_block_comment text ≡ false → begins_name (get_or text 0 0) ≡ false → is_ascii_digit (get_or text 0 0) ≡ false → Means text (sign text)

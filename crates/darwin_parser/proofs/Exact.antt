@@ -9,8 +9,9 @@ use Rattle.darwin_parser.specs.declared.cursor.Stop.TheVariants.{Expected, TooNe
 use Rattle.darwin_parser.specs.Language as lang
 use Rattle.darwin_parser.specs.Language.{Lang, Joined}
 use Rattle.darwin_parser.specs.Reading.{Reader, Outcome, and_then, expect}
-use Rattle.darwin_parser.proofs.KindSets.{apart, apart_is, apart_not, class_of, implied, implies, member, member_right, no_is_yes, self_implied, sum_first, sum_of, sum_second, within, within_is, within_left, within_not, within_right, within_self_at}
+use Rattle.darwin_parser.proofs.KindSets.{apart, apart_is, apart_not, class_of, implied, implies, member, member_right, self_implied, sum_first, sum_of, sum_second, within, within_is, within_left, within_not, within_right, within_self_at}
 use Rattle.std.proofs.lemmas.Bool.{and_parts, false≢true}
+use Rattle.base.proofs.BoolLaws.{no_is_yes}
 
 -- a list is empty only where that is allowed, and else begins with one of these kinds
 abbrev pub StartsOr : List TokenKind → Bool → List Token → Type 0

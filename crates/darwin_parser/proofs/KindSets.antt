@@ -1,6 +1,6 @@
 -- Sets of kinds of tokens, in which all numbers are one: as lists, which compute.
-use Rattle.std.proofs.Common.{◌≡◌, Bool, true, false, not, ◌||◌, ◌&&◌, List, [], ◌∷◌, ◌++◌, refl, ap, ◌∙◌, inl, inr, ◌⊎◌}
-use Rattle.std.proofs.lemmas.Bool.{eq-eqb, and_parts, false≢true}
+use Rattle.std.proofs.Common.{◌≡◌, Bool, true, false, not, ◌||◌, ◌&&◌, List, [], ◌∷◌, ◌++◌, refl, ap, ◌∙◌, inl, inr}
+use Rattle.std.proofs.lemmas.Bool.{eq-eqb, and_parts, false≢true, or_cases, and_from, or_left, or_right}
 use Rattle.std.proofs.lemmas.Bool.Decides.{eqb_tells}
 use denote.Enum.Bare.{same_true, true_same}
 use Rattle.darwin_lexer.specs.contracts.token.Keyword as keyword
@@ -51,10 +51,6 @@ same_self (kinds.Number n) = eq-eqb n n refl
 same_self (kinds.Word v) = true_same keyword.the_type v v refl
 same_self (kinds.Sign v) = true_same sign_type.the_type v v refl
 
-pub or_split : (a b : Bool) → (a || b) ≡ true → (a ≡ true) ⊎ (b ≡ true)
-or_split true b e = inl refl
-or_split false b e = inr e
-
 pub not_true : (a b : Bool) → (not a && b) ≡ true → (a ≡ false) × (b ≡ true)
 not_true true b e = absurd cc
 not_true false b e = (refl, e)
@@ -63,13 +59,13 @@ pub apart_is : (xs ys : List TokenKind) (c : TokenKind) → apart xs ys ≡ true
 apart_is [] ys c e m = absurd cc
 apart_is (x ∷ xs) ys c e m =
     let s = not_true (member x ys) (apart xs ys) e in
-    elim (or_split (same_kind c x) (member c xs) m) [ inl h ↦ ap (λ k. member k ys) (same_sound c x h) ∙ s.0 | inr h ↦ apart_is xs ys c s.1 h ]
+    elim (or_cases (same_kind c x) (member c xs) m) [ inl h ↦ ap (λ k. member k ys) (same_sound c x h) ∙ s.0 | inr h ↦ apart_is xs ys c s.1 h ]
 
 pub within_is : (xs ys : List TokenKind) (c : TokenKind) → within xs ys ≡ true → member c xs ≡ true → member c ys ≡ true
 within_is [] ys c e m = absurd cc
 within_is (x ∷ xs) ys c e m =
     let s = and_parts (member x ys) (within xs ys) e in
-    elim (or_split (same_kind c x) (member c xs) m) [ inl h ↦ ap (λ k. member k ys) (same_sound c x h) ∙ s.0 | inr h ↦ within_is xs ys c s.1 h ]
+    elim (or_cases (same_kind c x) (member c xs) m) [ inl h ↦ ap (λ k. member k ys) (same_sound c x h) ∙ s.0 | inr h ↦ within_is xs ys c s.1 h ]
 
 pub within_not : (xs ys : List TokenKind) (c : TokenKind) → within xs ys ≡ true → member c ys ≡ false → member c xs ≡ false
 within_not xs ys c e m = elim (member c xs) as (λ b. member c xs ≡ b → b ≡ false) [ true ↦ λ h. absurd (let k = within_is xs ys c e h in cc) | false ↦ λ _. refl ] refl
@@ -77,22 +73,10 @@ within_not xs ys c e m = elim (member c xs) as (λ b. member c xs ≡ b → b �
 pub apart_not : (xs ys : List TokenKind) (c : TokenKind) → apart xs ys ≡ true → member c ys ≡ true → member c xs ≡ false
 apart_not xs ys c e m = elim (member c xs) as (λ b. member c xs ≡ b → b ≡ false) [ true ↦ λ h. absurd (let k = apart_is xs ys c e h in cc) | false ↦ λ _. refl ] refl
 
-pub and_is : (a b : Bool) → a ≡ true → b ≡ true → (a && b) ≡ true
-and_is true b e f = f
-and_is false b e f = absurd cc
-
-pub or_left : (a b : Bool) → a ≡ true → (a || b) ≡ true
-or_left true b e = refl
-or_left false b e = absurd cc
-
-pub or_right : (a b : Bool) → b ≡ true → (a || b) ≡ true
-or_right true b e = refl
-or_right false b e = e
-
 pub within_self_at : (xs ys : List TokenKind) → ((c : TokenKind) → member c xs ≡ true → member c ys ≡ true) → within xs ys ≡ true
 within_self_at [] ys f = refl
 within_self_at (x ∷ xs) ys f =
-    and_is (member x ys) (within xs ys) (f x (ap (λ b. b || member x xs) (same_self x))) (within_self_at xs ys (λ c m. f c (or_right (same_kind c x) (member c xs) m)))
+    and_from (member x ys) (within xs ys) (f x (ap (λ b. b || member x xs) (same_self x))) (within_self_at xs ys (λ c m. f c (or_right (same_kind c x) (member c xs) m)))
 
 pub within_self : (xs : List TokenKind) → within xs xs ≡ true
 within_self xs = within_self_at xs xs (λ c m. m)
@@ -104,24 +88,13 @@ pub implied : (a b : Bool) → implies a b ≡ true → a ≡ true → b ≡ tru
 implied true b e h = e
 implied false b e h = absurd cc
 
-pub no_is_yes : (b : Bool) → false ≡ true → b ≡ true
-no_is_yes b e = absurd cc
-
 pub or_false : (b : Bool) → b ≡ false → (b || false) ≡ false
 or_false true e = absurd cc
 or_false false e = refl
 
-pub or_both_false : (a b : Bool) → (a || b) ≡ false → (a ≡ false) × (b ≡ false)
-or_both_false true b e = absurd cc
-or_both_false false b e = (refl, e)
-
-pub or_joins : (a b : Bool) → a ≡ false → b ≡ false → (a || b) ≡ false
-or_joins true b e f = absurd cc
-or_joins false b e f = f
-
 pub member_left : (xs ys : List TokenKind) (c : TokenKind) → member c xs ≡ true → member c (xs ++ ys) ≡ true
 member_left [] ys c m = absurd (false≢true m)
-member_left (x ∷ xs) ys c m = elim (or_split (same_kind c x) (member c xs) m) [ inl h ↦ or_left (same_kind c x) (member c (xs ++ ys)) h | inr h ↦ or_right (same_kind c x) (member c (xs ++ ys)) (member_left xs ys c h) ]
+member_left (x ∷ xs) ys c m = elim (or_cases (same_kind c x) (member c xs) m) [ inl h ↦ or_left (same_kind c x) (member c (xs ++ ys)) h | inr h ↦ or_right (same_kind c x) (member c (xs ++ ys)) (member_left xs ys c h) ]
 
 pub member_right : (xs ys : List TokenKind) (c : TokenKind) → member c ys ≡ true → member c (xs ++ ys) ≡ true
 member_right [] ys c m = m

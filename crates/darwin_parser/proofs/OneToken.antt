@@ -1,6 +1,7 @@
 -- Readers of one token, and the tests of the next one, are exact.
 use Rattle.std.proofs.Common.{◌≡◌, ℕ, Bool, true, false, ◌||◌, ◌&&◌, cond, List, [], ◌∷◌, ◌++◌, length, Ok, Err, refl, ap, sym, subst, ◌∙◌, inl, inr, ◌⊎◌, Option, Some, None, is_some, drop}
 use Rattle.std.proofs.lemmas.Option.{none-some, same_Some}
+use Rattle.std.proofs.lemmas.Bool.{or_cases, or_parts, or_from}
 use Rattle.base.proofs.PlaceLaws.{heads_are}
 use Rattle.darwin_lexer.specs.declared.token.Token.{Token}
 use Rattle.darwin_lexer.specs.declared.token.TokenKind.{TokenKind}
@@ -16,7 +17,7 @@ use Rattle.darwin_parser.specs.Language as lang
 use Rattle.darwin_parser.specs.Language.{Lang, Joined}
 use Rattle.darwin_parser.specs.Reading as reading
 use Rattle.darwin_parser.specs.Reading.{Reader, Outcome, and_then, same_kind}
-use Rattle.darwin_parser.proofs.KindSets.{class_of, member, or_both_false, or_false, or_joins, or_split, same_self, same_sound, sum_of, within_is}
+use Rattle.darwin_parser.proofs.KindSets.{class_of, member, or_false, same_self, same_sound, sum_of, within_is}
 use Rattle.darwin_parser.proofs.Exact.{Answer, Begun, Exact, SameHead, StartsOr, Stops, Tells, decides, exact_if, exact_reads, exact_same}
 
 -- one token of which f tells the value
@@ -149,12 +150,12 @@ starts_two a b (t ∷ ts) (inr h) = elim (same_kind (class_of t.kind) a) as (λ 
 
 pub stops_two : (a b : TokenKind) (tokens : List Token) → Stops (a ∷ []) tokens → Stops (b ∷ []) tokens → Stops (a ∷ b ∷ []) tokens
 stops_two a b [] s t = tt
-stops_two a b (x ∷ ts) s t = or_joins (same_kind (class_of x.kind) a) (same_kind (class_of x.kind) b || false) (or_both_false (same_kind (class_of x.kind) a) false s).0 t
+stops_two a b (x ∷ ts) s t = or_from (same_kind (class_of x.kind) a) (same_kind (class_of x.kind) b || false) (or_parts (same_kind (class_of x.kind) a) false s).0 t
 
 pub tells_either : {p q : List Token → Bool} (a b : TokenKind) → Tells p (a ∷ []) → Tells q (b ∷ []) → Tells (λ tokens. p tokens || q tokens) (a ∷ b ∷ [])
 tells_either {p = p} {q = q} a b s t = record {
-  on = λ tokens e. starts_two a b tokens (elim (or_split (p tokens) (q tokens) e) as (λ _. StartsOr (a ∷ []) false tokens ⊎ StartsOr (b ∷ []) false tokens) [ inl h ↦ inl (s.on tokens h) | inr h ↦ inr (t.on tokens h) ]);
-  off = λ tokens e. let h = or_both_false (p tokens) (q tokens) e in stops_two a b tokens (s.off tokens h.0) (t.off tokens h.1);
+  on = λ tokens e. starts_two a b tokens (elim (or_cases (p tokens) (q tokens) e) as (λ _. StartsOr (a ∷ []) false tokens ⊎ StartsOr (b ∷ []) false tokens) [ inl h ↦ inl (s.on tokens h) | inr h ↦ inr (t.on tokens h) ]);
+  off = λ tokens e. let h = or_parts (p tokens) (q tokens) e in stops_two a b tokens (s.off tokens h.0) (t.off tokens h.1);
 }
 
 pub number_is : (k : TokenKind) (n : ℕ) → reading.number_of k ≡ Some n → k ≡ kinds.Number n

@@ -1,5 +1,5 @@
 -- Each rule of the program is exact for its production.
-use Rattle.std.proofs.Common.{◌≡◌, ℕ, zero, suc, Bool, true, false, List, [], ◌∷◌, ◌++◌, refl, sym, subst, Some, None, Ok, unwrap_or, fold, inl, inr, ◌⊎◌, ◌||◌}
+use Rattle.std.proofs.Common.{◌≡◌, ℕ, zero, suc, true, false, List, [], ◌∷◌, ◌++◌, refl, sym, subst, Some, None, Ok, unwrap_or, fold, inl, inr, ◌⊎◌, ◌||◌}
 use Rattle.std.proofs.lemmas.List.{append-nil}
 use Rattle.darwin_lexer.specs.declared.token.Token.{Token}
 use Rattle.darwin_lexer.specs.declared.token.TokenKind.{TokenKind}
@@ -23,6 +23,7 @@ use Rattle.darwin_parser.proofs.Exact.{Begun, Exact, StartsOr, Tells, exact_befo
 use Rattle.darwin_parser.proofs.OneToken.{exact_after, exact_number, exact_operator, exact_plain, exact_sees, example_of, operators, plain, starts_two, tells_either, tells_number, tells_operator, tells_sees}
 use Rattle.darwin_parser.proofs.Repeats.{exact_closed, exact_loop, fold_appended, fold_pushed}
 use Rattle.std.proofs.lemmas.Bool.{false≢true}
+use Rattle.base.proofs.BoolLaws.{or_nothing}
 
 -- a limit of nesting, lifted
 abbrev pub deeper : ℕ → ℕ → ℕ
@@ -142,10 +143,6 @@ nested_starts_so L w e n = elim n [
 exact_base : (text : List ℕ) → Exact operand_starts false [] (λ i. grammar.factor text 0) (reading.simple text)
 unfolding grammar.factor
 exact_base text = exact_wide (exact_simple text) refl
-
-or_nothing : (c : Bool) → (c || false) ≡ true → c ≡ true
-or_nothing true e = refl
-or_nothing false e = absurd cc
 
 two_kinds : (k a b : TokenKind) → member (class_of k) (a ∷ b ∷ []) ≡ true → (class_of k ≡ a) ⊎ (class_of k ≡ b)
 two_kinds k a b m = elim (same_kind (class_of k) a) as (λ c. same_kind (class_of k) a ≡ c → (c || (same_kind (class_of k) b || false)) ≡ true → (class_of k ≡ a) ⊎ (class_of k ≡ b)) [

@@ -8,10 +8,10 @@ use Rattle.darwin_parser.specs.Language as lang
 use Rattle.darwin_parser.specs.Language.{Lang, Joined}
 use Rattle.darwin_parser.specs.Reading as reading
 use Rattle.darwin_parser.specs.Reading.{Reader, Outcome, and_then, same_kind}
-use Rattle.darwin_parser.proofs.KindSets.{apart, member, or_right, same_self, within, within_left, within_right, within_self, within_self_at}
+use Rattle.darwin_parser.proofs.KindSets.{apart, member, same_self, within, within_left, within_right, within_self, within_self_at}
 use Rattle.darwin_parser.proofs.Exact.{Answer, Exact, Shape, StartsOr, Stops, Tells, Took, answer_same, answer_then, assoc, dead_off, dead_on, exact_give, exact_same, left_answer, right_answer, shape_then, starts_joined, starts_within}
 use Rattle.darwin_parser.proofs.OneToken.{eat_is, exact_plain, plain, tells_sees}
-use Rattle.std.proofs.lemmas.Bool.{and_parts, false≢true}
+use Rattle.std.proofs.lemmas.Bool.{and_parts, false≢true, or_right}
 
 -- what the items make of a start, step by step
 pub record Gathered {S A : Type 0} (L : Lang A) (step : S → A → S) (s : S) (tokens : List Token) (end : S) : Type 0 where

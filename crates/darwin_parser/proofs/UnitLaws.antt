@@ -9,7 +9,7 @@ use Rattle.darwin_lexer.specs.declared.token.Keyword.TheVariants as words
 use Rattle.darwin_parser.specs.declared.cursor.Stop.TheVariants.{Expected, TooNested, NoMemory}
 use Rattle.darwin_parser.specs.Tree.{Tree}
 use Rattle.darwin_parser.specs.Language as lang
-use Rattle.darwin_parser.specs.Language.{Lang, Joined}
+use Rattle.darwin_parser.specs.Language.{Lang}
 use Rattle.darwin_parser.specs.Grammar as grammar
 use Rattle.darwin_parser.specs.Grammar.{IsUnitWithin}
 use Rattle.darwin_parser.specs.Reading as reading
@@ -91,9 +91,6 @@ no_rest front (y ∷ x) rest t head e = absurd (let len = ap length e in omega (
 
 at_or_below : (m n : ℕ) → m ≤ n → (m < n) ⊎ (m ≡ n)
 at_or_below m n less = elim (cases_lt m n) as (λ _. (m < n) ⊎ (m ≡ n)) [ inl few ↦ inl few | inr more ↦ inr (omega arith) ]
-
-at_or_above : (m n : ℕ) → (m < n) ⊎ (n ≤ m)
-at_or_above m n = cases_lt m n
 
 front_of_front : (m n : ℕ) (tokens : List Token) → m ≤ n → (others : List Token) → take n tokens ++ others ≡ take m tokens ++ (drop m (take n tokens) ++ others)
 front_of_front m n tokens less others =
@@ -225,7 +222,7 @@ module _ (text : List ℕ) where
   not_too_nested tokens tree n unit r = r.refused (begins_all (n + 1) tokens tree unit)
 
   not_above : (tokens : List Token) (m n : ℕ) → UnitBegins 0 text (take n tokens) → (UnitBegins 0 text (take (m + 1) tokens) → ⊥) → n ≤ m
-  not_above tokens m n before refused = elim (at_or_above m n) [ inl more ↦ absurd (refused (begins_less 0 (m + 1) n tokens (omega arith) before)) | inr less ↦ less ]
+  not_above tokens m n before refused = elim (cases_lt m n) [ inl more ↦ absurd (refused (begins_less 0 (m + 1) n tokens (omega arith) before)) | inr less ↦ less ]
 
   unexpected_below : (tokens : List Token) (m n : ℕ) → IsUnexpected text tokens m → UnitBegins 0 text (take n tokens) → n ≤ length tokens → n ≤ m
   unexpected_below tokens m n a before within = elim (at_or_below m (length tokens) a.within) [ inl few ↦ not_above tokens m n before (a.refused few 0) | inr all ↦ omega arith ]

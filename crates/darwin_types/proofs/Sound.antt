@@ -2,7 +2,7 @@
 use Rattle.std.proofs.Common.{◌≡◌, Bool, true, false, not, ◌&&◌, ◌==◌, cond, List, [], ◌∷◌, ◌++◌, map, length, Option, Some, None, option_map, is_some, is_none, bytes_eq, refl, ap, sym, subst, ◌∙◌, inl, inr, unwrap_or}
 use Rattle.std.specs.List.{Contains, flat_map, filter}
 use Rattle.std.specs.Option.{option_map_or, option_or}
-use Rattle.std.proofs.lemmas.Bool.{false≢true, true≢false, eqb-false}
+use Rattle.std.proofs.lemmas.Bool.{false≢true, true≢false, eqb-false, not-false}
 use Rattle.std.proofs.lemmas.List.Elements.{Contains-append_left, Contains-append_right, Contains-append_cases}
 use Rattle.std.proofs.lemmas.Map.Views.{Contains-from_lookup}
 use Rattle.darwin_lexer.specs.declared.token.At.{At}
@@ -24,7 +24,7 @@ use Rattle.darwin_types.proofs.Found.{from_unless}
 use Rattle.base.proofs.BytesLaws.{bytes_eq_self, different_bytes, is_some-lookup_from, same_bytes}
 use Rattle.base.proofs.ContainsLaws.{Contains-flat_map, Contains-from_filter, Contains-from_flat_map, Contains-from_map, Contains-here, Contains-map, Contains-nil, Contains-one}
 use Rattle.base.proofs.FindLaws.{find-some, is_some-find_from}
-use Rattle.base.proofs.OptionLaws.{None-from_is_none, None-from_is_some, true_from_not}
+use Rattle.base.proofs.OptionLaws.{None-from_is_none, None-from_is_some}
 
 -- names that stand twice
 repeated_from : (g : Name → TypeError) (names : List Name) (e : TypeError) → Contains (repeat_faults g names) e → (x : Name) × (is_repeated names x ≡ true) × (e ≡ g x)
@@ -42,7 +42,7 @@ module _ (t : Tree) (c : Component) where
   variable_sound : (scope : List Name) (x : Name) (e : TypeError) → Contains (name_uses c) (variable scope x) → Contains (variable_faults c scope x) e → FaultIn t c e
   variable_sound scope x e there h =
       let u = from_unless (not (has scope x)) (TwoNames c.name x) e h in
-      subst (FaultIn t c) (sym u.1) (two_values scope x there (true_from_not (has scope x) u.0))
+      subst (FaultIn t c) (sym u.1) (two_values scope x there (not-false (has scope x) u.0))
 
   -- of what an entry makes, whose component is o
   call_of : (d : InstEntry) (m : Instantiation) (o : Option Component) (e : TypeError) → Contains (entries_of c.body) d → made_by c d ≡ Some m → Contains (instances_of c) (m.name, m.component) → component_named t m.component ≡ o → Contains (option_map_or (λ wanted. unless (length m.args == wanted) (ArgCount c.name m.name (carried wanted) (carried (length m.args)))) (option_map (λ k. length k.params) o) (UnknownComponent c.name m.component ∷ [])) e → FaultIn t c e
@@ -122,7 +122,7 @@ module _ (t : Tree) (c : Component) where
       subst (FaultIn t c) (sym (Contains-one (UnknownName c.name x) e h)) (unknown_instance r x there inner found)
   inner_of r x (Some k) e there inner found h =
       let u = from_unless (not (lacks_port t k r.port)) (UnknownName c.name r.port) e h in
-      subst (FaultIn t c) (sym u.1) (lacking r x k (component_named t k) there inner found refl (true_from_not (lacks_port t k r.port) u.0))
+      subst (FaultIn t c) (sym u.1) (lacking r x k (component_named t k) there inner found refl (not-false (lacks_port t k r.port) u.0))
 
   end_of : (r : PortRef) (o : Option Name) (e : TypeError) → Contains (name_uses c) (binding_end r) → r.inst ≡ o → Contains (option_map_or (λ x. inner_end_faults t c x r.port) o (outer_end_faults c r.port)) e → FaultIn t c e
   end_of r None e there at h = outer_sound r e there at h

@@ -5,6 +5,7 @@ use Rattle.std.specs.Map.{lookup}
 use Rattle.std.proofs.lemmas.List.Folds.{find-append}
 use Rattle.std.proofs.lemmas.List.Elements.{All-head, All-tail}
 use Rattle.std.proofs.lemmas.Slice.Eq.{bytes_eq-Decides}
+use Rattle.std.specs.Cmp.{both_ways}
 use Rattle.darwin_parser.specs.Tree.{Name, array_of}
 use Rattle.darwin_walk.specs.Value.{Env, value_of_name}
 use Rattle.darwin_walk.specs.Spine.{env_of}
@@ -14,14 +15,9 @@ use Rattle.darwin_walk.specs.declared.valuing.Variable as code
 use Rattle.darwin_walk.specs.declared.scope.Array.{Array}
 use Rattle.darwin_walk.specs.declared.scope.Scope.{Scope}
 
-same_truth : (a b : Bool) → (a ≡ true → b ≡ true) → (b ≡ true → a ≡ true) → a ≡ b
-same_truth true b h k = sym (h refl)
-same_truth false true h k = k refl
-same_truth false false h k = refl
-
 bytes_eq-sym : (a b : Name) → bytes_eq a b ≡ bytes_eq b a
 bytes_eq-sym a b =
-    same_truth _ _ (λ h. (bytes_eq-Decides b a).1 (sym ((bytes_eq-Decides a b).0 h)))
+    both_ways _ _ (λ h. (bytes_eq-Decides b a).1 (sym ((bytes_eq-Decides a b).0 h)))
     (λ h. (bytes_eq-Decides a b).1 (sym ((bytes_eq-Decides b a).0 h)))
 
 later : {A : Type 0} (o p : Option A) (b : Bool) (x : A) → option_or (option_or o (cond b (Some x) None)) p ≡ option_or o (cond b (Some x) p)

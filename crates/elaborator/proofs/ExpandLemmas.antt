@@ -3,7 +3,7 @@ use Rattle.std.proofs.Common.{◌≡◌, ◌∙◌, inl, inr, ℕ, zero, suc, �
 use Rattle.std.specs.List.{Contains, slice_get}
 use Rattle.std.proofs.Math.Seq.{map-set_same}
 use Rattle.std.proofs.lemmas.Bool.{false≢true}
-use Rattle.std.proofs.lemmas.Option.{none-some, same_Some, get_or_from_slice_get}
+use Rattle.std.proofs.lemmas.Option.{none-some, same_Some, get_or_from_slice_get, slice_get_within}
 use Rattle.std.proofs.lemmas.List.{length-map, map-append}
 use Rattle.std.proofs.lemmas.List.Elements.{All-head, All-tail, Contains-append_left}
 use Rattle.base.specs.Answers.{Answers}
@@ -37,7 +37,7 @@ use Rattle.elaborator.proofs.TwiceLaws.{twice_at, twice_before, twice_places}
 use Rattle.elaborator.proofs.GrowthLemmas.{AreApart, earlier_or_same, grown-top, grown-open, grown-sound, grown-complete, grown-distinct, once-made}
 use Rattle.elaborator.proofs.SpreadLemmas.{total-within, spread-top, spread-open, front-above, depth-next}
 use Rattle.base.proofs.ContainsLaws.{Contains-at, Contains-from_map, Contains-map, at_some_place}
-use Rattle.base.proofs.PlaceLaws.{one_at, slice_get-append_cases, slice_get-before, slice_get-behind, slice_get-below, slice_get-map_at, slice_get-map_some, slice_get-set_cases, slice_get-set_other, slice_get-set_same}
+use Rattle.base.proofs.PlaceLaws.{one_at, slice_get-append_cases, slice_get-before, slice_get-behind, slice_get-map_at, slice_get-map_some, slice_get-set_cases, slice_get-set_other, slice_get-set_same}
 
 -- ---- faults
 
@@ -68,7 +68,7 @@ pub clash-fault :
     → map made_of all ≡ made ++ map (made_by k) (made_in tree y.instance) → IsClash all (length made) path → GrowthFault tree top (error.TwoInstances path)
 clash-fault tree top made k y all path grown shallow apart at paths is clash =
     elim (slice_get-append_cases made more clash.second (made_of clash.other) (in_all clash.second clash.other clash.other_at)) [
-      | inl early ↦ absurd (omega (arith, clash.later, slice_get-below made clash.second _ early))
+      | inl early ↦ absurd (omega (arith, clash.later, slice_get_within made clash.second _ early))
       | inr second ↦
           let other = slice_get-map_some (made_by k) (made_in tree y.instance) second.0 (made_of clash.other) second.2 in
           let other_path : other.0.path ≡ path = ap (λ (z : NumberedInstance). z.instance.path) other.2 ∙ clash.other_path in
@@ -129,7 +129,7 @@ whole-expanded top g growth shallow top_named composite all =
     }
   where
     within : (n : ℕ) (x : NumberedInstance) → slice_get (map made_of g.expansion.instances.items) n ≡ Some x → n < g.opened
-    within n x at = omega (arith, all, slice_get-below _ n x at, length-map g.expansion.instances.items made_of)
+    within n x at = omega (arith, all, slice_get_within _ n x at, length-map g.expansion.instances.items made_of)
 
     distinct : (m n : ℕ) (x y : NumberedInstance) → slice_get (map made_of g.expansion.instances.items) m ≡ Some x → slice_get (map made_of g.expansion.instances.items) n ≡ Some y → x.instance.path ≡ y.instance.path → x.instance.depth ≡ y.instance.depth → m ≡ n
     distinct = grown-distinct (tree_of g.expansion.directory.unit.now) top (map made_of g.expansion.instances.items) g.opened growth.grown shallow (apart-mapped g.expansion growth.mapped)
@@ -167,7 +167,7 @@ standing top g growth all i inst =
     let made = map made_of g.expansion.instances.items in
     let number : g.opened ≡ length made = all ∙ sym (length-map g.expansion.instances.items made_of) in
     let w = grown-complete (tree_of g.expansion.directory.unit.now) top made (subst (IsGrown (tree_of g.expansion.directory.unit.now) top made) number growth.grown) i inst in
-    (w.0, w.1, omega (arith, number, slice_get-below made w.0 w.1 w.2), w.2, w.3)
+    (w.0, w.1, omega (arith, number, slice_get_within made w.0 w.1 w.2), w.2, w.3)
 
 is_opened :
     (top : Instance) (g : Growth) → IsGrowth top g → g.opened ≡ length g.expansion.instances.items → (i : Instance) → Inst (tree_of g.expansion.directory.unit.now) top i
@@ -225,8 +225,8 @@ whole-kept top g growth shallow named composite all =
       is_expanded = whole-expanded top g growth shallow named composite all;
       few = omega (arith, growth.few);
       primitive = λ n i at. growth.told n i at;
-      bindings = λ n i at. (growth.shown n i (omega (arith, all, slice_get-below _ n i at)) at).bindings;
-      sizes = λ n i at. (growth.shown n i (omega (arith, all, slice_get-below _ n i at)) at).sizes;
+      bindings = λ n i at. (growth.shown n i (omega (arith, all, slice_get_within _ n i at)) at).bindings;
+      sizes = λ n i at. (growth.shown n i (omega (arith, all, slice_get_within _ n i at)) at).sizes;
       mapped = growth.mapped;
       top = λ i at. ap (λ (z : NumberedInstance). z.maker) (sym (one_at _ 0 _ _ growth.grown.first (slice_get-map_at made_of g.expansion.instances.items 0 i at)));
     }
@@ -388,7 +388,7 @@ noted_made k (j ∷ js) noted =
     ∙ ap (λ is. made_by k (instance_in j) ∷ is) (noted_made k js (All-tail (IsNoted (Some k)) j js noted))
 
 noted_at : (maker : Option ℕ) (js : List code.Instance) (a : ℕ) (j : code.Instance) → All (IsNoted maker) js → slice_get js a ≡ Some j → IsNoted maker j
-noted_at maker js a j noted at = subst (IsNoted maker) (get_or_from_slice_get js a j j at) (noted a j (slice_get-below js a j at))
+noted_at maker js a j noted at = subst (IsNoted maker) (get_or_from_slice_get js a j j at) (noted a j (slice_get_within js a j at))
 
 -- the instance with its bindings in the place of the one that was read, and behind all those that it makes
 pub all_made :
@@ -441,7 +441,7 @@ module _ (top : Instance) (g new : Growth) (x y : code.Instance) (f : Found) (s 
   next = instance_in x
 
   within : g.opened < length items
-  within = slice_get-below items g.opened x s.at
+  within = slice_get_within items g.opened x s.at
 
   lengths : length new.expansion.instances.items ≡ length items + length f.made.items
   lengths = omega (arith, ap length s.grown, length-append (set items g.opened y) f.made.items, length-set items g.opened y)

@@ -1,7 +1,7 @@
 -- The instances as they are made: what holds of them goes on to hold when one more is opened.
 use Rattle.std.proofs.Common.{◌≡◌, ◌∙◌, ◌⊎◌, inl, inr, ℕ, zero, suc, ◌+◌, ◌<◌, List, [], ◌∷◌, ◌++◌, length, map, Some, None, refl, sym, ap, subst, arith}
 use Rattle.std.specs.List.{Contains, slice_get}
-use Rattle.std.proofs.lemmas.Option.{none-some, same_Some}
+use Rattle.std.proofs.lemmas.Option.{none-some, same_Some, slice_get_within}
 use Rattle.darwin_parser.specs.Tree.{Tree}
 use Rattle.elaborator.specs.Paths.{Path}
 use Rattle.elaborator.specs.Instances.{Instance, made_in, paths_in, Inst}
@@ -12,7 +12,7 @@ use Rattle.elaborator.specs.Growth.{made_by, IsWalkedClean, IsGrown}
 use Rattle.elaborator.proofs.ChildLaws.{depth-made}
 use Rattle.elaborator.proofs.TwiceLaws.{twice_places}
 use Rattle.base.proofs.ContainsLaws.{Contains-at, at_some_place}
-use Rattle.base.proofs.PlaceLaws.{one_at, slice_get-append_cases, slice_get-before, slice_get-behind, slice_get-below, slice_get-front, slice_get-map_at, slice_get-map_some}
+use Rattle.base.proofs.PlaceLaws.{one_at, slice_get-append_cases, slice_get-before, slice_get-behind, slice_get-front, slice_get-map_at, slice_get-map_some}
 
 -- a place before the one at hand, or that one
 pub earlier_or_same : (m k : ℕ) → m < k + 1 → (m < k) ⊎ (m ≡ k)
@@ -40,7 +40,7 @@ grown-open tree top made k y grown at opened =
                   k,
                   y,
                   ap (λ (z : NumberedInstance). z.maker) (sym w.2),
-                  omega (arith, behind.1, slice_get-below made k y at),
+                  omega (arith, behind.1, slice_get_within made k y at),
                   omega arith,
                   slice_get-front made more k y at,
                   subst (λ j. Contains (made_in tree y.instance) j) (ap (λ (z : NumberedInstance). z.instance) w.2) (Contains-at _ behind.0 w.0 w.1),
@@ -67,7 +67,7 @@ grown-open tree top made k y grown at opened =
     more = map (made_by k) (made_in tree y.instance)
 
     in_front : (m : ℕ) (z : NumberedInstance) → m < k → slice_get (made ++ map (made_by k) (made_in tree y.instance)) m ≡ Some z → slice_get made m ≡ Some z
-    in_front m z before there = slice_get-before made _ m z (omega (arith, before, slice_get-below made k y at)) there
+    in_front m z before there = slice_get-before made _ m z (omega (arith, before, slice_get_within made k y at)) there
 
 pub grown-top : (tree : Tree) (top : Instance) → IsGrown tree top (record { instance = top; maker = None } ∷ []) 0
 grown-top tree top =
@@ -97,7 +97,7 @@ pub grown-complete :
 grown-complete tree top made grown _ at_top = (0, _, grown.first, refl)
 grown-complete tree top made grown _ (below i j inst has) =
     let w = grown-complete tree top made grown i inst in
-    let b = grown.below w.0 w.1 j (slice_get-below made w.0 w.1 w.2) w.2 (subst (λ z. Contains (made_in tree z) j) (sym w.3) has) in
+    let b = grown.below w.0 w.1 j (slice_get_within made w.0 w.1 w.2) w.2 (subst (λ z. Contains (made_in tree z) j) (sym w.3) has) in
     (b.0, made_by w.0 j, b.1, refl)
 
 -- ---- numbers are told by paths and depths

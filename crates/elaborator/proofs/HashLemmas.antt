@@ -4,8 +4,8 @@ use Rattle.std.specs.List.{slice_get}
 use Rattle.std.specs.Map.{lookup}
 use Rattle.std.specs.Option.{option_map_or}
 use Rattle.std.proofs.lemmas.Bool.{cases_Bool, false≢true, eqb-true, eq-eqb}
-use Rattle.std.proofs.lemmas.Option.{none-some, same_Some}
-use Rattle.base.proofs.PlaceLaws.{slice_get-below, slice_get-front, slice_get-last, slice_get-push_cases}
+use Rattle.std.proofs.lemmas.Option.{none-some, same_Some, slice_get_within}
+use Rattle.base.proofs.PlaceLaws.{slice_get-front, slice_get-last, slice_get-push_cases}
 use Rattle.elaborator.specs.Paths.{Path}
 use Rattle.elaborator.specs.PathNumbers.{path_hash, last_of, LeadsTo, Falls, IsHashed, IsEntered, IsStart}
 use Rattle.elaborator.specs.PathNumbers.LeadsTo.{here, back}
@@ -56,7 +56,7 @@ hashed-top paths index alone unled empty =
       has_top = omega (arith, alone);
       falls = λ m k at. absurd (leads_nowhere m k (ap (λ b. slice_get b m) (sym unled) ∙ at));
       starts = λ h n is. absurd (none-some n (sym (nothing h) ∙ is));
-      leads = λ n path positive at. absurd (omega (arith, positive, alone, slice_get-below paths n path at));
+      leads = λ n path positive at. absurd (omega (arith, positive, alone, slice_get_within paths n path at));
     }
   where
     nothing : (h : ℕ) → last_of index h ≡ None

@@ -3,14 +3,14 @@ use Rattle.std.proofs.Common.{◌≡◌, ◌≢◌, ◌∙◌, inl, inr, ℕ, �
 use Rattle.std.specs.List.{slice_get}
 use Rattle.std.proofs.Math.Seq.{map-set_same}
 use Rattle.std.proofs.lemmas.List.{map-append}
-use Rattle.std.proofs.lemmas.Option.{get_or_from_slice_get}
+use Rattle.std.proofs.lemmas.Option.{get_or_from_slice_get, slice_get_within}
 use Rattle.elaborator.specs.Paths.{Path}
 use Rattle.elaborator.specs.PathNumbers.{path_hash, last_of, LeadsTo, IsHashed, IsEntered, AreDistinct}
 use Rattle.elaborator.specs.Expansion.{paths_of, IsMapped}
 use Rattle.elaborator.specs.Growth.{IsExtended, IsClash}
 use Rattle.elaborator.specs.declared.instance.Instance as code
 use Rattle.elaborator.specs.declared.instance.Expansion.{Expansion}
-use Rattle.base.proofs.PlaceLaws.{slice_get-below, slice_get-front, slice_get-last, slice_get-map_some, slice_get-push_cases}
+use Rattle.base.proofs.PlaceLaws.{slice_get-front, slice_get-last, slice_get-map_some, slice_get-push_cases}
 use Rattle.elaborator.proofs.HashLemmas.{hashed-add, none-there}
 
 distinct-add : (paths : List Path) (path : Path) → AreDistinct paths → ((n : ℕ) → 0 < n → slice_get paths n ≢ Some path) → AreDistinct (paths ++ path ∷ [])
@@ -69,7 +69,7 @@ clash-add e x n positive found =
       one = w.0;
       other = x;
       made = positive;
-      in_order = slice_get-below e.instances.items n w.0 w.1;
+      in_order = slice_get_within e.instances.items n w.0 w.1;
       later = omega arith;
       one_at = slice_get-front e.instances.items (x ∷ []) n w.0 w.1;
       other_at = slice_get-last e.instances.items x;

@@ -6,7 +6,7 @@ use Rattle.std.specs.Str.{bytes_eq}
 use Rattle.std.specs.Fmt.{decimal, digits, digits_onto, digit_glyph, signed_decimal}
 use Rattle.std.specs.Char.{is_ascii_digit}
 use Rattle.std.proofs.Math.Nat.{mod-lt}
-use Rattle.std.proofs.lemmas.Bool.{cond-true, false≢true, lt-ltb}
+use Rattle.std.proofs.lemmas.Bool.{cond-true, false≢true, lt-ltb, or_right}
 use Rattle.std.proofs.lemmas.Bool.Decides.{nat_tests}
 use Rattle.std.proofs.lemmas.Option.{slice_get-get_or}
 use Rattle.std.proofs.lemmas.List.Elements.{All-append, All-cons}
@@ -59,15 +59,11 @@ onto b bytes here later = All-cons (λ b. is_path_byte b ≡ true) b bytes here 
 no_bytes : IsPathText []
 no_bytes k d low = absurd (omega arith)
 
-second_holds : (a b : Bool) → b ≡ true → (a || b) ≡ true
-second_holds true b is = refl
-second_holds false b is = is
-
 digit_byte : (d : ℕ) → d < 10 → is_path_byte (digit_glyph false d) ≡ true
 digit_byte d low =
     let digit : is_ascii_digit (48 + d) ≡ true = grind (arith, nat_tests) in
     let glyph : digit_glyph false d ≡ 48 + d = cond-true _ _ _ (lt-ltb d 10 low) in
-    subst (λ b. is_path_byte b ≡ true) (sym glyph) (name_byte (48 + d) (second_holds (begins_name (48 + d)) (is_ascii_digit (48 + d)) digit))
+    subst (λ b. is_path_byte b ≡ true) (sym glyph) (name_byte (48 + d) (or_right (begins_name (48 + d)) (is_ascii_digit (48 + d)) digit))
 
 digits_are : (k n : ℕ) (rest : List ℕ) → IsPathText rest → IsPathText (digits_onto k 10 false n rest)
 digits_are zero n rest all = all

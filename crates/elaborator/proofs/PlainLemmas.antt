@@ -4,6 +4,7 @@ use Rattle.std.specs.List.{Contains, list_all, slice_get}
 use Rattle.std.specs.Option.{is_none}
 use Rattle.std.proofs.lemmas.Bool.{false≢true}
 use Rattle.std.proofs.lemmas.Option.{none-some, same_Some}
+use Rattle.std.specs.Cmp.{first_so, second_so}
 use Rattle.config_graph.specs.declared.kind.Kind.{Kind}
 use Rattle.config_graph.specs.Kinds.{kind_named}
 use Rattle.darwin_parser.specs.declared.tree.Side.TheVariants.{Provide, Require}
@@ -17,18 +18,10 @@ use Rattle.base.proofs.FindLaws.{Contains-find}
 use Rattle.elaborator.specs.Instances.{Instance}
 use Rattle.elaborator.specs.Expansion.{AreSizes}
 
-first_true : (a b : Bool) → (a && b) ≡ true → a ≡ true
-first_true true b is = refl
-first_true false b is = absurd (false≢true is)
-
-second_true : (a b : Bool) → (a && b) ≡ true → b ≡ true
-second_true true b is = is
-second_true false b is = absurd (false≢true is)
-
 all_at : {A : Type 0} (p : A → Bool) (xs : List A) (k : ℕ) (x : A) → list_all p xs ≡ true → slice_get xs k ≡ Some x → p x ≡ true
 all_at p [] k x all at = absurd (none-some x at)
-all_at p (y ∷ ys) zero x all at = subst (λ z. p z ≡ true) (same_Some y x at) (first_true (p y) (list_all p ys) all)
-all_at p (y ∷ ys) (suc k) x all at = all_at p ys k x (second_true (p y) (list_all p ys) all) at
+all_at p (y ∷ ys) zero x all at = subst (λ z. p z ≡ true) (same_Some y x at) (first_so (p y) (list_all p ys) all)
+all_at p (y ∷ ys) (suc k) x all at = all_at p ys k x (second_so (p y) (list_all p ys) all) at
 
 is_none-None : (o : Option Expr) → is_none o ≡ true → o ≡ None
 is_none-None None is = refl
@@ -40,11 +33,11 @@ plain_port tree no_fault c declared primitive k d at = by_kind (kind_named c.nam
     by_test : (kind : Kind) (b : Bool) → kind_named c.name ≡ Some kind → is_like_kind kind c ≡ b → d.size ≡ None
     by_test kind false named unlike = absurd (no_fault _ (types.within c _ declared (kind_ports kind primitive named unlike)))
     by_test kind true named like =
-        let ports = second_true (is_bare kind c) (has_ports_of kind c) like in
+        let ports = second_so (is_bare kind c) (has_ports_of kind c) like in
         let only =
-        first_true (has_only_ports_of kind c) (has_ports_on Provide kind c)
-        (first_true (has_only_ports_of kind c && has_ports_on Provide kind c) (has_ports_on Require kind c) ports) in
-        is_none-None d.size (first_true (is_none d.size) (has (ports_of_kind kind d.side) d.name) (all_at (is_port_of kind) c.ports k d only at))
+        first_so (has_only_ports_of kind c) (has_ports_on Provide kind c)
+        (first_so (has_only_ports_of kind c && has_ports_on Provide kind c) (has_ports_on Require kind c) ports) in
+        is_none-None d.size (first_so (is_none d.size) (has (ports_of_kind kind d.side) d.name) (all_at (is_port_of kind) c.ports k d only at))
 
     by_kind : (o : Option Kind) → kind_named c.name ≡ o → d.size ≡ None
     by_kind None named = absurd (no_fault _ (types.within c _ declared (unknown_kind primitive named)))

@@ -25,6 +25,7 @@ use Rattle.elaborator.specs.declared.instance.Instance as code_instance
 use Rattle.elaborator.specs.declared.instance.Expansion.{Expansion}
 use Rattle.base.proofs.FindLaws.{find-at_position, find-no_position}
 use Rattle.base.proofs.MapLaws.{position-map}
+use Rattle.base.proofs.OptionLaws.{is_some-map}
 
 -- the instance of a number that is within
 pub instance_numbered : (e : Expanded) (n : ℕ) → n < length e.made → (i : Instance) × Numbered e n i
@@ -73,10 +74,6 @@ pub place_found :
     → place_of name (map port_of xs) ≡ r
 place_found name bytes xs ys r is same_name same_list =
     position-map (λ p. bytes_eq name p.name) port_of xs ∙ subst (λ b. position (λ p. bytes_eq b p.name) xs ≡ r) same_name (subst (λ zs. position (λ p. bytes_eq bytes p.name) zs ≡ r) same_list (sym is))
-
-is_some-map : {A B : Type 0} (f : A → B) (o : Option A) → is_some (option_map f o) ≡ is_some o
-is_some-map f None = refl
-is_some-map f (Some x) = refl
 
 -- what the code found is what the end names
 pub named_found :

@@ -6,13 +6,13 @@ use Rattle.std.proofs.lemmas.Option.{none-some, same_Some}
 use Rattle.std.proofs.lemmas.Grind.{flat_map-append}
 use Rattle.std.proofs.lemmas.List.Sums.{sum_by-append, sum_by-cons}
 use Rattle.std.proofs.lemmas.List.Elements.{Contains-append_left, Contains-append_right}
+use Rattle.std.proofs.lemmas.List.{nil_from_length}
 use Rattle.darwin_parser.specs.Tree.{Tree}
 use Rattle.darwin_walk.specs.Instance.{Child, children}
 use Rattle.elaborator.specs.Instances.{Instance, instance_of, is_expanded, children_in, made_in, levels, instances, count_in, total}
 use Rattle.elaborator.specs.Growth.{IsSpread}
 use Rattle.elaborator.proofs.ChildLaws.{depth-made}
 use Rattle.base.proofs.ContainsLaws.{Contains-at, Contains-from_filter_map, Contains-from_flat_map, Contains-here, Contains-nil, Contains-one}
-use Rattle.base.proofs.MapLaws.{no_length}
 use Rattle.base.proofs.PlaceLaws.{slice_get-after}
 
 -- ---- levels
@@ -187,8 +187,8 @@ total-within tree top made room s =
       length-append (s.before ++ s.done) s.left,
       length-append s.before s.done,
     ) in
-    let no_left : s.left ≡ [] = no_length s.left (omega (arith, lengths, s.opened_is)) in
-    let no_next : next ≡ [] = no_length next (omega (arith, lengths, s.opened_is)) in
+    let no_left : s.left ≡ [] = nil_from_length s.left (omega (arith, lengths, s.opened_is)) in
+    let no_next : next ≡ [] = nil_from_length next (omega (arith, lengths, s.opened_is)) in
     let all : instances tree top ≡ s.before ++ s.done =
     s.all ∙ ap (λ ls. s.before ++ levels tree s.deeper (s.done ++ ls)) no_left ∙ ap (λ ls. s.before ++ levels tree s.deeper ls) (append-nil s.done)
     ∙ ap (λ js. s.before ++ js) (levels-last tree s.deeper s.done no_next) in

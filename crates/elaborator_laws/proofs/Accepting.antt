@@ -1,5 +1,5 @@
 -- A description in another order shows no fault of its elaboration that the first doesn't show.
-use Rattle.std.proofs.Common.{◌≡◌, ◌∙◌, ℕ, ◌<◌, ℤ, Bool, true, false, List, [], ◌∷◌, length, map, Option, Some, None, refl, ap, sym, subst, arith}
+use Rattle.std.proofs.Common.{◌≡◌, ◌∙◌, ℕ, ◌<◌, ℤ, Bool, true, false, List, length, map, Option, Some, None, refl, ap, sym, subst}
 use Rattle.std.specs.List.{Contains}
 use Rattle.std.specs.Str.{bytes_eq}
 use Rattle.std.proofs.lemmas.Option.{none-some, same_Some}
@@ -29,6 +29,7 @@ use Rattle.elaborator_laws.proofs.Twices.{contains-same, twice-same}
 use Rattle.base.proofs.ContainsLaws.{Contains-flat_map, Contains-from_filter_map, Contains-from_flat_map}
 use Rattle.base.proofs.FindLaws.{find-some}
 use Rattle.base.proofs.OptionLaws.{made_of_two}
+use Rattle.base.proofs.MapLaws.{none_mapped}
 
 -- ---- what both have
 
@@ -39,10 +40,6 @@ both-none R _ _ (both_there x y same) is = absurd (none-some y (sym is))
 pub both-some : {A B : Type 0} (R : A → B → Type 0) (a : Option A) (b : Option B) (y : B) → Both R a b → b ≡ Some y → (x : A) × (a ≡ Some x) × R x y
 both-some R _ _ y neither is = absurd (none-some y is)
 both-some R _ _ y (both_there x z same) is = (x, refl, subst (R x) (same_Some z y is) same)
-
-no_elements_mapped : {A B : Type 0} (f : A → B) (xs : List A) → map f xs ≡ [] → xs ≡ []
-no_elements_mapped f [] is = refl
-no_elements_mapped f (x ∷ xs) is = absurd (omega (arith, ap length is))
 
 -- ---- an instance is told by what is the same of it
 
@@ -194,7 +191,7 @@ no_fault_back t u name arguments trees lawful _ (bad_binding i' b' m there none)
     let b = bindings_in-like i' i.0 (same_instance-sym i.0 i' i.2) b' there in
     let ends : SameBound b.0 b' = record { left = sym b.2.left; right = sym b.2.right } in
     lawful _ (bad_binding i.0 b.0 (record { top = s.0; is_top = s.1; inst = i.1 }) b.1
-    (no_elements_mapped ports_of (pair_of t i.0 b.0) (pairs-same t u s.0 m.top s.2 i.0 i' i.1 i.2 b.0 b' ends ∙ ap (map ports_of) none)))
+    (none_mapped ports_of (pair_of t i.0 b.0) (pairs-same t u s.0 m.top s.2 i.0 i' i.1 i.2 b.0 b' ends ∙ ap (map ports_of) none)))
 no_fault_back t u name arguments trees lawful _ (annotation i' b' m there notes) =
     let s = settled t u name arguments trees lawful m.top m.is_top in
     let i = inst-back t u s.0 m.top s.2 i' m.inst in

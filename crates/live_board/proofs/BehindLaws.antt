@@ -4,8 +4,8 @@ use Rattle.std.specs.Prelude.{slice_get, nat_lt, ◌≢◌}
 use Rattle.std.specs.Option.{option_map_or}
 use Rattle.std.proofs.lemmas.Bool.{cases_eq, cases_lt, ltb-false, ltb-true}
 use Rattle.std.proofs.lemmas.List.{length-set}
-use Rattle.std.proofs.lemmas.Option.{same_Some}
-use Rattle.base.proofs.PlaceLaws.{slice_get-below, slice_get-set_cases, slice_get-set_other, slice_get-set_same, slice_get-snoc}
+use Rattle.std.proofs.lemmas.Option.{same_Some, slice_get_within}
+use Rattle.base.proofs.PlaceLaws.{slice_get-set_cases, slice_get-set_other, slice_get-set_same, slice_get-snoc}
 use Rattle.config_graph.specs.declared.node.Node.{Node}
 use Rattle.quiesce_core.specs.Effect.{change_next, with_gate, with_node, with_removed}
 use Rattle.quiesce_core.specs.State.{Configuration, slot}
@@ -65,7 +65,7 @@ removed_keeps c n = record { count = counted (slot c n); was = λ i m at. was (s
     still (Some x) there i m at = ⊎_elim
         (λ (same : i ≡ n). (
           record x { live = false },
-          ap (slice_get (set c.slots n (record x { live = false }))) same ∙ slice_get-set_same c.slots n (record x { live = false }) (slice_get-below c.slots n x there),
+          ap (slice_get (set c.slots n (record x { live = false }))) same ∙ slice_get-set_same c.slots n (record x { live = false }) (slice_get_within c.slots n x there),
           ap (λ (y : Slot). y.from) (same_Some x m (sym there ∙ ap (slot c) (sym same) ∙ at)),
         ))
         (λ (other : i ≢ n). (m, slice_get-set_other c.slots n (record x { live = false }) i other ∙ at, refl))

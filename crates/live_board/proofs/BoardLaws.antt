@@ -7,8 +7,8 @@ use Rattle.std.specs.List.{filter_map}
 use Rattle.std.proofs.lemmas.List.{append-nil}
 use Rattle.std.proofs.lemmas.List.Elements.{filter_map-append}
 use Rattle.std.proofs.lemmas.List.Sums.{fold_push}
+use Rattle.std.proofs.lemmas.Option.{slice_get_within}
 use Rattle.base.proofs.OptionLaws.{map_or_true}
-use Rattle.base.proofs.PlaceLaws.{slice_get-below}
 use Rattle.change_board.specs.Making.{Makes}
 use Rattle.change_board.specs.Steps.{HasRoomToMake}
 use Rattle.change_board.specs.Sights.{Sight, sight_entry}
@@ -56,7 +56,7 @@ config_made r e ss =
 pub removed_below : (r : List Entry) (n : ℕ) → IsRecord r → May r (Remove n) → n < MAX_NODES
 removed_below r n h may =
     let m = map_or_true (λ (x : Slot). x.live) (slot (config_of r) n) may.settled.live in
-    let below = slice_get-below (config_of r).slots n m.0 m.1 in
+    let below = slice_get_within (config_of r).slots n m.0 m.1 in
     omega (arith, below, few_now r h)
 
 -- a part of two that are the same

@@ -3,8 +3,9 @@ use Rattle.std.proofs.Common.{◌≡◌, ◌∙◌, ℕ, ◌+◌, ◌<◌, Bool,
 use Rattle.std.specs.Prelude.{slice_get, slice_index_or, find, filter, All}
 use Rattle.std.specs.List.{AllByRecursion, range_with_len}
 use Rattle.std.specs.Option.{option_map_or}
-use Rattle.std.proofs.lemmas.Option.{same_Some, slice_get-get_or}
-use Rattle.base.proofs.PlaceLaws.{slice_get-below, slice_get-map_at, slice_get-there}
+use Rattle.std.proofs.lemmas.Option.{same_Some, slice_get-get_or, slice_get_within}
+use Rattle.base.proofs.PlaceLaws.{slice_get-map_at, slice_get-there}
+use Rattle.base.proofs.RangeLaws.{number_at}
 use Rattle.change_board.specs.Collecting.{heir_of}
 use Rattle.change_spec.proofs.LowerLaws.{SourcesAreLower}
 use Rattle.change_spec.specs.Lawful.{EndsAs}
@@ -27,7 +28,7 @@ use Rattle.txn_spec.specs.declared.view.NodeView.{NodeView}
 use Rattle.live_board.proofs.ChainLemmas.{ended, line_has}
 use Rattle.live_board.proofs.HeirLemmas.{heir_is, live_end}
 use Rattle.live_board.proofs.PartLemmas.{Part, part_of}
-use Rattle.live_board.proofs.PlaceLemmas.{find_same, mapped_all, mapped_at, number_at}
+use Rattle.live_board.proofs.PlaceLemmas.{find_same, mapped_all, mapped_at}
 
 -- the log of a node of a line is the one that was taken in of its slot, and the one that stands in its place
 pub record IsLogged (nodes : List NodeView) (logs : List NodeLog) (x : LineSight) : Type 0 where
@@ -71,11 +72,11 @@ module _ (c : Configuration) (gone : SourcesAreGone c) (low : SourcesAreLower c)
       → AllByRecursion (λ (x : LineSight). slice_get taken x.slot ≡ Some x.log) xs
   within k from [] made all = tt
   within k from (x ∷ xs) made all =
-      let few = slice_get-below c.slots x.slot made.0.made made.0.there in
+      let few = slice_get_within c.slots x.slot made.0.made made.0.there in
       (mapped_at (log_in nodes) (length c.slots) x.slot few ∙ ap Some all.0.taken, within k (Some x.slot) xs made.1 all.1)
 
   took : (n j : ℕ) → length_at heirs n ≡ Some j → (m : Slot) × (slot c j ≡ Some m) × (m.from ≡ Some n) × (n < j) × (j < length c.slots)
-  took n j is = let t = h.took n j is in (t.0, t.1, t.2, low.lower j n t.0 t.1 t.2, slice_get-below c.slots j t.0 t.1)
+  took n j is = let t = h.took n j is in (t.0, t.1, t.2, low.lower j n t.0 t.1 t.2, slice_get_within c.slots j t.0 t.1)
 
   part : (n : ℕ) → n < length c.slots → (k : Kind) × Part c k (IsLogged nodes logs) None None n
   part n few =
@@ -94,7 +95,7 @@ module _ (c : Configuration) (gone : SourcesAreGone c) (low : SourcesAreLower c)
   pub events_are : map (λ (l : NodeLog). l.events) logs ≡ taken
   events_are =
       mapped_all (λ (l : NodeLog). l.events) (log_in nodes) logs (λ n l at.
-      let few = slice_get-below logs n l at in
+      let few = slice_get_within logs n l at in
       let p = part n (omega (arith, few, count)) in
       p.1.holds.shown l (ap (slice_get logs) p.1.is_last ∙ at) ∙ sym p.1.holds.taken ∙ ap (log_in nodes) p.1.is_last)
       ∙ ap (λ k. map (log_in nodes) (range_with_len 0 k)) count
@@ -103,7 +104,7 @@ module _ (c : Configuration) (gone : SourcesAreGone c) (low : SourcesAreLower c)
   log_ends_so n l at = by (length_at heirs n) refl
     where
       few : n < length c.slots
-      few = let below = slice_get-below logs n l at in omega (arith, below, count)
+      few = let below = slice_get_within logs n l at in omega (arith, below, count)
 
       by : (o : Option ℕ) → length_at heirs n ≡ o → EndsAs (F n) (heir_of c n) l.last
       by None is =

@@ -4,8 +4,9 @@ use Rattle.std.specs.Prelude.{slice_get, slice_set, ◌≢◌, ◌==◌}
 use Rattle.std.specs.List.{AllByRecursion}
 use Rattle.std.specs.Option.{option_map_or}
 use Rattle.std.proofs.lemmas.Bool.{cases_eq, eq-eqb, ne_eqb}
-use Rattle.std.proofs.lemmas.Option.{same_Some, slice_get-get_or, slice_get_past}
-use Rattle.base.proofs.PlaceLaws.{any_at, slice_get-below, slice_get-set_other, slice_get-set_same}
+use Rattle.std.proofs.lemmas.Option.{same_Some, slice_get-get_or, slice_get_past, slice_get_within}
+use Rattle.std.proofs.lemmas.Map.Keys.{any_passes_from_place}
+use Rattle.base.proofs.PlaceLaws.{slice_get-set_other, slice_get-set_same}
 use Rattle.live_board.specs.Collecting.{Grew, IsOf, IsShown, IsTakenIn, with_events}
 use Rattle.live_hall.specs.Sighting.{IsMadeIn}
 use Rattle.quiesce_core.specs.State.{Configuration}
@@ -86,7 +87,7 @@ module _ (c : Configuration) where
         by : (o : Option NodeLog) → slice_get logs v.slot ≡ o → slice_get (option_map_or (λ (x : NodeLog). slice_set logs v.slot (record x { events = v.log })) o logs) v.slot ≡ Some l → l.events ≡ v.log
         by None is there = none_some (sym is ∙ there)
         by (Some x) is there =
-            let own : record x { events = v.log } ≡ l = same_Some (record x { events = v.log }) l (sym (slice_get-set_same logs v.slot (record x { events = v.log }) (slice_get-below logs v.slot x is)) ∙ there) in
+            let own : record x { events = v.log } ≡ l = same_Some (record x { events = v.log }) l (sym (slice_get-set_same logs v.slot (record x { events = v.log }) (slice_get_within logs v.slot x is)) ∙ there) in
             ap (λ (y : NodeLog). y.events) (sym own)
 
     shown_now : IsShown (v ∷ nodes) now v.slot
@@ -113,7 +114,7 @@ module _ (c : Configuration) where
   shown_own nodes logs v own t =
       let u = t.shown in
       let mine = own_log nodes t.among.0 v own t.among.1 in
-      (mine, λ l at. u.log l at ∙ sym (own_log nodes u.among.0 u.node own u.among.1) ∙ ap (log_in nodes) u.slot_is ∙ mine, any_at (λ (w : NodeView). w.slot == v.slot) nodes t.among.0 v t.among.1 (eq-eqb v.slot v.slot refl))
+      (mine, λ l at. u.log l at ∙ sym (own_log nodes u.among.0 u.node own u.among.1) ∙ ap (log_in nodes) u.slot_is ∙ mine, any_passes_from_place (λ (w : NodeView). w.slot == v.slot) nodes t.among.0 v t.among.1 (eq-eqb v.slot v.slot refl))
 
 -- ---- as code does it
 

@@ -5,9 +5,10 @@ use Rattle.std.specs.List.{list_any}
 use Rattle.std.proofs.lemmas.Bool.{both_ways, cases_eq, eq-eqb, eqb-true}
 use Rattle.std.proofs.lemmas.List.Quantifiers.{position-Some}
 use Rattle.std.proofs.lemmas.Option.{same_Some, slice_get-get_or}
+use Rattle.std.proofs.lemmas.Map.Keys.{any_passes_from_place}
 use Rattle.base.proofs.FindLaws.{is_some-position}
 use Rattle.base.proofs.OptionLaws.{map_or_at, map_or_true}
-use Rattle.base.proofs.PlaceLaws.{any_at, slice_get-front, slice_get-last, slice_get-snoc}
+use Rattle.base.proofs.PlaceLaws.{slice_get-front, slice_get-last, slice_get-snoc}
 use Rattle.quiesce_core.specs.Sources.{SourcesAreGone}
 use Rattle.quiesce_core.specs.State.{Configuration, is_live, slot}
 use Rattle.quiesce_core.specs.declared.state.Slot.{Slot}
@@ -121,7 +122,7 @@ module _ (c : Configuration) (gone : SourcesAreGone c) (heirs : List (Option ℕ
       found_none : (n j : ℕ) (m : Slot) → slot c j ≡ Some m → m.from ≡ Some n → heir_of c n ≡ None → ⊥
       found_none n j m at is none_ =
           both_ways (list_any (took_over n) c.slots) (sym (is_some-position (took_over n) c.slots) ∙ ap is_some none_)
-          (any_at (took_over n) c.slots j m at (map_or_at (λ k. k == n) m.from false n is ∙ eq-eqb n n refl))
+          (any_passes_from_place (took_over n) c.slots j m at (map_or_at (λ k. k == n) m.from false n is ∙ eq-eqb n n refl))
 
       some : (n j : ℕ) (m : Slot) → slot c j ≡ Some m → m.from ≡ Some n → (o : Option ℕ) → heir_of c n ≡ o → Some j ≡ o
       some n j m at is None there = absurd (found_none n j m at is there)

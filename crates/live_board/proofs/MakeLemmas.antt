@@ -1,47 +1,39 @@
 -- What the rules of a make give to the node that is made.
-use Rattle.std.proofs.Common.{◌≡◌, ◌∙◌, ℕ, ◌+◌, ◌<◌, ◌≤◌, false, not, ◌&&◌, List, [], ◌∷◌, ◌++◌, length, map, Option, Some, None, refl, ap, sym, subst}
+use Rattle.std.proofs.Common.{◌≡◌, ◌∙◌, ℕ, ◌+◌, ◌<◌, ◌≤◌, false, not, ◌&&◌, List, [], ◌∷◌, ◌++◌, length, map, Option, Some, None, ap, sym, subst}
 use Rattle.std.specs.Prelude.{is_some, nat_le, nat_lt, ◌==◌}
-use Rattle.std.specs.List.{AllByRecursion, filter_map}
+use Rattle.std.specs.List.{AllByRecursion}
 use Rattle.std.specs.Option.{option_map_or}
 use Rattle.std.proofs.lemmas.Bool.{and_parts, leb-true, ltb-true, not-true}
 use Rattle.std.proofs.lemmas.Option.{same_Some}
 use Rattle.base.proofs.OptionLaws.{map_or_at, map_or_true, option_map_some}
 use Rattle.base.proofs.PlaceLaws.{slice_get-front}
-use Rattle.component_trait.specs.States.{NodeState, Service}
+use Rattle.component_trait.specs.States.{NodeState}
 use Rattle.config_graph.specs.Kinds.{row}
 use Rattle.config_graph.specs.declared.TheConstants.{MAX_NODES, MAX_PORTS}
 use Rattle.config_graph.specs.declared.kind.Kind.{Kind}
 use Rattle.config_graph.specs.declared.node.Node.{Node}
 use Rattle.live_hall.specs.Sighting.{IsMadeIn, sight_of}
+use Rattle.live_hall.proofs.PastLaws.{config_sights}
 use Rattle.live_board.specs.Behind.{HasBehind, IsShallow}
 use Rattle.live_board.proofs.BehindLaws.{AreBelow, shallow_made}
 use Rattle.live_board.proofs.BoardLaws.{below_now}
-use Rattle.live_board.proofs.QuietLaws.{quiet}
 use Rattle.node_gate.specs.Seats.{IsWithinLimits, NodeAt}
-use Rattle.node_host.specs.Hosted.{IsHosted, SeatSeen}
-use Rattle.node_host.specs.Lines.{LineNode}
-use Rattle.node_turn_laws.specs.Agreement.{ServicesAgree}
 use Rattle.quiesce_core.proofs.ArgumentLaws.{argument_fits, kinds_are_one}
-use Rattle.quiesce_core.proofs.KnownLaws.{service_of_log}
 use Rattle.quiesce_core.proofs.SourceLaws.{new_slot}
 use Rattle.quiesce_core.specs.Effect.{with_node}
-use Rattle.quiesce_core.specs.Knowledge.{OwnPort}
 use Rattle.quiesce_core.specs.Words.{slot_fields_of}
 use Rattle.quiesce_word.specs.declared.slot_word.SlotWord.{SlotWord}
 use Rattle.txn_spec.specs.declared.view.NodeView.{NodeView}
 use Rattle.txn_spec.specs.Views.{node_at}
 use Rattle.txn_records.proofs.EntryLaws.{config_did}
-use Rattle.txn_records.specs.Entries.{config_of, event_in}
+use Rattle.txn_records.specs.Entries.{config_of}
 use Rattle.txn_records.specs.Records.{IsRecord}
 use Rattle.txn_records.specs.declared.entry.Entry.TheVariants.{Did}
 use Rattle.txn_records.specs.declared.entry.Entry.{Entry}
 use Rattle.quiesce_core.specs.Legal.{CanMake}
 use Rattle.quiesce_core.specs.Rules.{has_its_argument, is_kind, is_path_taken, was_moved}
 use Rattle.quiesce_core.specs.State.{Configuration, slot}
-use Rattle.quiesce_core.specs.declared.event.Event.{Event}
 use Rattle.quiesce_core.specs.declared.event.Event.TheVariants.{Make}
-use Rattle.quiesce_core.specs.declared.known.Known.{Known}
-use Rattle.quiesce_core.specs.declared.known.Served.{Served}
 use Rattle.quiesce_core.specs.declared.state.Slot.{Slot}
 use Rattle.state_handover.specs.Making.{FitsKind}
 
@@ -82,17 +74,6 @@ source_from c n node k may =
     let both = and_parts (not found.0.live) (is_kind found.0.node.kind node.kind) found.2 in
     record { old = found.0; there = found.1; removed = not-true found.0.live both.0; kind_is = kinds_are_one found.0.node.kind node.kind both.1 }
 
--- ---- a node of which its seat knows no service is in none
-
-agree_none : (far : ℕ → OwnPort) (o : Option Service) (u : Option Served) → ServicesAgree far o u → u ≡ None → o ≡ None
-agree_none far None u h is = refl
-agree_none far (Some v) None h is = absurd h
-agree_none far (Some v) (Some u) h is = absurd (cc)
-
-pub rests_told : (slot first : ℕ) (t : NodeState) (log : List Event) (line : List LineNode) (known : Known) (waiting : List (Option ℕ)) (seat : SeatSeen) → IsHosted slot first t log line known waiting seat → seat.known.service ≡ None → t.service ≡ None
-rests_told slot first t log line known waiting seat h is =
-    agree_none _ t.service _ h.agrees.services (sym (ap (λ (w : Known). w.service) h.knows ∙ service_of_log first log) ∙ ap (λ (w : Known). w.service) h.kept ∙ is)
-
 -- ---- the node that is handed over, as the seat of its own and its line tell it
 
 pub last_of_all : {A : Type 0} (P : A → Type 0) (xs : List A) (y : A) → AllByRecursion P (xs ++ y ∷ []) → P y
@@ -110,13 +91,6 @@ source_told c node k v may slot_is made =
       made.unserving (map_or_at (λ (x : Slot). x.live) (slot d v.slot) false s.old there ∙ s.removed),
     )
 
-seen_quietly : (ns : List NodeView) → filter_map event_in (map sight_of ns) ≡ []
-seen_quietly [] = refl
-seen_quietly (n ∷ ns) = seen_quietly ns
-
-pub config_sighted : (r : List Entry) (ns : List NodeView) → config_of (r ++ map sight_of ns) ≡ config_of r
-config_sighted r ns = quiet r (map sight_of ns) (seen_quietly ns)
-
 pub source_guest : (r r1 : List Entry) (node : Node) (k : ℕ) (v : NodeView) (vs : List NodeView) (t : NodeState) (s first : ℕ) → CanMake (config_of r) (length (config_of r).slots) node (Some k)
     → r1 ≡ r ++ Did (Make (length (config_of r).slots) node (Some k)) ∷ [] → node_at v ≡ record { slot = s; kind = t.kind; first = first } → s ≡ k → AllByRecursion (IsMadeIn (config_of r1)) (vs ++ v ∷ [])
     → (t.kind ≡ node.kind) × (v.known.service ≡ None)
@@ -131,7 +105,7 @@ pub source_behind : (r r1 r2 : List Entry) (node : Node) (k sources lines count 
 source_behind r r1 r2 node k sources lines count ns grew saw known made may shallow behind =
     let d = with_node (config_of r) node (Some k) in
     let is : config_of r1 ≡ d = ap config_of grew ∙ config_did r (Make (length (config_of r).slots) node (Some k)) in
-    let low : AreBelow d = subst AreBelow (ap config_of saw ∙ config_sighted r1 ns ∙ is) (below_now r2 known) in
+    let low : AreBelow d = subst AreBelow (ap config_of saw ∙ config_sights r1 ns ∙ is) (below_now r2 known) in
     (shallow_made (config_of r) node (Some k) low sources lines made (λ j from. subst (λ i. i < sources) (some_is k j from) may) shallow k count (subst (λ e. HasBehind e k count) is behind)).1 may
   where
     some_is : (i j : ℕ) → Some i ≡ Some j → i ≡ j

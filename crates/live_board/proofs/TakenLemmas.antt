@@ -1,5 +1,5 @@
 -- Where as many logs are given as nodes were made, all were taken in.
-use Rattle.std.proofs.Common.{◌≡◌, ◌∙◌, ℕ, zero, suc, ◌+◌, ◌<◌, Bool, true, false, cond, List, [], ◌∷◌, length, map, refl, sym, ap, arith, zero-add}
+use Rattle.std.proofs.Common.{◌≡◌, ◌∙◌, ℕ, zero, suc, ◌+◌, ◌<◌, Bool, true, false, cond, List, [], length, map, refl, sym, ap, arith, zero-add}
 use Rattle.std.specs.List.{list_all, range_with_len}
 use Rattle.std.proofs.lemmas.Bool.{and_from, and_parts}
 use Rattle.live_board.specs.Boards.{BoardSeen, taken_in}
@@ -7,16 +7,13 @@ use Rattle.live_board.specs.Ended.{collected_logs}
 use Rattle.report_types.specs.declared.report.NodeLog.{NodeLog}
 use Rattle.txn_spec.specs.Views.{is_among}
 use Rattle.txn_records.specs.Entries.{config_of}
+use Rattle.base.proofs.MapLaws.{none_mapped}
 
 at_each : (p : ℕ → Bool) (a n i : ℕ) → list_all p (range_with_len a n) ≡ true → i < n → p (a + i) ≡ true
 at_each p a zero i all few = absurd (omega (arith, few))
 at_each p a (suc n) zero all few = let e : a + 0 ≡ a = omega arith in ap p e ∙ (and_parts (p a) (list_all p (range_with_len (a + 1) n)) all).0
 at_each p a (suc n) (suc i) all few =
     let e : a + suc i ≡ (a + 1) + i = omega arith in ap p e ∙ at_each p (a + 1) n i (and_parts (p a) (list_all p (range_with_len (a + 1) n)) all).1 (omega (arith, few))
-
-none_mapped : {A B : Type 0} (f : A → B) (xs : List A) → map f xs ≡ [] → xs ≡ []
-none_mapped f [] is = refl
-none_mapped f (x ∷ xs) is = absurd (cc is)
 
 each_at : (p : ℕ → Bool) (a n : ℕ) → ((i : ℕ) → i < a + n → p i ≡ true) → list_all p (range_with_len a n) ≡ true
 each_at p a zero h = refl

@@ -1,7 +1,6 @@
 pub mod LineLaws
 mod Cells
 mod HandedLaws
-mod LineOpening
 mod Missed
-mod PastLaws
+pub mod PastLaws
 mod Elsewhere

@@ -9,19 +9,16 @@ use Rattle.change_board.specs.Bearing.{Bears, IsBorne}
 use Rattle.change_board.specs.Transcripts.{entries, entry_in, line_in, lines, silent}
 use Rattle.change_spec.specs.Statements.{Statement}
 use Rattle.live_board.specs.Ended.{AgreesWith}
-use Rattle.quiesce_laws.specs.Steps.{change_all}
-use Rattle.quiesce_core.specs.State.{Configuration, empty}
+use Rattle.quiesce_core.specs.State.{Configuration}
 use Rattle.report_types.specs.declared.report.HistoryLine.{HistoryLine}
 use Rattle.report_types.specs.declared.report.Report.{Report}
 use Rattle.txn_spec.specs.Merging.{AreAllAmong, MergeIntoRun}
 use Rattle.txn_spec.specs.Views.{log_in}
 use Rattle.txn_spec.specs.declared.view.NodeView.{NodeView}
-use Rattle.txn_records.specs.Entries.{config_of, event_in, events_in}
+use Rattle.txn_records.specs.Entries.{event_in}
 use Rattle.txn_records.specs.declared.entry.Entry.{Entry}
 use Rattle.txn_records.specs.declared.entry.Entry.TheVariants.{Looked}
-
-pub config_kept : (r : List Entry) (p w : ℕ) → config_of (r ++ Looked p w ∷ []) ≡ config_of r
-config_kept r p w = ap (change_all empty.config) (filter_map-append event_in r (Looked p w ∷ []) ∙ append-nil (events_in r))
+use Rattle.txn_records.proofs.EntryLaws.{config_looked}
 
 bears_still : (r : List Entry) (p w : ℕ) (history : List HistoryLine) → Bears r history → Bears (r ++ Looked p w ∷ []) history
 bears_still r p w history b = record {
@@ -49,7 +46,7 @@ agrees_still statements report r p w nodes a merged = record {
   };
   at_once = a.at_once;
   bears = bears_still r p w report.history a.bears;
-  logs_are = a.logs_are ∙ ap (λ (c : Configuration). map (log_in nodes) (range_with_len 0 (length c.slots))) (sym (config_kept r p w));
+  logs_are = a.logs_are ∙ ap (λ (c : Configuration). map (log_in nodes) (range_with_len 0 (length c.slots))) (sym (config_looked r p w));
   early = a.early;
   merged = merged;
   all = subst (λ (c : Configuration). AreAllAmong (length c.slots) nodes) (sym (config_kept r p w)) a.all;

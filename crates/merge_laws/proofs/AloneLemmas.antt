@@ -3,7 +3,6 @@ use Rattle.std.proofs.Common.{◌≡◌, ◌∙◌, ℕ, zero, suc, Bool, true, 
 use Rattle.std.specs.Prelude.{All, find, filter_map, option_map, option_and_then, if◌then◌else◌}
 use Rattle.std.specs.List.{cons_option, list_any, range_with_len}
 use Rattle.std.specs.Option.{option_map_or}
-use Rattle.std.proofs.lemmas.Bool.{both_ways}
 use Rattle.std.proofs.lemmas.List.{append-nil}
 use Rattle.std.proofs.lemmas.List.Elements.{filter-append, filter_map-append}
 use Rattle.base.specs.Each.{Each, EachAfter}
@@ -25,7 +24,7 @@ use Rattle.change_spec.specs.Members.{Member, of_history, event_of, events, is_r
 use Rattle.change_spec.specs.Opening.{argument_of, fold_at, fold_of_node, fold_within}
 use Rattle.change_spec.specs.Scene.{config_after}
 use Rattle.change_spec.specs.Statements.{Statement, is_finish}
-use Rattle.change_spec.proofs.MemberLaws.{all_parts, at_line, config_of_lines, each_if, events_without_roots, lines_parts}
+use Rattle.change_spec.proofs.MemberLaws.{all_parts, at_line, config_of_lines, each_if, events_without_roots, lines_parts, root_event}
 use Rattle.merge_laws.specs.Alone.{IsShown, fold_told, fold_told_within, log_told, unfinished_told}
 use Rattle.merge_laws.proofs.LogLemmas.{has_logs}
 
@@ -76,11 +75,6 @@ shown_alone statements report m merge graphs = each_if IsShown [] report.history
         (each_at (IsGraphAt statements) at.before at.after (of_history (to.Show g)) (subst (Each (IsGraphAt statements)) at.parts graphs))
     by ys zs _ are = tt
 
--- lines on what was open are no events
-root_is_no_event : (l : HistoryLine) → is_root l ≡ true → event_of l ≡ None
-root_is_no_event (to.Root p k) h = refl
-root_is_no_event _ h = absurd (both_ways false refl h)
-
 shown_behind : (b c : List HistoryLine) → filter_map event_of b ≡ filter_map event_of c → (l : HistoryLine) → IsShown b l → IsShown c l
 shown_behind b c same (to.Show g) h = subst (λ es. IsGraphOf (change_all empty.config es) g) same h
 shown_behind b c same _ h = tt
@@ -96,7 +90,7 @@ shown_without_roots b c (l ∷ ls) same h = by (is_root l) refl (λ d alike. sho
     by : (k : Bool) → is_root l ≡ k → ((d : List HistoryLine) → filter_map event_of (b ++ l ∷ []) ≡ filter_map event_of d → EachAfter IsShown d (without_roots ls))
         → EachAfter IsShown c (cond (not k) (l ∷ without_roots ls) (without_roots ls))
     by true root rest =
-        rest c (more_ b ∙ ap (λ o. filter_map event_of b ++ cons_option o []) (root_is_no_event l root) ∙ append-nil (filter_map event_of b) ∙ same)
+        rest c (more_ b ∙ ap (λ o. filter_map event_of b ++ cons_option o []) (root_event l root) ∙ append-nil (filter_map event_of b) ∙ same)
     by false plain rest =
         (shown_behind b c same l h.0, rest (c ++ l ∷ []) (more_ b ∙ ap (λ es. es ++ cons_option (event_of l) []) same ∙ sym (more_ c)))
 

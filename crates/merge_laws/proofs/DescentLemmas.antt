@@ -7,6 +7,7 @@ use Rattle.std.proofs.lemmas.List.Elements.{All-cons, All-head, All-nil, All-tai
 use Rattle.change_spec.specs.Changes.{AreLooks, PortsRise, seen_in_all}
 use Rattle.change_spec.specs.Scene.{Seen}
 use Rattle.merge_laws.specs.Descents.{descents, descents_from, pieces, pieces_from, put_first}
+use Rattle.base.proofs.RisingLaws.{rise_tail}
 
 -- ---- numbers that rise, one by one
 
@@ -19,11 +20,6 @@ rise_more a b xs first rest (suc k) low =
     let f : suc (k + 1) ≡ suc k + 1 = omega arith in
     let here : get_or (b ∷ xs) k 0 < get_or (b ∷ xs) (k + 1) 0 = rest k (omega (arith, low)) in
     subst (λ n. get_or (b ∷ xs) k 0 < get_or (a ∷ (b ∷ xs)) n 0) f here
-
-pub rise_tail : (a : ℕ) (xs : List ℕ) → IsStrictlyIncreasing (a ∷ xs) → IsStrictlyIncreasing xs
-rise_tail a xs h k low =
-    let f : suc k + 1 ≡ suc (k + 1) = omega arith in
-    subst (λ n. get_or xs k 0 < get_or (a ∷ xs) n 0) f (h (suc k) (omega (arith, low)))
 
 pub rise_first : (a b : ℕ) (xs : List ℕ) → IsStrictlyIncreasing (a ∷ (b ∷ xs)) → a < b
 rise_first a b xs h = h 0 (omega arith)

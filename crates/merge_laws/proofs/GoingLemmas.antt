@@ -1,7 +1,7 @@
 -- What may come next stays so until it came, and two members that may come next may come in either order. So whoever lets
 -- come whatever may comes to the end, where one way leads there.
-use Rattle.std.proofs.Common.{◌≡◌, ◌∙◌, ℕ, zero, suc, ◌+◌, ◌<◌, Bool, true, false, cond, not, ◌&&◌, ◌||◌, List, [], ◌∷◌, length, get_or, set, Option, Some, None, refl, sym, ap, ap₂, subst, ⊎_elim, arith, get_or-set_other}
-use Rattle.std.specs.Prelude.{◌==◌, nat_le, nat_lt, is_none, is_some, fold}
+use Rattle.std.proofs.Common.{◌≡◌, ◌∙◌, ℕ, zero, suc, ◌+◌, ◌<◌, Bool, true, false, cond, not, ◌&&◌, ◌||◌, List, [], ◌∷◌, length, set, Option, Some, None, refl, sym, ap, ap₂, subst, ⊎_elim, arith, get_or-set_other}
+use Rattle.std.specs.Prelude.{◌==◌, nat_lt, is_none, is_some, fold}
 use Rattle.std.specs.List.{list_any}
 use Rattle.std.specs.Option.{option_map_or}
 use Rattle.std.proofs.lemmas.Bool.{and_from, and_parts, both_ways, eqb-true, eq-eqb, false_from_ne_true, lt-ltb, not-true, or_cases, or_from, or_left, or_parts, or_right}
@@ -20,13 +20,14 @@ use Rattle.quiesce_core.specs.State.{Configuration, State, depends, exchange, ga
 use Rattle.quiesce_core.specs.Doers.{is_of_change}
 use Rattle.quiesce_core.specs.Effect.{effect}
 use Rattle.quiesce_core.specs.Legal.{Legal}
-use Rattle.quiesce_core.specs.Rules.{denial, is_live_port, is_next_serial, last_serial}
+use Rattle.quiesce_core.specs.Rules.{denial, is_live_port}
 use Rattle.quiesce_core.specs.Runs.{is_doer}
 use Rattle.quiesce_core.specs.Traffic.{IsConsistent}
 use Rattle.quiesce_core.specs.WellFormed.{IsWellFormed}
 use Rattle.quiesce_core.proofs.LegalLaws.{legal}
 use Rattle.quiesce_core.proofs.RunLaws.{steps_keep_consistency, node_events_keep_the_configuration}
 use Rattle.quiesce_core.proofs.TableLaws.{gate_place, live_made}
+use Rattle.quiesce_core.proofs.PortEventLaws.{next_serial}
 use Rattle.quiesce_laws.specs.Drained.{is_drained}
 use Rattle.quiesce_laws.specs.Roots.{has_root}
 use Rattle.quiesce_laws.proofs.ExchangeLaws.{PortStep, stays, begins, calls, ends, port_step}
@@ -35,9 +36,10 @@ use Rattle.report_types.specs.declared.report.HistoryLine.{HistoryLine}
 use Rattle.report_types.specs.declared.report.HistoryLine.TheVariants as to
 use Rattle.change_spec.specs.Members.{is_close}
 use Rattle.quiesce_laws.specs.Independence.{clashes}
-use Rattle.merge_laws.specs.Guarded.{Left, can_go, amount, closes_before, do_first, go, is_beyond, is_called_at, is_met, is_root_line, left, log_of, may_do, may_do_first, may_go, may_tell, may_tell_first, tell_first, tells, told, told_state, waits}
+use Rattle.merge_laws.specs.Guarded.{Left, can_go, closes_before, do_first, go, is_beyond, is_called_at, is_met, is_root_line, left, log_of, may_do, may_do_first, may_go, may_tell, may_tell_first, tell_first, tells, told, told_state, waits}
 use Rattle.merge_laws.proofs.SwapLemmas.{change_and_node, does_still, two_nodes}
 use Rattle.merge_laws.proofs.ConfluenceLemmas as confluence
+use Rattle.merge_laws.proofs.GuardedLaws.{shorter}
 
 -- ---- what is known of a member that may come
 
@@ -91,11 +93,6 @@ call_is_there s p h =
     let m = map_or_true (λ (m : Slot). depends_on m.node.kind (provision s.config v.0.port) (gate s.config p).require) (slot s.config (owner s.config p)) v.2 in
     ap (λ o. option_map_or (λ (k : Slot). is_depended_on k.node.kind (gate s.config p).require) o false) m.1
     ∙ depended_if m.0.node.kind (provision s.config v.0.port) (gate s.config p).require m.2
-
--- ---- a close and a begin of its port
-
-next_serial : (s : State) (p k : ℕ) → is_next_serial s p k ≡ true → k ≡ (exchange s p).serial + 1
-next_serial s p k h = eqb-true k ((exchange s p).serial + 1) (and_parts (k == (exchange s p).serial + 1) (nat_le k last_serial) h).0
 
 pub root_is_busy : (s : State) (p k : ℕ) → has_root s p k ≡ true → is_idle (exchange s p).phase ≡ false
 root_is_busy s p k h =
@@ -383,20 +380,6 @@ go_keeps x zero h m =
     let t = tells_of x m in subst (λ (y : Left). Sound y.state) (sym (told_is x t)) (line_keeps x.state t.rest t.line h t.may)
 go_keeps x (suc n) h m =
     let d = does_of x n m in subst (λ (y : Left). Sound y.state) (sym (done_is x n d)) (event_keeps x.state d.event h d.may.allowed)
-
--- one member less is left
-shorter : (logs : List (List Event)) (n : ℕ) (e : Event) (rest : List Event) → get_or logs n [] ≡ e ∷ rest → amount (set logs n rest) + 1 ≡ amount logs
-shorter [] n e rest h = absurd (cc (h))
-shorter (l ∷ logs) zero e rest h =
-    let now : amount (set (l ∷ logs) 0 rest) ≡ length rest + amount logs = refl in
-    let was : amount (l ∷ logs) ≡ length l + amount logs = refl in
-    let one : length l ≡ length (e ∷ rest) = ap (λ (es : List Event). length es) h in
-    let more_ : length (e ∷ rest) ≡ length rest + 1 = omega arith in
-    omega (arith, now, was, one, more_)
-shorter (l ∷ logs) (suc n) e rest h =
-    let now : amount (set (l ∷ logs) (suc n) rest) ≡ length l + amount (set logs n rest) = refl in
-    let was : amount (l ∷ logs) ≡ length l + amount logs = refl in
-    omega (arith, now, was, shorter logs n e rest h)
 
 pub go_leaves_less : (x : Left) (c : ℕ) → Sound x.state → may_go x c ≡ true → left (go x c) + 1 ≡ left x
 go_leaves_less x zero h m =

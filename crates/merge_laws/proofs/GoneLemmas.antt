@@ -1,6 +1,6 @@
 -- The log of a removed node ends outside a service: it was settled when it was removed, and has done nothing since.
 use Rattle.std.proofs.Common.{◌≡◌, ◌∙◌, ℕ, Bool, true, false, ◌&&◌, List, [], ◌∷◌, Option, Some, None, refl, sym, ap, subst}
-use Rattle.std.specs.Prelude.{◌==◌, fold, is_some, option_map, if◌then◌else◌}
+use Rattle.std.specs.Prelude.{◌==◌, fold, is_some, if◌then◌else◌}
 use Rattle.std.specs.Option.{option_map_or}
 use Rattle.std.proofs.lemmas.Bool.{both_ways}
 use Rattle.std.proofs.lemmas.Option.{none-some, same_Some}
@@ -26,13 +26,7 @@ use Rattle.change_spec.specs.Scene.{config_after}
 use Rattle.merge_laws.specs.Alone.{fold_told}
 use Rattle.merge_laws.proofs.AloneLemmas.{config_is, fold_is}
 use Rattle.merge_laws.proofs.RootPortLemmas.{folded}
-use Rattle.base.proofs.OptionLaws.{None-from_is_some}
-
--- ---- a fold and the events agree on whether the node is in a service
-
-mapped : {A B : Type 0} (f : A → B) (o : Option A) → is_some (option_map f o) ≡ is_some o
-mapped f None = refl
-mapped f (Some x) = refl
+use Rattle.base.proofs.OptionLaws.{None-from_is_some, is_some-map}
 
 -- the state after an event where the service is another, or stays
 abbrev Agree : NodeState → Option Served → Type 0
@@ -47,14 +41,14 @@ ended false b x y t u h one other = stays b y y t u h other
 
 agree_next : (first : ℕ) (s t : NodeState) (u : Option Served) (e : Event) → Agree s u → after_event first s e ≡ Some t → Agree t (served_next u e)
 agree_next first s t u (Begin p j v) same h = stays (is_request first p v (moves.wants s)) s s t u h same
-agree_next first s t u (Call p j v) same h = stays (is_request first p v (asked_by (moves.next s))) s s t (served_next u (Call p j v)) h (same ∙ sym (mapped _ u))
-agree_next first s t u (Miss p) same h = stays (calls_at first s p) s (moves.after_answer s 0) t (served_next u (Miss p)) h (mapped _ s.service ∙ same ∙ sym (mapped _ u))
+agree_next first s t u (Call p j v) same h = stays (is_request first p v (asked_by (moves.next s))) s s t (served_next u (Call p j v)) h (same ∙ sym (is_some-map _ u))
+agree_next first s t u (Miss p) same h = stays (calls_at first s p) s (moves.after_answer s 0) t (served_next u (Miss p)) h (is_some-map _ s.service ∙ same ∙ sym (is_some-map _ u))
 agree_next first s t u (Take p j v) same h = stays (may_take s) s (moves.after_take s v) t (served_next u (Take p j v)) h refl
-agree_next first s t u (More p j v) same h = stays (is_more v (moves.next s)) s (moves.after_more s) t (served_next u (More p j v)) h (mapped _ s.service ∙ same ∙ sym (mapped _ u))
+agree_next first s t u (More p j v) same h = stays (is_more v (moves.next s)) s (moves.after_more s) t (served_next u (More p j v)) h (is_some-map _ s.service ∙ same ∙ sym (is_some-map _ u))
 agree_next first s t u (Ask p j v) same h = stays (awaits_at first s p && v == moves.replies s) s s t u h same
-agree_next first s t u (Hear p j v) same h = stays (moves.waits s) s (moves.after_answer s v) t (served_next u (Hear p j v)) h (mapped _ s.service ∙ same ∙ sym (mapped _ u))
+agree_next first s t u (Hear p j v) same h = stays (moves.waits s) s (moves.after_answer s v) t (served_next u (Hear p j v)) h (is_some-map _ s.service ∙ same ∙ sym (is_some-map _ u))
 agree_next first s t u (Give p j v) same h = stays (is_give v (moves.next s)) s (moves.after_give s) t None h refl
-agree_next first s t u (End p j v) same h = ended (calls_at first s p) (wants_at first s p) (moves.after_answer s v) (moves.after_end s v) t u h (mapped _ s.service ∙ same) same
+agree_next first s t u (End p j v) same h = ended (calls_at first s p) (wants_at first s p) (moves.after_answer s v) (moves.after_end s v) t u h (is_some-map _ s.service ∙ same) same
 agree_next first s t u _ same h = absurd (none-some t h)
 
 agree_after : (first : ℕ) (z : NodeState) (u : Option Served) (o : Option NodeState) (es : List Event) → ((s : NodeState) → o ≡ Some s → Agree s u)

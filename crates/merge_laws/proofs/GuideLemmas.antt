@@ -7,7 +7,7 @@ use Rattle.std.proofs.lemmas.Bool.{and_from, and_parts, both_ways, eq-eqb, eqb-t
 use Rattle.std.proofs.lemmas.List.{append_cancel_left}
 use Rattle.std.proofs.lemmas.List.Elements.{filter-append}
 use Rattle.std.proofs.lemmas.List.Folds.{list_any-append}
-use Rattle.std.proofs.lemmas.Option.{same_Some}
+use Rattle.std.proofs.lemmas.Option.{same_Some, slice_get_within}
 use Rattle.base.specs.Each.{Each}
 use Rattle.base.proofs.EachLaws.{each_at}
 use Rattle.quiesce_core.specs.declared.event.Event.{Event}
@@ -25,7 +25,7 @@ use Rattle.quiesce_laws.proofs.DrainingLaws.{no_node_reopens}
 use Rattle.quiesce_laws.proofs.RootLaws.{closed_stays, root_when_closed, closed_by}
 use Rattle.config_graph.specs.Kinds.{is_depended_on}
 use Rattle.config_graph.specs.declared.node.Node.{Node}
-use Rattle.base.proofs.PlaceLaws.{heads_are, slice_get-below}
+use Rattle.base.proofs.PlaceLaws.{heads_are}
 use Rattle.quiesce_core.specs.declared.state.Exchange.{Exchange}
 use Rattle.quiesce_core.specs.declared.state.Slot.{Slot}
 use Rattle.quiesce_core.specs.WellFormed.{IsSound}
@@ -139,7 +139,7 @@ pub called_grows : (c d : Configuration) → IsSound c → Extends c d → (p : 
 called_grows c d sound grown p made =
     let o = sound.ports p made in
     ap₂ (λ i r. option_map_or (λ (m : Slot). is_depended_on m.node.kind r) (slot d i) false) (grown.owners p made) (grown.requirements p made)
-    ∙ read_before c d grown (owner c p) (slice_get-below c.slots (owner c p) o.node o.made) (λ (m : Slot). is_depended_on m.node.kind (gate c p).require) false
+    ∙ read_before c d grown (owner c p) (slice_get_within c.slots (owner c p) o.node o.made) (λ (m : Slot). is_depended_on m.node.kind (gate c p).require) false
     (λ a b same first. ap (λ (k : Node). is_depended_on k.kind (gate c p).require) same)
 
 pub shut_on : (a b : List Event) (p : ℕ) → IsRun (a ++ event.Close p ∷ b) → list_any (reopens p) b ≡ false → (gate (state_after (a ++ event.Close p ∷ b)).config p).closed ≡ true

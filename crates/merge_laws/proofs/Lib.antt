@@ -19,3 +19,4 @@ mod AloneLemmas
 mod GoneLemmas
 mod MisleadingLemmas
 mod DecidedLemmas
+pub mod GuardedLaws

@@ -13,7 +13,7 @@ use Rattle.component_trait.specs.States.{NodeState}
 use Rattle.quiesce_core.specs.declared.event.Event.{Event}
 use Rattle.quiesce_core.specs.declared.event.Event.TheVariants.{Begin, Call, End, Ask, Miss, Close, Reopen, Make, Link, Unlink, Remove}
 use Rattle.quiesce_core.specs.declared.state.Slot.{Slot}
-use Rattle.quiesce_core.specs.State.{Configuration, State, is_live, owner, slot}
+use Rattle.quiesce_core.specs.State.{State, is_live, owner, slot}
 use Rattle.quiesce_core.specs.Alters.{nodes_next}
 use Rattle.quiesce_core.specs.Doers.{is_of_change, is_of_owner}
 use Rattle.quiesce_core.specs.Effect.{effect}
@@ -21,7 +21,7 @@ use Rattle.quiesce_core.specs.Legal.{Legal}
 use Rattle.quiesce_core.specs.Rules.{is_live_port}
 use Rattle.quiesce_core.specs.Runs.{IsRun, done_by, is_doer, state_after}
 use Rattle.quiesce_core.specs.WellFormed.{IsWellFormed}
-use Rattle.quiesce_core.proofs.AlterLaws.{reconfigured}
+use Rattle.quiesce_core.proofs.AlterLaws.{reconfigured, slots_grow}
 use Rattle.quiesce_core.proofs.InductionLaws.{always}
 use Rattle.quiesce_core.proofs.RunLaws.{done_by_more}
 use Rattle.quiesce_core.proofs.TableLaws.{live_made}
@@ -105,10 +105,6 @@ doer_is_made s n e w l does = ⊎_elim
     let to_ = by_target s n e (nodes_do_no_change s n e (found s n e does)) t does in
     subst (λ k. k < length s.config.slots) to_.2 (live_made s.config to_.0.node (w.sound.targets (port_of e) to_.0 to_.1).live))
     (cases_Bool (is_of_owner e))
-
-slots_grow : (c : Configuration) (e : Event) → length c.slots ≤ nodes_next c e
-slots_grow c (Make n node from) = omega arith
-slots_grow c _ = omega arith
 
 pub unmade_do_nothing : (n : ℕ) (es : List Event) → IsRun es → length (state_after es).config.slots ≤ n → done_by n es ≡ []
 unmade_do_nothing n es run = always (λ xs. length (state_after xs).config.slots ≤ n → done_by n xs ≡ [])

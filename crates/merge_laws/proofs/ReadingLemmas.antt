@@ -21,6 +21,7 @@ use Rattle.change_spec.specs.Follows.{Follows, IsRight, IsStop, Part, lines_of}
 use Rattle.change_spec.specs.Members.{lines_of_events}
 use Rattle.change_spec.specs.Scene.{AreSeen, config_after, drained_line}
 use Rattle.change_spec.specs.Statements.{Statement}
+use Rattle.change_spec.proofs.MemberLaws.{lines_more}
 use Rattle.change_plan.proofs.PlanLaws.{one_plan}
 use Rattle.merge_laws.specs.Descents.{pieces}
 use Rattle.merge_laws.specs.Reading.{HasRead, IsChangeSo, IsCommittedSo, IsGivenUpSo}
@@ -110,10 +111,6 @@ Right before p = IsRight (lines_of before) p.statement p.lines
 
 abbrev asked : List Part → List Statement
 asked parts = map (λ (p : Part). p.statement) parts
-
-lines_more : (parts : List Part) (p : Part) → lines_of (parts ++ p ∷ []) ≡ lines_of parts ++ p.lines
-lines_more [] p = append-nil p.lines
-lines_more (q ∷ parts) p = ap (λ ls. q.lines ++ ls) (lines_more parts p) ∙ sym (append_assoc q.lines (lines_of parts) p.lines)
 
 lines_both : (xs ys : List Part) → lines_of (xs ++ ys) ≡ lines_of xs ++ lines_of ys
 lines_both [] ys = refl

@@ -32,8 +32,9 @@ use Rattle.change_spec.proofs.PortLaws.{closed_events, closing_rise, config_more
 use Rattle.change_spec.proofs.TestLaws.{counted_some, none_both, none_mapped, range_rises}
 use Rattle.merge_laws.specs.Guarded.{tells}
 use Rattle.merge_laws.specs.Telling.{IsShutBy, IsTold, IsToldOf, reopens_there}
-use Rattle.merge_laws.proofs.DescentLemmas.{rise_first, rise_tail}
+use Rattle.merge_laws.proofs.DescentLemmas.{rise_first}
 use Rattle.base.proofs.NumberLaws.{same_number}
+use Rattle.base.proofs.RisingLaws.{rise_tail}
 
 -- ---- lists
 

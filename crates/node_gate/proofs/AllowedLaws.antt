@@ -42,10 +42,11 @@ use Rattle.node_gate.specs.declared.answers.SeeAnswer.TheVariants.{Answer, NotYe
 use Rattle.node_gate.specs.declared.answers.SeeAnswer.TheVariants as see
 use Rattle.std.proofs.lemmas.List.{length-set}
 use Rattle.std.proofs.lemmas.Option.{same_Some}
+use Rattle.std.specs.Cmp.Derive.{both_true}
 use Rattle.base.proofs.PlaceLaws.{slice_get-set_cases}
 use Rattle.node_gate.specs.Core.{FitsCore, node_at}
 use Rattle.node_gate.specs.Seats.{HasEndedCalls, IsOwn, MayAsk, MayBegin, MayCallAt, MayEnd, MayGive, MayHear, MaySee, MaySendMore, MayTake, NodeAt, has_calls_left, has_heard, has_mores_left, port_known, serial_served, serves, value_seen}
-use Rattle.node_gate.proofs.CoreLemmas.{and_intro, fits_by_others, fits_by_own, known_there, made_slot, node_is, own_known, own_live, owner_is}
+use Rattle.node_gate.proofs.CoreLemmas.{fits_by_others, fits_by_own, known_there, made_slot, node_is, own_known, own_live, owner_is}
 
 one_doer : (o : Option ℕ) (n m : ℕ) → option_map_or (λ i. i == n) o false ≡ true → (m ≡ n → ⊥) → option_map_or (λ i. i == m) o false ≡ false
 one_doer None n m does other = absurd (false≢true does)
@@ -209,7 +210,7 @@ module _ (s : State) (wf : IsWellFormed s) (con : IsConsistent s) (n : ℕ) (w :
         asked = subst (λ q. is_asked (exchange s q).phase ≡ true) (sym at.2) asked;
         taken = served_taken at.0 at.1;
         unheard = ap not ((served_heard at.0 at.1).1 ∙ may.waits);
-        message = and_intro (served_serial at.0 at.1) (eq-eqb (exchange s at.0.port).value (exchange s at.0.port).value refl);
+        message = both_true (served_serial at.0 at.1) (eq-eqb (exchange s at.0.port).value (exchange s at.0.port).value refl);
       }))
 
   -- where the further message isn't there, the intermediate reply is
@@ -238,7 +239,7 @@ module _ (s : State) (wf : IsWellFormed s) (con : IsConsistent s) (n : ℕ) (w :
         heard = subst (λ i. was_heard (service s i) ≡ true) owner_ ((served_heard at.0 at.1).0 ∙ may.heard);
         linked = ap is_some linked_;
         idle = sym (own_known s wf con n w fits p may.own).idle ∙ may.idle;
-        next_serial = and_intro (eq-eqb ((exchange s p).serial + 1) ((exchange s p).serial + 1) refl) (le-leb ((exchange s p).serial + 1) last_serial last);
+        next_serial = both_true (eq-eqb ((exchange s p).serial + 1) ((exchange s p).serial + 1) refl) (le-leb ((exchange s p).serial + 1) last_serial last);
         value = lt-ltb v value_limit may.small;
       })
 
@@ -269,7 +270,7 @@ module _ (s : State) (wf : IsWellFormed s) (con : IsConsistent s) (n : ℕ) (w :
         asked = asked;
         untaken = ap (λ o. not (option_map_or (λ (x : Service). x.port == p) o false)) free_;
         free = ap is_none free_;
-        message = and_intro (eq-eqb (exchange s p).serial (exchange s p).serial refl) (eq-eqb (exchange s p).value (exchange s p).value refl);
+        message = both_true (eq-eqb (exchange s p).serial (exchange s p).serial refl) (eq-eqb (exchange s p).value (exchange s p).value refl);
       })
 
   pub take_doer : (p k v : ℕ) (t : Target) → target s.config p ≡ Some t → t.node ≡ n → is_doer s n (Take p k v) ≡ true
@@ -286,7 +287,7 @@ module _ (s : State) (wf : IsWellFormed s) (con : IsConsistent s) (n : ℕ) (w :
       (record {
         live = own_live s wf con n w fits p may.own;
         answered = there.answered ∙ ap not may.answer;
-        message = and_intro (eq-eqb x.serial (exchange s p).serial known.serial) (eq-eqb (value_seen x) (exchange s p).value value);
+        message = both_true (eq-eqb x.serial (exchange s p).serial known.serial) (eq-eqb (value_seen x) (exchange s p).value value);
       })
 
   pub ask_allowed : (p v : ℕ) → MayAsk (node_at s.config n) w p v → denial s (Ask p (port_known (node_at s.config n) w p).serial v) ≡ None

@@ -1,5 +1,5 @@
 -- What the state has of a node whose seat fits.
-use Rattle.std.proofs.Common.{◌≡◌, ◌∙◌, ℕ, suc, ◌+◌, ◌-◌, ◌^◌, ◌<◌, Bool, true, false, ◌&&◌, List, [], ◌∷◌, length, Option, Some, None, refl, ap, sym, subst, arith, rules}
+use Rattle.std.proofs.Common.{◌≡◌, ◌∙◌, ℕ, ◌+◌, ◌-◌, ◌^◌, ◌<◌, true, false, length, Option, Some, None, refl, ap, sym, subst, arith, rules}
 use Rattle.std.specs.Prelude.{slice_get}
 use Rattle.std.specs.Option.{option_map_or}
 use Rattle.std.proofs.lemmas.Bool.{false≢true, lt-ltb}
@@ -7,7 +7,7 @@ use Rattle.std.proofs.lemmas.Option.{slice_get-get_or, slice_get_within}
 use Rattle.config_graph.proofs.KindLaws.{two_requires}
 use Rattle.quiesce_core.specs.Effect.{effect}
 use Rattle.quiesce_core.specs.Doers.{is_of_change}
-use Rattle.quiesce_core.specs.Knowledge.{IsKnown, IsPortKnown, known_next, ports_known_next, port_at_start}
+use Rattle.quiesce_core.specs.Knowledge.{IsKnown, IsPortKnown, known_next, port_at_start}
 use Rattle.quiesce_core.specs.Legal.{Legal}
 use Rattle.quiesce_core.specs.Reach.{IsPortOf}
 use Rattle.quiesce_core.specs.Rules.{is_live_port}
@@ -17,27 +17,19 @@ use Rattle.quiesce_core.specs.Traffic.{IsConsistent}
 use Rattle.quiesce_core.specs.WellFormed.{IsWellFormed}
 use Rattle.quiesce_core.specs.declared.event.Event.{Event}
 use Rattle.quiesce_core.specs.declared.known.Known.{Known}
-use Rattle.quiesce_core.specs.declared.known.PortKnown.{PortKnown}
 use Rattle.quiesce_core.specs.declared.state.Slot.{Slot}
-use Rattle.quiesce_core.proofs.KnownLaws.{known_by_others, known_by_own}
+use Rattle.quiesce_core.proofs.KnownLaws.{known_by_others, known_by_own, same_ports}
 use Rattle.quiesce_core.proofs.ReachLaws.{owner_of}
 use Rattle.quiesce_core.proofs.RunLaws.{node_events_keep_the_configuration}
 use Rattle.node_gate.specs.Core.{FitsCore, node_at, node_in}
 use Rattle.node_gate.specs.Seats.{IsOwn, IsWithinLimits, NodeAt, port_known}
 
-pub and_intro : {a b : Bool} → a ≡ true → b ≡ true → (a && b) ≡ true
-and_intro {a} {b} x y = ap (λ t. t && b) x ∙ y
-
 pub live_in : (o : Option Slot) → option_map_or (λ (m : Slot). m.live) o false ≡ true → (m : Slot) × (o ≡ Some m)
 live_in None e = absurd (false≢true e)
 live_in (Some m) e = (m, refl)
 
-ports_in_a_row : (p : ℕ) (xs : List PortKnown) (e : Event) → length (ports_known_next p xs e) ≡ length xs
-ports_in_a_row p [] e = refl
-ports_in_a_row p (x ∷ xs) e = ap suc (ports_in_a_row (p + 1) xs e)
-
 ports_stay_two : (first : ℕ) (w : Known) (e : Event) → length w.ports ≡ 2 → length (known_next first w e).ports ≡ 2
-ports_stay_two first w e two = ports_in_a_row first w.ports e ∙ two
+ports_stay_two first w e two = same_ports first w.ports e ∙ two
 
 pub first_small : (s : State) (n : ℕ) (m : Slot) → IsWellFormed s → Some m ≡ slot s.config n → m.first_port < 2 ^ 31
 first_small s n m wf there = omega (arith, (wf.sound.rows n m (sym there)).within, wf.sound.few_ports)

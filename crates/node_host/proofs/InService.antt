@@ -5,10 +5,10 @@ use Rattle.std.specs.List.{list_any}
 use Rattle.std.specs.Option.{option_map_or}
 use Rattle.std.proofs.lemmas.Bool.{both_ways, eq-eqb, eqb-true, or_parts}
 use Rattle.std.proofs.lemmas.Option.{same_Some, slice_get-get_or, slice_get_within}
-use Rattle.config_graph.specs.Kinds.{depends_on, row}
+use Rattle.config_graph.specs.Kinds.{row}
 use Rattle.config_graph.specs.declared.kind.Kind.{Kind}
-use Rattle.config_graph.specs.declared.kind.Kind.TheVariants.{Place, Map, Buffer, Branch}
-use Rattle.config_graph.proofs.KindLaws.{two_requires}
+use Rattle.config_graph.specs.declared.kind.Kind.TheVariants.{Buffer}
+use Rattle.config_graph.proofs.KindLaws.{two_requires, depended_within}
 use Rattle.component_trait.proofs.BoundLaws.{asks_depend}
 use Rattle.component_trait.specs.Bounds.{FitsRequest}
 use Rattle.component_trait.specs.Fold.{asked_by, calls_at, is_request_at, wants_at}
@@ -34,16 +34,6 @@ use Rattle.node_host.specs.Lines.{LineNode}
 use Rattle.node_host.specs.Awaiting.{awaits}
 use Rattle.node_host.proofs.Growing.{expected_at, port_there, two_known}
 
--- ---- requirements
-
-pub dependent_is_own : (k : Kind) (r : ℕ) → depends_on k 0 r ≡ true → r < length (row k).requires_
-dependent_is_own Place zero h = search rules
-dependent_is_own Place (suc zero) h = search rules
-dependent_is_own Map zero h = search rules
-dependent_is_own Branch zero h = search rules
-dependent_is_own Branch (suc zero) h = search rules
-dependent_is_own k r h = search rules
-
 wanted_is_own : (k : Kind) (a : ℕ) (kept : Kept) (x : Request) → wants k a kept ≡ Some x → x.require < length (row k).requires_
 wanted_is_own Buffer a kept x h = by kept.items h
   where
@@ -62,7 +52,7 @@ asked_is_own first q t h = by t.service refl h
     from w false waits (next.More v) is g = absurd (both_ways false refl g)
     from w false waits (next.Give v) is g = absurd (both_ways false refl g)
     from w false waits (next.Ask x) is g =
-        (x.require, dependent_is_own t.kind x.require (asks_depend t.kind t.arg w.value w.reply w.answers x is), eqb-true (first + x.require) q g)
+        (x.require, depended_within t.kind x.require (asks_depend t.kind t.arg w.value w.reply w.answers x is), eqb-true (first + x.require) q g)
 
     by : (o : Option Serving) → t.service ≡ o → is_request_at first q (asked_by (option_and_then (next_in t) o)) ≡ true → (r : ℕ) × (r < length (row t.kind).requires_) × (first + r ≡ q)
     by None is g = absurd (both_ways false refl g)

@@ -12,3 +12,5 @@ mod Permitted
 mod Refused
 mod Replying
 mod Tries
+pub mod HostedLaws
+pub mod LineLaws

@@ -28,7 +28,7 @@ pub same_request : (first p q : ℕ) (o : Option Request) → is_request_at firs
 same_request first p q None h g = absurd (both_ways false refl h)
 same_request first p q (Some x) h g = sym (eqb-true (first + x.require) p h) ∙ eqb-true (first + x.require) q g
 
-is_at : (first p v : ℕ) (o : Option Request) → is_request first p v o ≡ true → is_request_at first p o ≡ true
+pub is_at : (first p v : ℕ) (o : Option Request) → is_request first p v o ≡ true → is_request_at first p o ≡ true
 is_at first p v None h = absurd (both_ways false refl h)
 is_at first p v (Some x) h = (and_parts (first + x.require == p) (x.value == v) h).0
 
@@ -323,3 +323,10 @@ small_next first t t' (Give p j v) s i h =
     subst IsSmall (where_so_then (is_give v (moves.next t)) (moves.after_give t) t' h).1 (record { arg = s.arg; items = s.items; service = λ w at. absurd (none-some w at) })
 small_next first t t' (End p j v) s i h = ends_small (calls_at first t p) (wants_at first t p) (moves.after_answer t v) (moves.after_end t v) t' h (answer_small t v s i) (end_small t v s)
 small_next first t t' _ s i h = absurd (none-some t' h)
+
+-- ---- a node of which its seat knows no service is in none
+
+pub agree_none : (far : ℕ → OwnPort) (o : Option Service) (u : Option Served) → ServicesAgree far o u → u ≡ None → o ≡ None
+agree_none far None u h is = refl
+agree_none far (Some v) None h is = absurd h
+agree_none far (Some v) (Some u) h is = absurd (cc)

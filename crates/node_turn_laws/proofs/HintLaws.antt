@@ -5,21 +5,22 @@ use Rattle.std.specs.List.{enumerate_from}
 use Rattle.std.specs.Option.{option_map_or}
 use Rattle.std.proofs.lemmas.Bool.{and_parts, both_ways, cases_Bool, cases_eq, cases_lt, eq-eqb, eqb-true, false_from_ne_true, le-leb, leb-true, lt-ltb, ltb-true, ne_eqb}
 use Rattle.std.proofs.lemmas.List.{get_or_append_left, get_or_past, length-replicate}
-use Rattle.std.proofs.lemmas.Option.{get_or_from_slice_get, none-some, same_Some, slice_get-get_or, slice_get_past}
+use Rattle.std.proofs.lemmas.Option.{get_or_from_slice_get, none-some, same_Some, slice_get-get_or, slice_get_past, slice_get_within}
 use Rattle.std.proofs.Math.Seq.{get_or-append_seam}
 use Rattle.base.proofs.OptionLaws.{Some-from_is_some, map_or_at, map_or_true}
-use Rattle.base.proofs.PlaceLaws.{fresh_behind, slice_get-below, slice_get-there}
+use Rattle.base.proofs.PlaceLaws.{fresh_behind, slice_get-there}
 use Rattle.config_graph.specs.Kinds.{row}
 use Rattle.config_graph.specs.declared.node.Node.{Node}
 use Rattle.config_graph.specs.declared.node.Target.{Target}
 use Rattle.component_trait.specs.States.{NodeState}
 use Rattle.quiesce_word.specs.Phases.{is_asked, is_idle}
-use Rattle.quiesce_core.proofs.AlterLaws.{exchanges_next, reconfigured, services_next}
+use Rattle.quiesce_word.proofs.PhaseLaws.{idle_not_asked}
+use Rattle.quiesce_core.proofs.AlterLaws.{exchanges_next, reconfigured, services_next, change_exchange}
 use Rattle.quiesce_core.proofs.LegalLaws.{legal}
 use Rattle.quiesce_core.proofs.RunLaws.{node_events_keep_the_configuration, runs_are_consistent, runs_are_well_formed}
 use Rattle.quiesce_core.proofs.StabilityLaws.{busy_ports_stay}
 use Rattle.quiesce_core.proofs.TableLaws.{gate_place, live_made}
-use Rattle.quiesce_core.specs.Alters.{Reconfigures, exchange_next, gate_next, nodes_next, ports_next, service_next, slot_next}
+use Rattle.quiesce_core.specs.Alters.{Reconfigures, gate_next, nodes_next, ports_next, service_next, slot_next}
 use Rattle.quiesce_core.specs.Doers.{is_of_change}
 use Rattle.quiesce_core.specs.Effect.{effect}
 use Rattle.quiesce_core.specs.Legal.{Legal}
@@ -41,7 +42,7 @@ use Rattle.node_turn_laws.specs.World.{World, first_port, inbox, state_of, waiti
 use Rattle.node_turn_laws.specs.Requests.{HintsAreRequests, hints_for, kept_back, leads_to, waits, waits_for}
 use Rattle.node_turn_laws.proofs.LookLaws.{after_look, is_take_at, takes_at}
 use Rattle.node_turn_laws.proofs.PostLemmas.{IsPlace, count_of, is_at, posted, read}
-use Rattle.node_turn_laws.proofs.RequestLemmas.{idle_not_asked, is_of, same_taken, unasked, waits_after, waits_next}
+use Rattle.node_turn_laws.proofs.RequestLemmas.{is_of, same_taken, unasked, waits_after, waits_next}
 
 -- ---- each node has an inbox, and a place for a hint of each of its requirements
 
@@ -114,7 +115,7 @@ place_of w h sound n r k there low =
       owned = ap (λ (x : Gate). x.owner) (sym is) ∙ in_row.owned r low;
       required = ap (λ (x : Gate). x.require) (sym is) ∙ in_row.in_order r low;
       port = ap (λ i. i + r) (map_or_at (λ (j : Slot). j.first_port) (slot c n) 0 k there);
-      has_row = (let made = slice_get-below c.slots n k there in let rows = h.rows in omega (arith, made, rows));
+      has_row = (let made = slice_get_within c.slots n k there in let rows = h.rows in omega (arith, made, rows));
       in_row = omega (arith, long, low);
     }
 
@@ -380,15 +381,6 @@ kept_is waiting c p = ⊎_elim
     beyond : length c.gates ≤ p → nat_lt p (length c.gates) ≡ false
     beyond past = false_from_ne_true (nat_lt p (length c.gates)) (λ h. absurd (omega (arith, past, ltb-true p (length c.gates) h)))
 
-change_exchange : (s : State) (p : ℕ) (e : Event) → is_of_change e ≡ true → exchange_next s p e ≡ exchange s p
-change_exchange s p (Close q) h = refl
-change_exchange s p (Reopen q) h = refl
-change_exchange s p (Make n node from) h = refl
-change_exchange s p (Link q n x) h = refl
-change_exchange s p (Unlink q) h = refl
-change_exchange s p (Remove n) h = refl
-change_exchange s p _ h = absurd (both_ways false refl h)
-
 change_service : (s : State) (n : ℕ) (e : Event) → is_of_change e ≡ true → service_next s n e ≡ service s n
 change_service s n (Close q) h = refl
 change_service s n (Reopen q) h = refl
@@ -505,7 +497,7 @@ module _ (w : World) (n : ℕ) (node : Node) (from : Option ℕ) (h : Hinted w) 
       (λ (low : p < length c.gates).
       let old : gate v.machine.config p ≡ gate c p = made.gates p ∙ ap (λ b. cond b (record { owner = length c.slots; require = p - length c.gates; closed = true; target = None }) (gate c p)) (before p low) in
       let o = well.sound.ports p low in
-      let there : owner c p < length w.waiting = (let rows = h.fits.rows in let below = slice_get-below c.slots (owner c p) o.node o.made in omega (arith, rows, below)) in
+      let there : owner c p < length w.waiting = (let rows = h.fits.rows in let below = slice_get_within c.slots (owner c p) o.node o.made in omega (arith, rows, below)) in
       rw (lt-ltb p (length v.machine.config.gates) (let ports = made.ports in omega (arith, ports, low)))
       (ap (read v.waiting) old ∙ ap (λ ys. slice_index_or ys (gate c p).require None) (get_or_append_left w.waiting (replicate (length (row node.kind).requires_) None ∷ []) [] (owner c p) there)
       ∙ sym (kept_is w.waiting c p ∙ rw (lt-ltb p (length c.gates) low) refl)))

@@ -6,9 +6,10 @@ use Rattle.std.specs.List.{All}
 use Rattle.std.proofs.lemmas.Bool.{both_ways, cond_both, ltb-true, leb-false}
 use Rattle.std.proofs.lemmas.Option.{none-some, same_Some}
 use Rattle.std.proofs.lemmas.List.Elements.{All-append, All-drop, All-head}
-use Rattle.config_graph.specs.Kinds.{depends_on, row}
+use Rattle.config_graph.specs.Kinds.{row}
 use Rattle.config_graph.specs.declared.kind.Kind.{Kind}
 use Rattle.config_graph.specs.declared.kind.Kind.TheVariants.{Philosopher, Place, Fork, Source, Map, Buffer, Sink, Teller, Branch, Account, Asker, Adder}
+use Rattle.config_graph.proofs.KindLaws.{depended_within}
 use Rattle.component_trait.proofs.BoundLaws.{asks_depend}
 use Rattle.component_trait.specs.Bounds.{FitsRequest}
 use Rattle.component_trait.specs.Fold.{asked_by, calls_at, is_request_at, wants_at}
@@ -90,13 +91,6 @@ wants_fit Buffer a kept x small items e = by kept.items items e
     by (v ∷ vs) all e =
         subst (FitsRequest Buffer) (same_Some (record { require = 0; value = v }) x e) (record { require = omega arith; value = All-head (λ y. y < value_limit) v vs all })
 wants_fit _ a kept x small items e = absurd (none-some x e)
-
--- a requirement on which the kind's service depends is one that it has
-depended_within : (k : Kind) (r : ℕ) → depends_on k 0 r ≡ true → r < length (row k).requires_
-depended_within Place r h = search rules
-depended_within Map r h = search rules
-depended_within Branch r h = search rules
-depended_within _ r h = absurd (both_ways false refl h)
 
 -- what comes next in a service is small
 ask_small : Next → Type 0

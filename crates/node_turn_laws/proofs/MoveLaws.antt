@@ -3,10 +3,10 @@ use Rattle.std.proofs.Common.{zero, suc, inl, inr, ◌⊎◌, ◌≡◌, ◌∙�
 use Rattle.std.specs.Prelude.{not, ◌==◌, ◌&&◌, ◌||◌, nat_lt, nat_le, find, option_map, option_and_then, is_none, is_some}
 use Rattle.std.specs.List.{list_all, range_with_len}
 use Rattle.std.specs.Option.{option_map_or}
-use Rattle.std.proofs.lemmas.Bool.{and_from, and_parts, both_ways, eq-eqb, eqb-false, eqb-true, le-leb, lt-ltb, not-true, not_from_false}
+use Rattle.std.proofs.lemmas.Bool.{and_from, and_parts, both_ways, eq-eqb, eqb-false, eqb-true, le-leb, lt-ltb, not-true, not_from_false, not-false}
 use Rattle.std.proofs.lemmas.Option.{none-some, same_Some}
 use Rattle.base.proofs.NumberLaws.{same_number}
-use Rattle.base.proofs.OptionLaws.{None-from_is_none, option_map_some, true_from_not, map_or_at, map_or_true}
+use Rattle.base.proofs.OptionLaws.{None-from_is_none, option_map_some, map_or_at, map_or_true}
 use Rattle.config_graph.specs.Kinds.{calls_of, depends_on, mores_of, row}
 use Rattle.config_graph.specs.declared.node.Target.{Target}
 use Rattle.component_trait.proofs.BoundLaws.{asks_are_few, asks_depend, mores_are_few}
@@ -456,7 +456,7 @@ module _ (s : State) (n : ℕ) (m : Slot) (t : NodeState) (es : List Event) (at 
       ∙ lt-ltb i.told.calls (calls_of m.node.kind 0) (omega (arith, few, all_came v is heard still)) in
       let heard_there : was_heard (service s (owner s.config p)) ≡ true = ap (λ k. was_heard (service s k)) mine ∙ ap was_heard is ∙ heard in
       let idle = left_if (not (is_idle (exchange s p).phase)) (cond (is_missing s p) (Some (Miss p)) (Some (Call p ((exchange s p).serial + 1) x.value))) e c in
-      let idle_is : is_idle (exchange s p).phase ≡ true = true_from_not (is_idle (exchange s p).phase) idle.0 in
+      let idle_is : is_idle (exchange s p).phase ≡ true = not-false (is_idle (exchange s p).phase) idle.0 in
       by (is_missing s p) refl idle.1 live through left heard_there idle_is mine fits.value
     where
       by : (b : Bool) → is_missing s p ≡ b → cond b (Some (Miss p)) (Some (Call p ((exchange s p).serial + 1) x.value)) ≡ Some e → is_live_port s.config p ≡ true

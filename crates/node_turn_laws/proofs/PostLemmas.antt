@@ -5,10 +5,10 @@ use Rattle.std.specs.List.{count_by}
 use Rattle.std.specs.Option.{option_map_or}
 use Rattle.std.proofs.lemmas.Bool.{and_right, cases_eq, eq-eqb, ne_eqb}
 use Rattle.std.proofs.lemmas.List.Sums.{sum_by-cons}
-use Rattle.std.proofs.lemmas.Option.{get_or_from_slice_get, none-some}
+use Rattle.std.proofs.lemmas.Option.{get_or_from_slice_get, none-some, slice_get_within}
 use Rattle.base.proofs.MapLaws.{count_by-append}
 use Rattle.base.proofs.OptionLaws.{map_or_at}
-use Rattle.base.proofs.PlaceLaws.{one_at, slice_get-below}
+use Rattle.base.proofs.PlaceLaws.{one_at}
 use Rattle.quiesce_core.specs.State.{State, fresh_gate, gate, owner, slot}
 use Rattle.quiesce_core.specs.WellFormed.{IsSound}
 use Rattle.quiesce_core.specs.declared.state.Gate.{Gate}
@@ -37,7 +37,7 @@ module _ (s : State) (sound : IsSound s.config) where
   pub port_is : (p : ℕ) (g : Gate) → slice_get s.config.gates p ≡ Some g → first_port s g.owner + g.require ≡ p
   port_is p g e =
       let here : gate s.config p ≡ g = get_or_from_slice_get s.config.gates p g fresh_gate e in
-      let o = sound.ports p (slice_get-below s.config.gates p g e) in
+      let o = sound.ports p (slice_get_within s.config.gates p g e) in
       let in_row = sound.rows (owner s.config p) o.node o.made in
       let from = o.from in
       let below = o.below in

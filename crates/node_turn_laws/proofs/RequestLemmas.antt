@@ -7,7 +7,6 @@ use Rattle.base.proofs.OptionLaws.{None-from_is_none, Some-from_is_some}
 use Rattle.config_graph.specs.declared.node.Target.{Target}
 use Rattle.quiesce_word.proofs.PhaseLaws.{answered_not_asked, asked_busy}
 use Rattle.quiesce_word.specs.Phases.{is_asked, is_idle, is_in_more}
-use Rattle.quiesce_word.specs.declared.phase.Phase.{Phase}
 use Rattle.quiesce_core.proofs.AlterLaws.{exchanges_next, services_next}
 use Rattle.quiesce_core.proofs.PortEventLaws.{served_there}
 use Rattle.quiesce_core.proofs.RunLaws.{node_events_keep_the_configuration}
@@ -83,9 +82,6 @@ unasked st p h = λ i. h i && not (is_taken st p)
 
 pub taken_already : (st : State) (p : ℕ) → is_taken st p ≡ true → waits st p ≡ false
 taken_already st p h = (λ i. is_asked (exchange st p).phase && not (h i)) ∙ and_right (is_asked (exchange st p).phase) false refl
-
-pub idle_not_asked : (f : Phase) → is_idle f ≡ true → is_asked f ≡ false
-idle_not_asked f h = false_from_ne_true (is_asked f) (λ asked. both_ways (is_idle f) (asked_busy f asked) h)
 
 same_phase : (s st : State) (p : ℕ) → exchange st p ≡ exchange s p → is_taken st p ≡ is_taken s p → waits st p ≡ waits s p
 same_phase s st p x taken = both st p (is_asked (exchange s p).phase) (is_taken s p) (ap (λ (y : Exchange). is_asked y.phase) x) taken

@@ -18,7 +18,7 @@ use Rattle.component_trait.specs.Tables as tables
 use Rattle.component_trait.specs.declared.next.Ask.{Ask}
 use Rattle.config_graph.specs.declared.kind.Kind.{Kind}
 use Rattle.config_graph.specs.declared.kind.Kind.TheVariants.{Philosopher, Source, Buffer, Teller, Asker}
-use Rattle.quiesce_word.proofs.PhaseLaws.{idle_is, serving_busy}
+use Rattle.quiesce_word.proofs.PhaseLaws.{idle_is, serving_busy, idle_not_asked}
 use Rattle.quiesce_word.specs.Phases.{is_answered, is_idle, is_in_more}
 use Rattle.quiesce_word.specs.declared.phase.Phase.{Phase}
 use Rattle.quiesce_core.specs.State.{State, exchange, fresh_exchange, is_live, ports_of, service, slot}
@@ -35,7 +35,7 @@ use Rattle.node_turn_laws.specs.World.{World, first_port, inbox, state_of, waiti
 use Rattle.node_turn_laws.specs.Requests.{hints_for, kept_back, leads_to}
 use Rattle.node_turn_laws.proofs.HintLaws.{Hinted, hinted_where_reached, kept_there, place_of, traffic_where_reached, well_where_reached}
 use Rattle.node_turn_laws.proofs.PostLemmas.{count_front, count_of, is_at}
-use Rattle.node_turn_laws.proofs.RequestLemmas.{idle_not_asked, unasked}
+use Rattle.node_turn_laws.proofs.RequestLemmas.{unasked}
 
 -- ---- what a done node wants
 

@@ -4,10 +4,9 @@ use Rattle.std.specs.Prelude.{◌&&◌, ◌||◌, fold, is_none, is_some, slice_
 use Rattle.std.specs.List.{Contains, enumerate_from}
 use Rattle.std.specs.Option.{option_map_or}
 use Rattle.std.proofs.lemmas.Bool.{both_ways, cases_eq, cases_lt}
-use Rattle.std.proofs.lemmas.List.{get_or_past}
+use Rattle.std.proofs.lemmas.List.{get_or_past, nil_from_length}
 use Rattle.std.proofs.lemmas.Option.{none-some}
 use Rattle.base.proofs.ContainsLaws.{Contains-cons_cases, Contains-here, Contains-nil, Contains-there}
-use Rattle.base.proofs.MapLaws.{no_length}
 use Rattle.component_trait.specs.States.{NodeState}
 use Rattle.quiesce_core.specs.State.{State, exchange, is_live, service}
 use Rattle.quiesce_core.specs.declared.event.Event.{Event}
@@ -145,7 +144,7 @@ module _ (w : World) (r : IsReached w) (n : ℕ) (live : is_live w.machine.confi
     no_service = λ t is. ap (λ s. serves s n t) (sym machine) ∙ (parts v hinted n allowed t (none_moves t is)).1;
     no_hint = λ t is free.
         let empty = ap (λ (xs : List ℕ). length xs) (quiet_box v hinted n allowed t (none_moves t is) (ap (λ s. service s n) machine ∙ free)) in
-        no_length (inbox w n) (no_more n (omega (arith, empty)));
+        nil_from_length (inbox w n) (no_more n (omega (arith, empty)));
   }
 
   pub stayed : Stayed w (turn w n allowed).world
@@ -175,7 +174,7 @@ quiet_before w u n h q =
       no_service = λ t is. ap (λ s. serves s n t) (sym machine) ∙ q.no_service t (told ∙ is);
       no_hint = λ t is free.
           let none_ = ap (λ (xs : List ℕ). length xs) (q.no_hint t (told ∙ is) (ap (λ s. service s n) machine ∙ free)) in
-          let grown = h.grows n in no_length (inbox w n) (omega (arith, none_, grown));
+          let grown = h.grows n in nil_from_length (inbox w n) (omega (arith, none_, grown));
     }
 
 pub moved_on : (allowed : Bool) (ns : List ℕ) (r : Round) → r.moved ≡ true → (fold (give_turn allowed) r ns).moved ≡ true

@@ -1,13 +1,13 @@
 -- Lemmas on the ports that feed others: that they are those that reach, and how they are found one after another.
-use Rattle.std.proofs.Common.{◌≡◌, ◌⊎◌, ◌↔◌, ℕ, ◌+◌, ◌<◌, ◌≤◌, Bool, true, false, IsTrue, List, [], ◌++◌, length, set, take, get_or, Option, Some, None, slice_get, option_map, refl, sym, ◌∙◌, ap, subst, inl, inr, arith, Contains, All, Global, Vec, filter, append_assoc, append-nil}
+use Rattle.std.proofs.Common.{◌≡◌, ◌⊎◌, ◌↔◌, ℕ, ◌+◌, ◌<◌, ◌≤◌, Bool, true, false, IsTrue, List, [], ◌++◌, length, set, take, get_or, Option, Some, None, slice_get, option_map, refl, sym, ◌∙◌, ap, subst, inl, inr, arith, Contains, All, Global, Vec, append_assoc, append-nil}
 use Rattle.std.specs.Option.{option_map_or}
 use Rattle.std.proofs.Math.Logic.{⊎_elim, ⊎_map}
 use Rattle.std.proofs.lemmas.Bool.{cases_eq, cases_lt, false≢true}
 use Rattle.std.proofs.lemmas.List.{get_or_append_left}
-use Rattle.std.proofs.lemmas.List.Elements.{All-append, All-contains, All-filter, All-map, All-same, All-weaker, Contains-append_left, Contains-get_or}
+use Rattle.std.proofs.lemmas.List.Elements.{All-append, All-contains, All-same, All-weaker, Contains-append_left, Contains-get_or}
 use Rattle.std.proofs.lemmas.Option.{get_or_from_slice_get, none-some, slice_get_within, slice_get-get_or}
 use Rattle.config_graph.specs.Cycles.{IsLinked, depends_at, graph_wiring}
-use Rattle.config_graph.specs.Graph.{Graph, IsGraph, IsLinkWithin, begins_at, ends_at, incoming_ports, link_at, port_number, ports, provides_at, requires_at}
+use Rattle.config_graph.specs.Graph.{Graph, IsGraph, IsLinkWithin, begins_at, incoming_ports, link_at, port_number, ports, provides_at, requires_at}
 use Rattle.config_graph.specs.Kinds.{depends_on}
 use Rattle.config_graph.specs.Wiring.{Reach, direct, through}
 use Rattle.config_graph.specs.declared.node.Link.{Link}
@@ -16,7 +16,6 @@ use Rattle.config_graph.specs.declared.node.Port.{Port}
 use Rattle.config_graph.specs.declared.node.Target.{Target}
 use Rattle.config_graph.proofs.IncomingLaws.{incoming-linked}
 use Rattle.config_graph.proofs.LinkLaws.{begins_there, get-ports, port_number-place, require_within, target_within}
-use Rattle.config_graph.proofs.NumberingLaws.{port_below}
 use Rattle.passive_set.specs.DirectSet.{IsLinkedTo}
 use Rattle.passive_set.specs.Feeding.{Closure, Feeds, FeedsMarked, FeedsNode, FeedsPort, Owns, SomeBelow}
 use Rattle.passive_set.specs.Feeding.Closure.{first, onward}
@@ -41,12 +40,6 @@ SomeBelow_more P n = (to, from)
     from : SomeBelow n P ⊎ P n → SomeBelow (n + 1) P
     from (inl h) = (h.0, omega (arith, h.1), h.2)
     from (inr h) = (n, omega arith, h)
-
--- the numbers of ports that are linked to a provision are those of ports
-pub incoming_below : (g : Graph) → IsGraph g → (n x : ℕ) → All (λ p. p < length (ports g.nodes)) (incoming_ports g n x)
-incoming_below g graph n x =
-    let below : Link → Type 0 = λ l. port_number g.nodes l.from l.require < length (ports g.nodes) in
-    All-map (λ p. p < length (ports g.nodes)) (λ (l : Link). port_number g.nodes l.from l.require) (filter (ends_at n x) g.links) (All-filter (ends_at n x) below g.links (All-weaker (IsLinkWithin g.nodes) below (λ l inside. port_below g.nodes l.from l.require inside.begins) g.links graph.within))
 
 module _ (g : Graph) (graph : IsGraph g) where
   -- a link begins at a requirement of a node

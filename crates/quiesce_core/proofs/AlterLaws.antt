@@ -1,10 +1,11 @@
 -- What is read at each place of a state after an event that may happen.
-use Rattle.std.proofs.Common.{◌≡◌, ◌∙◌, ℕ, zero, suc, ◌+◌, ◌-◌, ◌<◌, ◌≤◌, Bool, true, false, cond, ◌&&◌, List, [], ◌∷◌, ◌++◌, length, set, Option, Some, None, refl, sym, ap, subst, ⊎_elim, arith, length-set, length-append, get_or-set_same, get_or-set_other}
+use Rattle.std.proofs.Common.{◌≡◌, ◌∙◌, ℕ, ◌+◌, ◌-◌, ◌<◌, ◌≤◌, Bool, true, false, cond, ◌&&◌, List, [], ◌∷◌, ◌++◌, length, set, Option, Some, None, refl, sym, ap, subst, ⊎_elim, arith, length-set, length-append, get_or-set_same, get_or-set_other}
 use Rattle.std.specs.Prelude.{◌==◌, nat_lt, nat_le, slice_get, option_map}
 use Rattle.std.specs.Option.{option_map_or}
 use Rattle.std.proofs.lemmas.Bool.{and_from, and_parts, cases_Bool, cases_eq, cases_lt, both_ways, eq-eqb, ne_eqb, ltb-true, leb-true, le-leb, lt-ltb}
 use Rattle.std.proofs.lemmas.List.{get_or_append_left, get_or-append-add, get_or_past}
 use Rattle.std.proofs.lemmas.List.FromFn.{get_or-map-range_with_len, length-map-range_with_len}
+use Rattle.std.proofs.lemmas.Option.{slice_get_within, slice_get_past}
 use Rattle.config_graph.specs.Kinds.{row}
 use Rattle.config_graph.specs.declared.node.Node.{Node}
 use Rattle.config_graph.specs.declared.node.Target.{Target}
@@ -24,7 +25,8 @@ use Rattle.quiesce_core.specs.Alters.{Alters, Reconfigures, exchange_next, gate_
 use Rattle.quiesce_core.proofs.LegalLaws.{legal}
 use Rattle.quiesce_core.proofs.StateLaws.{exchange_here, exchange_there, service_here, service_there, put_is, target_service_is}
 use Rattle.quiesce_core.proofs.TableLaws.{gate_place, exchange_place, owner_place, target_place}
-use Rattle.base.proofs.PlaceLaws.{fresh_behind, slice_get-append_front, slice_get-last, slice_get-set_other, slice_get-set_same, slice_get-below}
+use Rattle.quiesce_core.specs.Doers.{is_of_change}
+use Rattle.base.proofs.PlaceLaws.{fresh_behind, slice_get-append_front, slice_get-last, slice_get-set_other, slice_get-set_same}
 
 -- a value that goes by the place where it is put
 put_exchange : (s st : State) (q : ℕ) (x : ℕ → Exchange) → ((i : ℕ) → exchange st i ≡ exchange s i) → q < length st.traffic.exchanges → (p : ℕ)
@@ -96,18 +98,13 @@ put_gate c q g made p = ⊎_elim
     (λ (other : q ≡ p → ⊥). rw (ne_eqb q p other) (get_or-set_other c.gates q p (g q) fresh_gate (λ e. other (sym e))))
     (cases_eq q p)
 
-slice_get-past : {A : Type 0} (xs : List A) (i : ℕ) → length xs ≤ i → slice_get xs i ≡ None
-slice_get-past [] i h = refl
-slice_get-past (x ∷ xs) zero h = absurd (omega (arith, h))
-slice_get-past (x ∷ xs) (suc i) h = slice_get-past xs i (omega (arith, h))
-
 slice_get-pushed : {A : Type 0} (xs : List A) (y : A) (i : ℕ) → slice_get (xs ++ y ∷ []) i ≡ cond (i == length xs) (Some y) (slice_get xs i)
 slice_get-pushed xs y i = ⊎_elim
     (λ (same : i ≡ length xs). rw (eq-eqb i (length xs) same) (ap (slice_get (xs ++ y ∷ [])) same ∙ slice_get-last xs y))
     (λ (other : i ≡ length xs → ⊥). rw (ne_eqb i (length xs) other) (⊎_elim
     (λ (before : i < length xs). slice_get-append_front xs (y ∷ []) i before)
     (λ (past : length xs ≤ i).
-    slice_get-past (xs ++ y ∷ []) i (omega (arith, length-append xs (y ∷ []), past, apart i (length xs) other past)) ∙ sym (slice_get-past xs i past))
+    slice_get_past (xs ++ y ∷ []) i (omega (arith, length-append xs (y ∷ []), past, apart i (length xs) other past)) ∙ sym (slice_get_past xs i past))
     (cases_lt i (length xs))))
     (cases_eq i (length xs))
   where
@@ -126,7 +123,7 @@ set_removed c n m (Some old) there =
     ap (λ o. slice_get (option_map_or (λ (k : Slot). set c.slots n (record k { live = false })) o c.slots) m) there
     ∙ ⊎_elim
     (λ (same : m ≡ n). rw (eq-eqb m n same)
-    (ap (slice_get (set c.slots n (record old { live = false }))) same ∙ slice_get-set_same c.slots n (record old { live = false }) (slice_get-below c.slots n old there)
+    (ap (slice_get (set c.slots n (record old { live = false }))) same ∙ slice_get-set_same c.slots n (record old { live = false }) (slice_get_within c.slots n old there)
     ∙ sym (ap (option_map (λ (k : Slot). record k { live = false })) (ap (slot c) same ∙ there))))
     (λ (other : m ≡ n → ⊥). rw (ne_eqb m n other) (slice_get-set_other c.slots n (record old { live = false }) m other))
     (cases_eq m n)
@@ -223,3 +220,16 @@ alters_next s e w l = record { config = reconfigured s e l; services = services_
 -- a step changes just that
 pub steps_alter : (s t : State) (e : Event) → IsWellFormed s → Step s e t → Alters s e t
 steps_alter s t e w step = subst (λ u. Alters s e u) (sym step.changed) (alters_next s e w (legal s e step.allowed))
+
+pub slots_grow : (c : Configuration) (e : Event) → length c.slots ≤ nodes_next c e
+slots_grow c (Make n node from) = omega arith
+slots_grow c _ = omega arith
+
+pub change_exchange : (s : State) (p : ℕ) (e : Event) → is_of_change e ≡ true → exchange_next s p e ≡ exchange s p
+change_exchange s p (Close q) h = refl
+change_exchange s p (Reopen q) h = refl
+change_exchange s p (Make n node from) h = refl
+change_exchange s p (Link q n x) h = refl
+change_exchange s p (Unlink q) h = refl
+change_exchange s p (Remove n) h = refl
+change_exchange s p _ h = absurd (both_ways false refl h)

@@ -3,7 +3,7 @@ use Rattle.std.proofs.Common.{◌≡◌, ℕ, zero, suc, ◌+◌, ◌<◌, ◌�
 use Rattle.std.specs.Prelude.{slice_get, ◌↔◌}
 use Rattle.std.specs.List.{list_any, list_all, range_with_len}
 use Rattle.std.specs.Option.{option_map_or}
-use Rattle.std.proofs.lemmas.Bool.{and_parts, and_from, both_ways, cases_Bool, cases_lt, false_from_ne_true, eqb-true, eq-eqb, not-true, not_from_false}
+use Rattle.std.proofs.lemmas.Bool.{and_parts, and_from, both_ways, cases_Bool, cases_lt, false_from_ne_true, eqb-true, eq-eqb, not-true, not_from_false, not-false}
 use Rattle.std.proofs.lemmas.Option.{slice_get_cases}
 use Rattle.config_graph.specs.Kinds.{row, depends_on, is_depended_on}
 use Rattle.config_graph.specs.Walks.{Ranks}
@@ -14,7 +14,7 @@ use Rattle.quiesce_core.specs.State.{Configuration, slot, gate, target, ports_of
 use Rattle.quiesce_core.specs.Reach.{IsPortOf, wiring_of, can_walk, has_no_cycle}
 use Rattle.config_graph.proofs.KindLaws.{depended_by_first, depended_if}
 use Rattle.config_graph.proofs.WalkLaws.{acyclic_if_ranked, closed_walk, ranked_if_short, short_if_acyclic}
-use Rattle.base.proofs.OptionLaws.{map_or_true, map_or_at, true_from_not}
+use Rattle.base.proofs.OptionLaws.{map_or_true, map_or_at}
 use Rattle.base.proofs.RangeLaws.{any_in_range, range_has, all_in_range, range_all, any_agree}
 
 -- a node that is there was made
@@ -144,7 +144,7 @@ unfolding has_no_cycle
 walk_found c h =
     let long = fails_in (λ n. not (can_walk c (suc (length c.slots)) n)) 0 (length c.slots) h in
     closed_walk (MayCall (wiring_of c)) (length c.slots) (caller_made c) (can_walk c) (λ i. refl) (walk_to c) (walk_from c) long.0
-    (true_from_not (can_walk c (suc (length c.slots)) long.0) long.1)
+    (not-false (can_walk c (suc (length c.slots)) long.0) long.1)
   where
     fails_in : (test : ℕ → Bool) (a n : ℕ) → list_all test (range_with_len a n) ≡ false → (i : ℕ) × (test i ≡ false)
     fails_in test a zero h = absurd (both_ways true h refl)

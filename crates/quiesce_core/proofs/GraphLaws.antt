@@ -4,13 +4,14 @@ use Rattle.std.specs.Prelude.{slice_get, option_map, sum_by}
 use Rattle.std.specs.List.{enumerate_from}
 use Rattle.std.specs.Option.{option_map_or}
 use Rattle.std.proofs.lemmas.Bool.{both_ways, cases_lt}
-use Rattle.std.proofs.lemmas.Option.{slice_get_within, get_or_from_slice_get, slice_get_past}
+use Rattle.std.proofs.lemmas.Option.{slice_get_within, get_or_from_slice_get, slice_get_past, slice_get-map}
 use Rattle.std.proofs.lemmas.List.{length-map, get_or_past}
 use Rattle.std.proofs.lemmas.List.Sums.{sum_by-cons, sum_by_more}
 use Rattle.std.specs.Ordering.{nat_cmp}
 use Rattle.std.specs.Cmp.Lexicographic.{slice_cmp}
 use Rattle.std.specs.declared.cmp.Ordering.TheVariants.{Less}
 use Rattle.std.proofs.lemmas.List.Elements.{All-contains}
+use Rattle.std.proofs.lemmas.List.FromFn.{length-enumerate_from}
 use Rattle.config_graph.specs.Kinds.{row}
 use Rattle.config_graph.specs.Graph.{Graph, IsLinkWithin, begins_at, link_at, port_number, first_port, ports, target_of, requires_of, requires_at, provides_at, provides_of}
 use Rattle.config_graph.specs.Cycles as cycles
@@ -45,21 +46,10 @@ use Rattle.base.proofs.ContainsLaws.{Contains-at, at_some_place}
 use Rattle.base.proofs.FindLaws.{Contains-find, find_passes}
 use Rattle.base.proofs.PlaceLaws.{slice_get-there as there}
 
--- look-ups in a list that was mapped
-
-get_mapped : {A B : Type 0} (f : A → B) (xs : List A) (i : ℕ) → slice_get (map f xs) i ≡ option_map f (slice_get xs i)
-get_mapped f [] i = refl
-get_mapped f (x ∷ xs) zero = refl
-get_mapped f (x ∷ xs) (suc i) = get_mapped f xs i
-
 pub get_numbered : {A : Type 0} (k : ℕ) (xs : List A) (i : ℕ) (x : A) → slice_get xs i ≡ Some x → slice_get (enumerate_from k xs) i ≡ Some (k + i, x)
 get_numbered k [] i x h = absurd (cc)
 get_numbered k (y ∷ xs) zero x h = let e : y ≡ x = cc in rw (add-zero, e) refl
 get_numbered k (y ∷ xs) (suc i) x h = get_numbered (k + 1) xs i x h ∙ ap (λ j. Some (j, x)) (omega arith)
-
-pub length-numbered_from : {A : Type 0} (k : ℕ) (xs : List A) → length (enumerate_from k xs) ≡ length xs
-length-numbered_from k [] = refl
-length-numbered_from k (x ∷ xs) = ap suc (length-numbered_from (k + 1) xs)
 
 pub sum_taken : {A : Type 0} (f : A → ℕ) (xs : List A) (i : ℕ) (x : A) → slice_get xs i ≡ Some x → sum_by f (take i xs) + f x ≤ sum_by f xs
 sum_taken f [] i x h = absurd (cc)
@@ -72,11 +62,11 @@ sum_taken f (y ∷ xs) (suc i) x h =
 module _ (g : Graph) (sound : Sound g) (few_nodes : length g.nodes ≤ MAX_NODES) (few_ports : length (ports g.nodes) ≤ MAX_PORTS) where
   slot_made : (n : ℕ) (node : Node) → slice_get g.nodes n ≡ Some node → slot (started g).config n ≡ Some (slot_of g.nodes (n, node))
   slot_made n node e =
-      get_mapped (slot_of g.nodes) (enumerate_from 0 g.nodes) n ∙ ap (λ o. option_map (slot_of g.nodes) o) (get_numbered 0 g.nodes n node e)
+      slice_get-map (slot_of g.nodes) (enumerate_from 0 g.nodes) n ∙ ap (λ o. option_map (slot_of g.nodes) o) (get_numbered 0 g.nodes n node e)
       ∙ ap (λ i. Some (slot_of g.nodes (i, node))) (omega arith)
 
   slots_length : length (started g).config.slots ≡ length g.nodes
-  slots_length = length-map (enumerate_from 0 g.nodes) (slot_of g.nodes) ∙ length-numbered_from 0 g.nodes
+  slots_length = length-map (enumerate_from 0 g.nodes) (slot_of g.nodes) ∙ length-enumerate_from 0 g.nodes
 
   gates_length : length (started g).config.gates ≡ length (ports g.nodes)
   gates_length = length-map (ports g.nodes) (gate_of g)
@@ -84,7 +74,7 @@ module _ (g : Graph) (sound : Sound g) (few_nodes : length g.nodes ≤ MAX_NODES
   gate_made : (p : ℕ) (q : Port) → slice_get (ports g.nodes) p ≡ Some q → gate (started g).config p ≡ gate_of g q
   gate_made p q e =
       get_or_from_slice_get (map (gate_of g) (ports g.nodes)) p (gate_of g q) fresh_gate
-      (get_mapped (gate_of g) (ports g.nodes) p ∙ ap (λ o. option_map (gate_of g) o) e)
+      (slice_get-map (gate_of g) (ports g.nodes) p ∙ ap (λ o. option_map (gate_of g) o) e)
 
   -- what a made slot holds
   slot_was : (n : ℕ) (m : Slot) → slot (started g).config n ≡ Some m → (node : Node) × (slice_get g.nodes n ≡ Some node) × (m ≡ slot_of g.nodes (n, node))

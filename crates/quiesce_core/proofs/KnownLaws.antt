@@ -62,7 +62,7 @@ next_at p (w ∷ ws) e zero k at = (w, refl, sym (same_Some _ k at) ∙ ap (λ i
 next_at p (w ∷ ws) e (suc r) k at =
     let rest = next_at (p + 1) ws e r k at in (rest.0, rest.1, rest.2 ∙ ap (λ i. port_known_next i rest.0 e) (omega arith))
 
-same_ports : (p : ℕ) (ws : List PortKnown) (e : Event) → length (ports_known_next p ws e) ≡ length ws
+pub same_ports : (p : ℕ) (ws : List PortKnown) (e : Event) → length (ports_known_next p ws e) ≡ length ws
 same_ports p [] e = refl
 same_ports p (x ∷ xs) e = ap suc (same_ports (p + 1) xs e)
 

@@ -36,10 +36,11 @@ use Rattle.base.proofs.OptionLaws.{map_or_at}
 use Rattle.quiesce_core.proofs.LiveLinkLaws.{IsLiveLink, linked_at}
 use Rattle.quiesce_core.proofs.SameWiringLaws.{to_configuration}
 use Rattle.quiesce_core.proofs.ConfigurationLaws.{linked_made, port_is}
-use Rattle.quiesce_core.proofs.OrderLemmas.{live_at, range_at}
+use Rattle.quiesce_core.proofs.OrderLemmas.{live_at}
 use Rattle.base.proofs.ContainsLaws.{Contains-at, Contains-filter_map, at_some_place}
 use Rattle.base.proofs.FindLaws.{Contains-find, find_passes}
 use Rattle.base.proofs.MapLaws.{All-filter_map}
+use Rattle.base.proofs.RangeLaws.{number_at}
 use Rattle.config_graph.proofs.NumberingLaws.{ports_from}
 
 -- what the link of a port is made of
@@ -109,7 +110,7 @@ from_range f a n x h =
     All-contains (λ y. (p : ℕ) × (f p ≡ Some y)) (filter_map f (range_with_len a n)) x held h
 
 in_range : {A : Type 0} (f : ℕ → Option A) (n p : ℕ) (x : A) → p < n → f p ≡ Some x → Contains (filter_map f (range_with_len 0 n)) x
-in_range f n p x h e = Contains-filter_map f (range_with_len 0 n) p p x (range_at n p h) e
+in_range f n p x h e = Contains-filter_map f (range_with_len 0 n) p p x (number_at n p h) e
 
 abbrev pub links_of : Configuration → List (Option ℕ) → List Link
 links_of c places = filter_map (link_in c places) (range_with_len 0 (length c.gates))

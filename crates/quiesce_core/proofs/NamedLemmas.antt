@@ -5,6 +5,7 @@ use Rattle.std.specs.Option.{option_map_or}
 use Rattle.std.proofs.lemmas.Bool.{and_parts, both_ways, cases_eq, not-true}
 use Rattle.std.proofs.lemmas.Option.{same_Some}
 use Rattle.std.proofs.lemmas.Slice.Eq.{bytes_eq-Decides}
+use Rattle.std.proofs.lemmas.Map.Keys.{any_passes_from_place}
 use Rattle.config_graph.specs.Kinds.{row}
 use Rattle.config_graph.specs.Sound.{HasItsArgument}
 use Rattle.config_graph.specs.declared.node.Node.{Node}
@@ -18,7 +19,7 @@ use Rattle.quiesce_core.specs.Legal.{Legal}
 use Rattle.quiesce_core.specs.Named.{AreNamed}
 use Rattle.base.proofs.OptionLaws.{map_or_true}
 use Rattle.quiesce_core.proofs.SoundnessLaws.{here_gone, slot_elsewhere}
-use Rattle.base.proofs.PlaceLaws.{any_at, slice_get-snoc}
+use Rattle.base.proofs.PlaceLaws.{slice_get-snoc}
 use Rattle.quiesce_core.proofs.ArgumentLaws.{argument_fits}
 
 has_argument : (node : Node) → has_its_argument node ≡ true → HasItsArgument node
@@ -28,7 +29,7 @@ has_argument node h = let w = argument_fits (is_some (row node.kind).arg) node.a
 path_new : (c : Configuration) (path : List ℕ) → is_path_taken c path ≡ false → (i : ℕ) (m : Slot) → slot c i ≡ Some m → m.live ≡ true → m.node.path ≡ path → ⊥
 path_new c path h i m e live same =
     both_ways (is_path_taken c path) h
-    (any_at (λ (x : Slot). x.live && bytes_eq x.node.path path) c.slots i m e (ap (λ b. b && bytes_eq m.node.path path) live ∙ (bytes_eq-Decides m.node.path path).1 same))
+    (any_passes_from_place (λ (x : Slot). x.live && bytes_eq x.node.path path) c.slots i m e (ap (λ b. b && bytes_eq m.node.path path) live ∙ (bytes_eq-Decides m.node.path path).1 same))
 
 named_with_node : (c : Configuration) (node : Node) (from : Option ℕ) → AreNamed c → is_path_taken c node.path ≡ false → HasItsArgument node → AreNamed (with_node c node from)
 named_with_node c node from a new_ argument = record {

@@ -3,12 +3,10 @@ use Rattle.std.proofs.Common.{◌≡◌, ◌∙◌, ℕ, zero, suc, ◌+◌, ◌
 use Rattle.std.specs.Prelude.{slice_get, filter}
 use Rattle.std.specs.List.{range_with_len, IsDistinct}
 use Rattle.std.specs.List.Sorted.{IsPermutation, IsSortedBy}
-use Rattle.std.specs.Ordering.{nat_cmp, is_lt, ordering_reverse}
+use Rattle.std.specs.Ordering.{nat_cmp, is_lt}
 use Rattle.std.specs.Cmp.Lexicographic.{slice_cmp, nat_list_cmp_total}
-use Rattle.std.specs.declared.cmp.Ordering.{Ordering}
-use Rattle.std.specs.declared.cmp.Ordering.TheVariants.{Less, Equal, Greater}
-use Rattle.std.proofs.lemmas.Bool.{both_ways, cases_Bool, cases_eq, cases_lt, eqb-false, ne_eqb}
-use Rattle.std.proofs.lemmas.Option.{slice_get-get_or, slice_get_within, get_or_from_slice_get, same_Some}
+use Rattle.std.proofs.lemmas.Bool.{cases_Bool, cases_eq, cases_lt, eqb-false, ne_eqb}
+use Rattle.std.proofs.lemmas.Option.{slice_get_within, get_or_from_slice_get, same_Some}
 use Rattle.std.proofs.lemmas.List.FromFn.{get_or-range_with_len, length-range_with_len}
 use Rattle.std.proofs.lemmas.List.Sorted.{ranks_by, sorted_far, Contains-permutation, IsPermutation-sym, length_permutation}
 use Rattle.std.proofs.lemmas.List.Kept.{AllPairs-filter}
@@ -22,10 +20,11 @@ use Rattle.quiesce_core.specs.Listed.{path_at, InPathOrder, ArePlaces, AreNodesO
 use Rattle.config_graph.proofs.PathLaws.{irreflexive}
 use Rattle.base.proofs.OptionLaws.{map_or_true, map_or_at}
 use Rattle.quiesce_core.proofs.TableLaws.{live_made}
-use Rattle.base.proofs.BytesLaws.{equal_bytes}
+use Rattle.base.proofs.BytesLaws.{before_the_other}
 use Rattle.base.proofs.ContainsLaws.{Contains-at, at_some_place}
 use Rattle.base.proofs.PlaceLaws.{slice_get-append_front, slice_get-last}
 use Rattle.base.proofs.NumberLaws.{eqb_flips}
+use Rattle.base.proofs.RangeLaws.{number_at}
 
 -- what a filter of a range keeps
 
@@ -41,10 +40,6 @@ filter_short p [] = omega arith
 filter_short p (x ∷ xs) =
     ⊎_elim (λ (t : p x ≡ true). rw t (omega (arith, filter_short p xs))) (λ (f : p x ≡ false). rw f (omega (arith, filter_short p xs))) (cases_Bool (p x))
 
-pub range_at : (k i : ℕ) → i < k → slice_get (range_with_len 0 k) i ≡ Some i
-range_at k i h =
-    slice_get-get_or (range_with_len 0 k) i 0 (omega (arith, length-range_with_len 0 k)) ∙ ap Some (get_or-range_with_len 0 k i 0 h ∙ omega arith)
-
 distinct_kept : (p : ℕ → Bool) (k : ℕ) → IsDistinct eqb (filter p (range_with_len 0 k))
 distinct_kept p k = IsDistinct-from_apart eqb (filter p (range_with_len 0 k)) (λ i j d l u.
     let rises = AllPairs-filter (λ x y. x < y) p (range_with_len 0 k) (λ i j d l u.
@@ -56,11 +51,6 @@ distinct_kept p k = IsDistinct-from_apart eqb (filter p (range_with_len 0 k)) (�
 
 abbrev pub below : Configuration → ℕ → ℕ → Bool
 below c m n = is_lt (slice_cmp nat_cmp (path_at c m) (path_at c n))
-
-turned : (p q : List ℕ) (o : Ordering) → slice_cmp nat_cmp q p ≡ o → is_lt o ≡ false → (p ≡ q → ⊥) → slice_cmp nat_cmp p q ≡ Less
-turned p q Less e h ne = absurd (both_ways true h refl)
-turned p q Equal e h ne = absurd (ne (sym (equal_bytes q p e)))
-turned p q Greater e h ne = nat_list_cmp_total.antisymm p q ∙ ap ordering_reverse e
 
 -- a live slot
 pub record Live (c : Configuration) (n : ℕ) : Type 0 where
@@ -82,14 +72,14 @@ pub in_order :
 in_order c named order moved sorted = record {
   live = live;
   all = λ n h.
-      let kept = filter_has (is_live c) (range_with_len 0 (length c.slots)) n n (range_at (length c.slots) n (live_made c n h)) h in
+      let kept = filter_has (is_live c) (range_with_len 0 (length c.slots)) n n (number_at (length c.slots) n (live_made c n h)) h in
       at_some_place order n (Contains-permutation (live_slots c) order n moved (Contains-at (live_slots c) kept.0 n kept.1));
   rising = λ a b m n before at_a at_b.
       let within : b < length order = slice_get_within order b n at_b in
       let far : below c (get_or order b 0) (get_or order a 0) ≡ false = sorted_far (below c) (ranks_by nat_list_cmp_total (path_at c)) order sorted a b 0 (omega arith) within in
       let here : below c n m ≡ false =
       ap (λ i. below c i m) (sym (get_or_from_slice_get order b n 0 at_b)) ∙ ap (λ i. below c (get_or order b 0) i) (sym (get_or_from_slice_get order a m 0 at_a)) ∙ far in
-      turned (path_at c m) (path_at c n) (slice_cmp nat_cmp (path_at c n) (path_at c m)) refl here (λ same.
+      before_the_other (path_at c m) (path_at c n) (slice_cmp nat_cmp (path_at c n) (path_at c m)) refl here (λ same.
       let x = live_at c m (live a m at_a) in
       let y = live_at c n (live b n at_b) in
       let one : m ≡ n = named.paths m n x.made y.made x.there y.there x.live y.live (sym x.path ∙ same ∙ y.path) in

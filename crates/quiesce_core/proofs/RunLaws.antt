@@ -1,6 +1,6 @@
 -- Runs: their fronts, one event more, runs on literals, who does what in them, and what holds after each.
-use Rattle.std.proofs.Common.{◌≡◌, ◌∙◌, ℕ, true, false, cond, List, [], ◌∷◌, ◌++◌, append_assoc, Some, None, refl, ap, sym, subst, ⊎_elim}
-use Rattle.std.specs.Prelude.{◌↔◌, fold, filter, is_none, option_map}
+use Rattle.std.proofs.Common.{◌≡◌, ◌∙◌, ℕ, true, false, cond, List, [], ◌∷◌, ◌++◌, append_assoc, Some, None, refl, ap, sym, subst, ⊎_elim, Bool}
+use Rattle.std.specs.Prelude.{◌↔◌, fold, filter, is_none, option_map, if◌then◌else◌}
 use Rattle.std.proofs.lemmas.Bool.{and_from, and_parts, both_ways, cases_Bool}
 use Rattle.std.proofs.lemmas.List.{append-nil}
 use Rattle.std.proofs.lemmas.List.Sums.{fold_push}
@@ -15,7 +15,7 @@ use Rattle.quiesce_core.specs.Rules.{denial}
 use Rattle.quiesce_core.specs.Doers.{is_of_change}
 use Rattle.quiesce_core.specs.Effect.{change_next, configuration_after, effect}
 use Rattle.quiesce_core.specs.Legal.{Legal}
-use Rattle.quiesce_core.specs.Runs.{Step, IsRun, can_run, doer, done_by, is_doer, state_after}
+use Rattle.quiesce_core.specs.Runs.{Step, IsRun, can_run, doer, done_by, is_doer, state_after, done_from}
 use Rattle.quiesce_core.specs.Named.{AreNamed}
 use Rattle.quiesce_core.specs.Knowledge.{Knows}
 use Rattle.quiesce_core.specs.WellFormed.{IsWellFormed}
@@ -86,7 +86,7 @@ run_if es h = (runs_are_found es).1 h
 
 -- what the change does no node does, and the other way round
 
-no_node_if : (s : State) (e : Event) → is_of_change e ≡ true → doer s e ≡ None
+pub no_node_if : (s : State) (e : Event) → is_of_change e ≡ true → doer s e ≡ None
 no_node_if s (Close p) h = refl
 no_node_if s (Reopen p) h = refl
 no_node_if s (Make n node from) h = refl
@@ -213,3 +213,13 @@ named_from before (e ∷ es) h a =
 -- live nodes have different paths after a run, and each node its argument
 pub nodes_are_named : (es : List Event) → IsRun es → AreNamed (state_after es).config
 nodes_are_named es h = named_from [] es h named_empty
+
+pub done_parts : (s : State) (n : ℕ) (xs ys : List Event) → done_from s n (xs ++ ys) ≡ done_from s n xs ++ done_from (fold effect s xs) n ys
+done_parts s n [] ys = refl
+done_parts s n (e ∷ xs) ys = by (is_doer s n e) (done_parts (effect s e) n xs ys)
+  where
+    by : (b : Bool) → done_from (effect s e) n (xs ++ ys) ≡ done_from (effect s e) n xs ++ done_from (fold effect (effect s e) xs) n ys
+        → (if b then e ∷ done_from (effect s e) n (xs ++ ys) else done_from (effect s e) n (xs ++ ys))
+        ≡ (if b then e ∷ done_from (effect s e) n xs else done_from (effect s e) n xs) ++ done_from (fold effect (effect s e) xs) n ys
+    by true h = ap (λ es. e ∷ es) h
+    by false h = h

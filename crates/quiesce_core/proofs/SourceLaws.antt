@@ -22,7 +22,8 @@ use Rattle.quiesce_core.proofs.InductionLaws.{always}
 use Rattle.quiesce_core.proofs.LegalLaws.{legal}
 use Rattle.config_graph.specs.Graph.{Graph}
 use Rattle.std.specs.List.{enumerate_from}
-use Rattle.base.proofs.PlaceLaws.{slice_get-map_some, any_at}
+use Rattle.std.proofs.lemmas.Map.Keys.{any_passes_from_place}
+use Rattle.base.proofs.PlaceLaws.{slice_get-map_some}
 use Rattle.base.proofs.OptionLaws.{option_map_some, map_or_true}
 
 -- what stays of the slots is enough
@@ -43,7 +44,7 @@ source_of c node from k may is =
     ((m.0, m.1, not-true m.0.live parts.0, parts.1), not-true (was_moved c k) both.1)
 
 moved_if : (c : Configuration) (k i : ℕ) (m : Slot) → slot c i ≡ Some m → m.from ≡ Some k → was_moved c k ≡ true
-moved_if c k i m at from = any_at (λ (m : Slot). option_map_or (λ f. f == k) m.from false) c.slots i m at (ap (λ o. option_map_or (λ f. f == k) o false) from ∙ eq-eqb k k refl)
+moved_if c k i m at from = any_passes_from_place (λ (m : Slot). option_map_or (λ f. f == k) m.from false) c.slots i m at (ap (λ o. option_map_or (λ f. f == k) o false) from ∙ eq-eqb k k refl)
 
 -- the slot of a node that is made next
 abbrev pub new_slot : Configuration → Node → Option ℕ → Slot

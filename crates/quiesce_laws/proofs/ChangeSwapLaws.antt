@@ -32,7 +32,7 @@ use Rattle.quiesce_core.specs.WellFormed.{IsWellFormed}
 use Rattle.quiesce_core.proofs.AlterLaws.{exchanges_next, reconfigured, services_next}
 use Rattle.quiesce_core.proofs.CycleLaws.{all_of, of_all}
 use Rattle.quiesce_core.proofs.LegalLaws.{allowed, legal}
-use Rattle.quiesce_core.proofs.RunLaws.{effect_config, node_events_keep_the_configuration, steps_keep_consistency}
+use Rattle.quiesce_core.proofs.RunLaws.{effect_config, node_events_keep_the_configuration, steps_keep_consistency, no_node_if}
 use Rattle.quiesce_core.proofs.SettledLaws.{if_settled, settled_if}
 use Rattle.quiesce_core.proofs.SoundnessLaws.{well_formed_next}
 use Rattle.quiesce_core.proofs.StabilityLaws.{busy_is_live, busy_ports_stay, serving_nodes_stay, unsettled_ports_stay}
@@ -44,7 +44,7 @@ use Rattle.quiesce_laws.proofs.ExtensionLaws.{depends_before, extends_next, owne
 use Rattle.quiesce_laws.proofs.QuiescenceLaws.{still_if}
 use Rattle.quiesce_laws.proofs.StillLaws.{still_next}
 use Rattle.quiesce_laws.specs.Independence.{AreIndependent, MayBeDoneBy, MayBeDoneByChange, clashes}
-use Rattle.quiesce_laws.proofs.SwapDoerLaws.{changes_have_no_doer, doer_alike, nodes_do_no_change, port_of}
+use Rattle.quiesce_laws.proofs.SwapDoerLaws.{doer_alike, nodes_do_no_change, port_of}
 use Rattle.quiesce_laws.proofs.NodeSwapLaws.{by_alike_all, same_state}
 use Rattle.quiesce_laws.proofs.TurnLemmas.{elsewhere}
 
@@ -70,7 +70,7 @@ no_message (End p k v) h q = absurd (both_ways false refl h)
 no_message _ h q = refl
 
 no_node : (s : State) (x : Event) → is_of_change x ≡ true → (n : ℕ) → is_doer s n x ≡ false
-no_node s x h n = ap (λ o. option_map_or (λ m. m == n) o false) (changes_have_no_doer s x h)
+no_node s x h n = ap (λ o. option_map_or (λ m. m == n) o false) (no_node_if s x h)
 
 pub exchange_same : (s : State) (x : Event) → IsWellFormed s → Legal s x → is_of_change x ≡ true → (q : ℕ) → exchange (effect s x) q ≡ exchange s q
 exchange_same s x w l h q = exchanges_next s x w l q ∙ ap (λ b. cond b (exchange_by (service s (owner s.config q)) (exchange s q) x) (exchange s q)) (no_message x h q)
@@ -480,6 +480,6 @@ changes_are_independent_of_nodes s n x e w c m k no_ =
       second_behind = allowed (effect s x) e (node_may_still a);
       first_behind = allowed (effect s e) x (change_may_still a);
       second_doer = doer_still a;
-      first_doer = changes_have_no_doer (effect s e) x m.of_change ∙ sym (changes_have_no_doer s x m.of_change);
+      first_doer = no_node_if (effect s e) x m.of_change ∙ sym (no_node_if s x m.of_change);
       one_state = sym (either_order a);
     }

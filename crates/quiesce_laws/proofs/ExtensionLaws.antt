@@ -5,6 +5,7 @@ use Rattle.std.specs.Prelude.{◌==◌, nat_le, nat_lt, option_map}
 use Rattle.std.specs.List.{list_any}
 use Rattle.std.specs.Option.{option_map_or}
 use Rattle.std.proofs.lemmas.Bool.{both_ways, cases_eq, eq-eqb, ne_eqb}
+use Rattle.std.proofs.lemmas.Option.{slice_get_within}
 use Rattle.config_graph.specs.Kinds.{row, depends_on}
 use Rattle.config_graph.specs.Wiring.{Reach, direct, through}
 use Rattle.config_graph.specs.declared.node.Node.{Node}
@@ -25,7 +26,7 @@ use Rattle.quiesce_core.proofs.ConfigurationLaws.{owner_kept, require_kept, targ
 use Rattle.quiesce_core.proofs.InductionLaws.{along}
 use Rattle.quiesce_core.proofs.RunLaws.{fronts_are_runs, runs_are_well_formed}
 use Rattle.quiesce_core.proofs.TableLaws.{live_made}
-use Rattle.base.proofs.PlaceLaws.{slice_get-there, slice_get-below}
+use Rattle.base.proofs.PlaceLaws.{slice_get-there}
 use Rattle.quiesce_laws.specs.Configurations.{HasNode, Extends, HasNoNewLink}
 use Rattle.quiesce_laws.specs.Events.{is_link, reopens}
 
@@ -72,7 +73,7 @@ has_it d n m e = record { now = m; there = e; same_node = refl; same_port = refl
 
 node_stays : (c d : Configuration) (e : Event) → Reconfigures c e d → (n : ℕ) (m : Slot) → slot c n ≡ Some m → HasNode d n m
 node_stays c d (Make k node from) r n m at =
-    let before : n ≡ length c.slots → ⊥ = λ last. let within = slice_get-below c.slots n m at in omega (arith, within, last) in
+    let before : n ≡ length c.slots → ⊥ = λ last. let within = slice_get_within c.slots n m at in omega (arith, within, last) in
     has_it d n m (r.slots n ∙ rw (ne_eqb n (length c.slots) before) at)
 node_stays c d (Remove k) r n m at = ⊎_elim
     (λ (same : n ≡ k). record {

@@ -6,6 +6,7 @@ use Rattle.std.specs.Option.{option_map_or}
 use Rattle.std.proofs.lemmas.Bool.{and_from, and_parts, both_ways, eq-eqb, eqb-true, not_from_false, false_from_ne_true, le-leb, not-true}
 use Rattle.std.proofs.lemmas.Option.{slice_get_within}
 use Rattle.std.proofs.lemmas.Slice.Eq.{bytes_eq-Decides}
+use Rattle.std.proofs.lemmas.Map.Keys.{any_passes_from_place}
 use Rattle.config_graph.specs.declared.TheConstants.{MAX_NODES, MAX_PORTS}
 use Rattle.config_graph.specs.Kinds.{row}
 use Rattle.config_graph.specs.Graph.{Graph}
@@ -19,7 +20,7 @@ use Rattle.quiesce_core.specs.Effect.{with_node}
 use Rattle.quiesce_core.specs.Rules.{can_move, has_its_argument, is_kind, is_path_taken, is_value, value_limit, was_moved}
 use Rattle.quiesce_core.specs.State.{Configuration, slot, target}
 use Rattle.base.proofs.OptionLaws.{map_or_true}
-use Rattle.base.proofs.PlaceLaws.{any_at, slice_get-snoc}
+use Rattle.base.proofs.PlaceLaws.{slice_get-snoc}
 use Rattle.quiesce_core.proofs.SoundnessLaws.{grown_length, last_slot, old_gate, old_slot}
 use Rattle.quiesce_laws.specs.Fitting.{KeptLink, PathsApart}
 use Rattle.quiesce_core.specs.Live.{IsLiveAt}
@@ -54,7 +55,7 @@ any_append : {A : Type 0} (f : A → Bool) (xs : List A) (y : A) → list_any f 
 any_append f xs y h =
     let w = any_there f (xs ++ y ∷ []) h in
     ⊎_elim
-    (λ (v : (w.0 < length xs) × (slice_get xs w.0 ≡ Some w.1)). inl (any_at f xs w.0 w.1 v.1 w.3))
+    (λ (v : (w.0 < length xs) × (slice_get xs w.0 ≡ Some w.1)). inl (any_passes_from_place f xs w.0 w.1 v.1 w.3))
     (λ (v : (w.0 ≡ length xs) × (y ≡ w.1)). inr (ap f v.1 ∙ w.3))
     (slice_get-snoc xs y w.1 w.0 w.2)
 

@@ -3,8 +3,8 @@ use Rattle.std.proofs.Common.{◌≡◌, ℕ, zero, suc, ◌+◌, ◌<◌, ◌�
 use Rattle.std.specs.Prelude.{filter, filter_map, slice_get}
 use Rattle.std.specs.List.{AllPairs, list_any, range_with_len}
 use Rattle.std.proofs.lemmas.List.Elements.{Contains-get_or}
-use Rattle.std.proofs.lemmas.Bool.{both_ways, cases_Bool, cases_eq, or_cases, or_left, or_right}
-use Rattle.base.proofs.ContainsLaws.{Contains-at, Contains-here, Contains-there, at_some_place}
+use Rattle.std.proofs.lemmas.Bool.{both_ways, cases_Bool, cases_eq, or_cases}
+use Rattle.base.proofs.ContainsLaws.{Contains-at, Contains-here, Contains-there}
 use Rattle.quiesce_laws.specs.Lists.{Apart, In}
 use Rattle.quiesce_laws.specs.Commits.{Differ}
 
@@ -89,15 +89,6 @@ map_apart {A} f R apart a (suc n) = by (f a) refl (map_apart f R apart (a + 1) n
     by : (o : Option A) → f a ≡ o → Apart R (filter_map f (range_with_len (a + 1) n)) → Apart R (filter_map f (range_with_len a (suc n)))
     by (Some x) e = rw e (λ rest. (λ y i. (let m = mapped f (a + 1) n y i in apart a m.at x y (omega (arith, m.from)) e m.is), rest))
     by None e = rw e (λ rest. rest)
-
--- a test passes somewhere in a list
-pub any_if : {A : Type 0} (f : A → Bool) (xs : List A) (x : A) → Contains xs x → f x ≡ true → list_any f xs ≡ true
-any_if f xs x there h = let w = at_some_place xs x there in at f xs w.0 x w.1 h
-  where
-    at : {A : Type 0} (f : A → Bool) (xs : List A) (i : ℕ) (x : A) → slice_get xs i ≡ Some x → f x ≡ true → list_any f xs ≡ true
-    at f [] i x e h = absurd (cc)
-    at f (y ∷ xs) zero x e h = let same : y ≡ x = cc in or_left (f y) (list_any f xs) (ap f same ∙ h)
-    at f (y ∷ xs) (suc i) x e h = or_right (f y) (list_any f xs) (at f xs i x e h)
 
 pub any_of : {A : Type 0} (f : A → Bool) (xs : List A) → list_any f xs ≡ true → (x : A) × Contains xs x × (f x ≡ true)
 any_of f xs h = let w = any_there f xs h in (w.1, Contains-at xs w.0 w.1 w.2, w.3)

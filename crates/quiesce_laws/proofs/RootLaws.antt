@@ -25,15 +25,15 @@ use Rattle.quiesce_core.proofs.InductionLaws.{place, along}
 use Rattle.quiesce_core.proofs.RunLaws.{fronts_are_runs}
 
 -- the parts of the test
-record IsRoot (x : Exchange) (k : ℕ) : Type 0 where
+pub record IsRoot (x : Exchange) (k : ℕ) : Type 0 where
   busy : is_idle x.phase ≡ false
   serial : (x.serial == k) ≡ true
   alone : is_some x.within ≡ false
 
-abbrev is_root : ℕ → Exchange → Bool
+abbrev pub is_root : ℕ → Exchange → Bool
 is_root k x = (not (is_idle x.phase) && not (is_some x.within)) && x.serial == k
 
-root_parts : (k : ℕ) (x : Exchange) → is_root k x ≡ true → IsRoot x k
+pub root_parts : (k : ℕ) (x : Exchange) → is_root k x ≡ true → IsRoot x k
 root_parts k x h =
     let a = and_parts (not (is_idle x.phase) && not (is_some x.within)) (x.serial == k) h in
     let b = and_parts (not (is_idle x.phase)) (not (is_some x.within)) a.0 in

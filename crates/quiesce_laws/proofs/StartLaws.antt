@@ -15,6 +15,7 @@ use Rattle.std.proofs.lemmas.List.Elements.{All-contains}
 use Rattle.std.proofs.lemmas.List.Sums.{sum_by-append, sum_by-cons}
 use Rattle.std.proofs.lemmas.Simd.{map-map}
 use Rattle.std.proofs.lemmas.Slice.Eq.{bytes_eq-Decides}
+use Rattle.std.proofs.lemmas.List.FromFn.{length-enumerate_from}
 use Rattle.config_graph.specs.Graph.{Graph, first_port, ports, ports_of, target_of, requires_of}
 use Rattle.config_graph.specs.Kinds.{row, depends_on}
 use Rattle.config_graph.specs.Sound.{Sound, HasItsArgument}
@@ -38,7 +39,7 @@ use Rattle.quiesce_core.specs.Start.{slot_of, gate_of, no_service, no_exchange, 
 use Rattle.quiesce_core.specs.WellFormed.{IsWellFormed}
 use Rattle.quiesce_core.proofs.CycleLaws.{no_cycle_if_ranked, ranked_if_no_cycle}
 use Rattle.base.proofs.OptionLaws.{map_or_at}
-use Rattle.quiesce_core.proofs.GraphLaws.{length-numbered_from, well_formed_started}
+use Rattle.quiesce_core.proofs.GraphLaws.{well_formed_started}
 use Rattle.quiesce_core.proofs.LegalLaws.{allowed}
 use Rattle.config_graph.proofs.PathLaws.{irreflexive}
 use Rattle.quiesce_core.proofs.SettledLaws.{if_settled}
@@ -177,7 +178,7 @@ module _ (g : Graph) (sound : Sound g) (few_nodes : length g.nodes ≤ MAX_NODES
   made_more ns ms n e =
       let place : length (map bare (ports ns)) ≡ first_port g.nodes (length ns) =
       length-map (ports ns) bare ∙ length-ports ns ∙ ap (λ xs. sum_by requires_of xs) (sym (take-append_seam ns (n ∷ ms))) ∙ ap (λ xs. first_port xs (length ns)) (sym e) in
-      let count : length (map (slot_of g.nodes) (enumerate_from 0 ns)) ≡ length ns = length-map (enumerate_from 0 ns) (slot_of g.nodes) ∙ length-numbered_from 0 ns in
+      let count : length (map (slot_of g.nodes) (enumerate_from 0 ns)) ≡ length ns = length-map (enumerate_from 0 ns) (slot_of g.nodes) ∙ length-enumerate_from 0 ns in
       let slots : map (slot_of g.nodes) (enumerate_from 0 ns) ++ record { node = n; first_port = length (map bare (ports ns)); from = None; live = true } ∷ [] ≡ map (slot_of g.nodes) (enumerate_from 0 (ns ++ n ∷ [])) =
       ap (λ i. map (slot_of g.nodes) (enumerate_from 0 ns) ++ record { node = n; first_port = i; from = None; live = true } ∷ []) place
       ∙ sym (map-append (slot_of g.nodes) (enumerate_from 0 ns) ((length ns, n) ∷ []))
@@ -193,7 +194,7 @@ module _ (g : Graph) (sound : Sound g) (few_nodes : length g.nodes ≤ MAX_NODES
       cc (slots, gates, services, exchanges)
 
   slots_count : (ns : List Node) → length (map (slot_of g.nodes) (enumerate_from 0 ns)) ≡ length ns
-  slots_count ns = length-map (enumerate_from 0 ns) (slot_of g.nodes) ∙ length-numbered_from 0 ns
+  slots_count ns = length-map (enumerate_from 0 ns) (slot_of g.nodes) ∙ length-enumerate_from 0 ns
 
   -- no node before has the path
   path_free : (ns ms : List Node) (n : Node) → g.nodes ≡ ns ++ n ∷ ms → is_path_taken (made g ns).config n.path ≡ false

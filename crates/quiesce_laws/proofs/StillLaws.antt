@@ -3,6 +3,7 @@ use Rattle.std.proofs.Common.{cond, Bool, ◌≡◌, ℕ, ◌<◌, true, false, 
 use Rattle.std.specs.Prelude.{◌⊎◌, ◌==◌, option_map}
 use Rattle.std.specs.Option.{option_map_or}
 use Rattle.std.proofs.lemmas.Bool.{and_parts, and_from, both_ways, eqb-true, false_from_ne_true, not-true}
+use Rattle.std.proofs.lemmas.Option.{slice_get_within}
 use Rattle.config_graph.specs.declared.node.Target.{Target}
 use Rattle.quiesce_core.specs.declared.event.Event.{Event}
 use Rattle.quiesce_core.specs.declared.event.Event.TheVariants.{Take, Reopen, Link}
@@ -23,7 +24,7 @@ use Rattle.quiesce_core.proofs.TableLaws.{gate_place}
 use Rattle.quiesce_laws.specs.Events.{is_link, is_reopen_or_link, reopens}
 use Rattle.quiesce_laws.proofs.ExtensionLaws.{closed_next, extends_next, no_new_link, owned_before, reached_before}
 use Rattle.quiesce_laws.proofs.ExchangeLaws.{PortStep, stays, begins, calls, ends, port_step}
-use Rattle.base.proofs.PlaceLaws.{slice_get-below, slice_get-there}
+use Rattle.base.proofs.PlaceLaws.{slice_get-there}
 use Rattle.quiesce_core.specs.Alters.{service_by}
 use Rattle.quiesce_core.specs.Runs.{is_doer}
 use Rattle.quiesce_core.proofs.AlterLaws.{services_next}
@@ -124,7 +125,7 @@ still_next s e n w t l h still =
     let m = slice_get-there s.config.slots n still.made in
     let now = extends_.nodes n m.0 m.1 in
     record {
-      made = slice_get-below (effect s e).config.slots n now.now now.there;
+      made = slice_get_within (effect s e).config.slots n now.now now.there;
       quiet = λ q c. quiet_next s e n w t l h still q (⊎_elim
           (λ (own : IsPortOf (effect s e).config n q). inl (owned_before s.config (effect s e).config extends_ n q still.made own))
           (λ (r : Reach (wiring_of (effect s e).config) n q). inr (reached_before s.config (effect s e).config w.sound extends_ old n q r)) c);

@@ -49,16 +49,6 @@ nodes_do_no_change s n (Unlink p) h = absurd (cc h)
 nodes_do_no_change s n (Remove k) h = absurd (cc h)
 nodes_do_no_change s n _ h = refl
 
--- and no node does what a change does
-pub changes_have_no_doer : (s : State) (x : Event) → is_of_change x ≡ true → doer s x ≡ None
-changes_have_no_doer s (Close p) h = refl
-changes_have_no_doer s (Reopen p) h = refl
-changes_have_no_doer s (Make k node from) h = refl
-changes_have_no_doer s (Link p k y) h = refl
-changes_have_no_doer s (Unlink p) h = refl
-changes_have_no_doer s (Remove k) h = refl
-changes_have_no_doer s _ h = absurd (both_ways false refl h)
-
 pub by_owner : (s : State) (n : ℕ) (e : Event) → is_of_owner e ≡ true → is_doer s n e ≡ true → owner s.config (port_of e) ≡ n
 by_owner s n (Begin p k v) o d = eqb-true (owner s.config p) n d
 by_owner s n (Call p k v) o d = eqb-true (owner s.config p) n d

@@ -21,10 +21,7 @@ use Rattle.quiesce_core.proofs.RunLaws.{runs_are_well_formed}
 use Rattle.quiesce_core.specs.Doers.{is_end_at}
 use Rattle.quiesce_laws.specs.Events.{ends_transaction}
 use Rattle.quiesce_laws.proofs.SerialLaws.{tallied}
-use Rattle.base.proofs.SumLaws.{at_term, sum_le, sum_plus, sum_term, sum_zero, term_here, term_there}
-
-pub sum_same : (f g : ℕ → ℕ) (n : ℕ) → ((i : ℕ) → f i ≡ g i) → sum_by f (range_with_len 0 n) ≡ sum_by g (range_with_len 0 n)
-sum_same f g n h = omega (arith, sum_le f g 0 n (λ i. omega (arith, h i)), sum_le g f 0 n (λ i. omega (arith, h i)))
+use Rattle.base.proofs.SumLaws.{at_term, sum_plus, sum_term, sum_zero, term_here, term_there, sum_same}
 
 -- an event ends a transaction of one port, if any
 one_end : (e : Event) (n : ℕ) → ((q : ℕ) → n ≤ q → is_end_at q e ≡ false) → sum_by (λ p. cond (is_end_at p e) 1 0) (range_with_len 0 n) ≡ cond (ends_transaction e) 1 0

@@ -1,17 +1,26 @@
 -- Ports that are closed or reopened, one after the other: nothing changes but their gates, and no graph.
-use Rattle.std.proofs.Common.{◌≡◌, ℕ, ◌<◌, Bool, List, [], ◌∷◌, length, length-set, refl, sym, ap, ◌∙◌, subst, inl, inr, ⊎_elim, arith, true, lt-ltb}
+use Rattle.std.proofs.Common.{◌≡◌, ℕ, ◌<◌, Bool, List, [], ◌∷◌, length, length-set, refl, sym, ap, ◌∙◌, subst, inl, inr, ⊎_elim, arith, true, lt-ltb, false, ◌++◌}
 use Rattle.std.specs.Prelude.{◌⊎◌, nat_lt}
-use Rattle.std.proofs.lemmas.Bool.{and_from, and_parts, cases_eq, ltb-true}
+use Rattle.std.proofs.lemmas.Bool.{and_from, and_parts, cases_eq, ltb-true, both_ways}
+use Rattle.std.specs.List.{list_any}
 use Rattle.config_graph.specs.Graph.{Graph}
 use Rattle.config_graph.specs.declared.node.Node.{Node}
 use Rattle.quiesce_core.specs.declared.state.Gate.{Gate}
 use Rattle.quiesce_core.specs.declared.state.Slot.{Slot}
-use Rattle.quiesce_core.specs.Effect.{with_closed, with_gate}
+use Rattle.quiesce_core.specs.Effect.{with_closed, with_gate, effect}
 use Rattle.quiesce_core.specs.Live.{AreLinked, IsGraphOf, IsLiveAt}
-use Rattle.quiesce_core.specs.State.{Configuration, gate, is_live, owner, slot, target}
+use Rattle.quiesce_core.specs.State.{Configuration, gate, is_live, owner, slot, target, State}
 use Rattle.quiesce_core.proofs.SoundnessLaws.{put_elsewhere, put_here, put_owner, put_require}
 use Rattle.quiesce_laws.specs.Lists.{In}
+use Rattle.quiesce_laws.specs.Steps.{is_shaping}
 use Rattle.quiesce_core.specs.Rules.{is_live_port}
+use Rattle.quiesce_core.specs.declared.event.Event.TheVariants as event
+use Rattle.quiesce_core.specs.declared.event.Event.{Event}
+use Rattle.quiesce_core.specs.Legal.{Legal}
+use Rattle.quiesce_core.specs.Runs.{IsRun, state_after}
+use Rattle.quiesce_core.proofs.InductionLaws.{along}
+use Rattle.quiesce_core.proofs.TableLaws.{gate_place}
+use Rattle.quiesce_core.specs.Doers.{is_of_change}
 
 -- two configurations that differ in gates' flags at most
 pub record SameLinks (c d : Configuration) : Type 0 where
@@ -142,3 +151,37 @@ turn_start c flag all live = record {
   turned = λ q i. inl i;
   others = λ q out. refl;
 }
+
+-- while nothing shapes the configuration its nodes and links stay
+
+pub links_next : (c : Configuration) (s : State) (e : Event) → Legal s e → is_shaping e ≡ false → SameLinks c s.config → SameLinks c (effect s e).config
+links_next c s (event.Begin p k v) l h same = same
+links_next c s (event.Call p k v) l h same = same
+links_next c s (event.Miss p) l h same = same
+links_next c s (event.Take p k v) l h same = same
+links_next c s (event.Give p k v) l h same = same
+links_next c s (event.More p k v) l h same = same
+links_next c s (event.Ask p k v) l h same = same
+links_next c s (event.Hear p k v) l h same = same
+links_next c s (event.End p k v) l h same = same
+links_next c s (event.Close p) l h same = same_turned c s.config p true (gate_place s p l.live) same
+links_next c s (event.Reopen p) l h same = same_turned c s.config p false (gate_place s p l.live) same
+links_next c s (event.Make n node from) l h same = absurd (both_ways true h refl)
+links_next c s (event.Link p n x) l h same = absurd (both_ways true h refl)
+links_next c s (event.Unlink p) l h same = absurd (both_ways true h refl)
+links_next c s (event.Remove n) l h same = absurd (both_ways true h refl)
+
+pub links_stay : (es more_ : List Event) → IsRun (es ++ more_) → list_any is_shaping more_ ≡ false → SameLinks (state_after es).config (state_after (es ++ more_)).config
+links_stay es more_ run h =
+    along (λ xs. SameLinks (state_after es).config (state_after xs).config) is_shaping
+    (λ before e here free same. subst (λ (s : State). SameLinks (state_after es).config s.config) (sym here.next) (links_next (state_after es).config (state_after before) e here.legal free same))
+    es more_ run h (record { slots = refl; long = refl; owners = λ q. refl; requirements = λ q. refl; targets = λ q. refl })
+
+pub no_node_shapes : (e : Event) → is_of_change e ≡ false → is_shaping e ≡ false
+no_node_shapes (event.Close p) h = refl
+no_node_shapes (event.Reopen p) h = refl
+no_node_shapes (event.Make n node from) h = absurd (both_ways true h refl)
+no_node_shapes (event.Link p n x) h = absurd (both_ways true h refl)
+no_node_shapes (event.Unlink p) h = absurd (both_ways true h refl)
+no_node_shapes (event.Remove n) h = absurd (both_ways true h refl)
+no_node_shapes _ h = refl

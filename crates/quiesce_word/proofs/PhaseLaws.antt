@@ -1,6 +1,6 @@
 -- Phases: which one passes a test, and how the tests exclude each other.
 use Rattle.std.proofs.Common.{◌≡◌, true, false, ◌||◌, refl}
-use Rattle.std.proofs.lemmas.Bool.{both_ways}
+use Rattle.std.proofs.lemmas.Bool.{both_ways, false_from_ne_true}
 use Rattle.quiesce_word.specs.Phases.{is_idle, is_asked, is_answered, is_in_more}
 use Rattle.quiesce_word.specs.declared.phase.Phase.{Phase}
 use Rattle.quiesce_word.specs.declared.phase.Phase.TheVariants as phase
@@ -92,3 +92,10 @@ more_not_answered phase.Idle h = refl
 more_not_answered phase.Asked h = refl
 more_not_answered phase.Answered h = absurd (both_ways false refl h)
 more_not_answered phase.More h = refl
+
+pub idle_not_asked : (f : Phase) → is_idle f ≡ true → is_asked f ≡ false
+idle_not_asked f h = false_from_ne_true (is_asked f) (λ asked. both_ways (is_idle f) (asked_busy f asked) h)
+
+pub more_not_asked : (f : Phase) → is_in_more f ≡ true → is_asked f ≡ false
+more_not_asked phase.More h = refl
+more_not_asked _ h = absurd (both_ways false refl h)

@@ -6,26 +6,13 @@ use Rattle.std.specs.Option.{option_map_or}
 use Rattle.std.proofs.lemmas.Bool.{and_parts, both_ways, cases_Bool, cases_lt, false_from_ne_true, lt-ltb, ltb-true, or_cases, or_left, or_right}
 use Rattle.std.proofs.lemmas.List.{drop-append-le, drop_all, length-append, length-take-le, take_more}
 use Rattle.std.proofs.lemmas.List.Folds.{list_any-append}
+use Rattle.std.proofs.Math.Bool.{and-true, and-false, or-false}
 use Rattle.report_types.specs.declared.report.HistoryLine.{HistoryLine}
 use Rattle.report_types.specs.declared.report.HistoryLine.TheVariants as to
 use Rattle.change_spec.specs.Members.{is_close}
 use Rattle.merge_laws.specs.Guarded.{closes_before, is_root_line}
 use Rattle.report_check.specs.Ahead.{AreNoted, Updated, bound_of}
 use Rattle.report_check.specs.declared.closes.Root.{Root}
-
--- ---- tests of what is left, with one line more at its end
-
-and_false : (b : Bool) → b && false ≡ false
-and_false true = refl
-and_false false = refl
-
-or_no : (b : Bool) → b || false ≡ b
-or_no true = refl
-or_no false = refl
-
-and_true : (b : Bool) → b && true ≡ b
-and_true true = refl
-and_true false = refl
 
 regrouped : (c r one b more_ : Bool) → (c && (r || (one || false))) || (b || (more_ && one)) ≡ ((c && r) || b) || ((c || more_) && one)
 regrouped true true one b more_ = refl
@@ -39,7 +26,7 @@ regrouped false r one false more_ = refl
 
 closes_behind : (p k : ℕ) (xs : List HistoryLine) (l : HistoryLine)
     → closes_before p k (xs ++ l ∷ []) ≡ closes_before p k xs || (list_any is_close xs && is_root_line p k l)
-closes_behind p k [] l = ap (λ b. b || false) (and_false (is_close l))
+closes_behind p k [] l = ap (λ b. b || false) (and-false (is_close l))
 closes_behind p k (x ∷ xs) l =
     ap₂ (λ a b. (is_close x && a) || b) (list_any-append (is_root_line p k) xs (l ∷ [])) (closes_behind p k xs l)
     ∙ regrouped (is_close x) (list_any (is_root_line p k) xs) (is_root_line p k l) (closes_before p k xs) (list_any is_close xs)
@@ -83,7 +70,7 @@ closes_at place ls l = by (split_place ls l place)
     by : At ls l place → list_any is_close (drop place (ls ++ l ∷ [])) ≡ list_any is_close (drop place ls) || (nat_lt place (length ls + 1) && is_close l)
     by (within le e) =
         ap (list_any is_close) e ∙ list_any-append is_close (drop place ls) (l ∷ [])
-        ∙ ap (λ b. list_any is_close (drop place ls) || b) (or_no (is_close l) ∙ sym (ap (λ b. b && is_close l) (lt-ltb place (length ls + 1) (omega arith))))
+        ∙ ap (λ b. list_any is_close (drop place ls) || b) (or-false (is_close l) ∙ sym (ap (λ b. b && is_close l) (lt-ltb place (length ls + 1) (omega arith))))
     by (beyond gt e f) =
         ap (list_any is_close) e
         ∙ sym (ap₂ (λ xs b. list_any is_close xs || (b && is_close l)) f (false_from_ne_true (nat_lt place (length ls + 1)) (λ t. let low = ltb-true place (length ls + 1) t in omega arith)))
@@ -97,8 +84,8 @@ close_noted bounds bound q ls w =
     record {
       closes = λ place. closes_at place ls (to.Close q) ∙ only place (cases_Bool (list_any is_close (drop place ls)));
       roots = λ p k place.
-          roots_at p k place ls (to.Close q) ∙ ap (λ b. closes_before p k (drop place ls) || b) (and_false (list_any is_close (drop place ls)))
-          ∙ or_no (closes_before p k (drop place ls)) ∙ w.roots p k place;
+          roots_at p k place ls (to.Close q) ∙ ap (λ b. closes_before p k (drop place ls) || b) (and-false (list_any is_close (drop place ls)))
+          ∙ or-false (closes_before p k (drop place ls)) ∙ w.roots p k place;
     }
   where
     -- where a close is left there is a line
@@ -114,7 +101,7 @@ close_noted bounds bound q ls w =
     only : (place : ℕ) → (list_any is_close (drop place ls) ≡ true) ⊎ (list_any is_close (drop place ls) ≡ false)
         → list_any is_close (drop place ls) || (nat_lt place (length ls + 1) && true) ≡ nat_lt place (length ls + 1)
     only place (inl t) = ap (λ b. b || (nat_lt place (length ls + 1) && true)) t ∙ sym (low place t)
-    only place (inr f) = ap (λ b. b || (nat_lt place (length ls + 1) && true)) f ∙ and_true (nat_lt place (length ls + 1))
+    only place (inr f) = ap (λ b. b || (nat_lt place (length ls + 1) && true)) f ∙ and-true (nat_lt place (length ls + 1))
 
 -- a line that tells a root
 pub root_noted : (bounds bounds' : List (Root × ℕ)) (bound q j : ℕ) (ls : List HistoryLine) → AreNoted bounds bound ls
@@ -122,8 +109,8 @@ pub root_noted : (bounds bounds' : List (Root × ℕ)) (bound q j : ℕ) (ls : L
 root_noted bounds bounds' bound q j ls w put =
     record {
       closes = λ place.
-          closes_at place ls (to.Root q j) ∙ ap (λ b. list_any is_close (drop place ls) || b) (and_false (nat_lt place (length ls + 1)))
-          ∙ or_no (list_any is_close (drop place ls)) ∙ w.closes place;
+          closes_at place ls (to.Root q j) ∙ ap (λ b. list_any is_close (drop place ls) || b) (and-false (nat_lt place (length ls + 1)))
+          ∙ or-false (list_any is_close (drop place ls)) ∙ w.closes place;
       roots = λ p k place. roots_at p k place ls (to.Root q j) ∙ is p k place (cases_Bool (q == p && j == k));
     }
   where
@@ -136,7 +123,7 @@ root_noted bounds bounds' bound q j ls w put =
 
     taken : (b c : Bool) → (b ≡ true → c ≡ true) → b || (c && true) ≡ c
     taken true c h = sym (h refl)
-    taken false c h = and_true c
+    taken false c h = and-true c
 
     is : (p k place : ℕ) → ((q == p && j == k) ≡ true) ⊎ ((q == p && j == k) ≡ false)
         → closes_before p k (drop place ls) || (list_any is_close (drop place ls) && (q == p && j == k))
@@ -147,8 +134,8 @@ root_noted bounds bounds' bound q j ls w put =
         ∙ w.closes place ∙ sym (ap (λ o. option_map_or (nat_lt place) o false) (new_bound p k true t))
     is p k place (inr f) =
         ap (λ b. closes_before p k (drop place ls) || (list_any is_close (drop place ls) && b)) f
-        ∙ ap (λ b. closes_before p k (drop place ls) || b) (and_false (list_any is_close (drop place ls)))
-        ∙ or_no (closes_before p k (drop place ls)) ∙ w.roots p k place
+        ∙ ap (λ b. closes_before p k (drop place ls) || b) (and-false (list_any is_close (drop place ls)))
+        ∙ or-false (closes_before p k (drop place ls)) ∙ w.roots p k place
         ∙ sym (ap (λ o. option_map_or (nat_lt place) o false) (new_bound p k false f))
 
 -- any other line
@@ -158,12 +145,12 @@ other_noted bounds bound ls l w no_close no_root =
     record {
       closes = λ place.
           closes_at place ls l ∙ ap (λ b. list_any is_close (drop place ls) || (nat_lt place (length ls + 1) && b)) no_close
-          ∙ ap (λ b. list_any is_close (drop place ls) || b) (and_false (nat_lt place (length ls + 1)))
-          ∙ or_no (list_any is_close (drop place ls)) ∙ w.closes place;
+          ∙ ap (λ b. list_any is_close (drop place ls) || b) (and-false (nat_lt place (length ls + 1)))
+          ∙ or-false (list_any is_close (drop place ls)) ∙ w.closes place;
       roots = λ p k place.
           roots_at p k place ls l ∙ ap (λ b. closes_before p k (drop place ls) || (list_any is_close (drop place ls) && b)) (no_root p k)
-          ∙ ap (λ b. closes_before p k (drop place ls) || b) (and_false (list_any is_close (drop place ls)))
-          ∙ or_no (closes_before p k (drop place ls)) ∙ w.roots p k place;
+          ∙ ap (λ b. closes_before p k (drop place ls) || b) (and-false (list_any is_close (drop place ls)))
+          ∙ or-false (closes_before p k (drop place ls)) ∙ w.roots p k place;
     }
 
 -- ---- the same by places

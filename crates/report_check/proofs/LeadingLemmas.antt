@@ -1,11 +1,12 @@
 -- Ways one behind the other, and that each member that comes leaves one less.
-use Rattle.std.proofs.Common.{◌≡◌, ◌∙◌, ◌⊎◌, ℕ, zero, suc, ◌+◌, ◌*◌, ◌<◌, ◌≤◌, Bool, true, false, ◌||◌, cond, List, [], ◌∷◌, ◌++◌, length, get_or, set, refl, sym, ap, subst, ⊎_elim, inl, inr, arith}
+use Rattle.std.proofs.Common.{◌≡◌, ◌∙◌, ◌⊎◌, ℕ, zero, suc, ◌+◌, ◌*◌, ◌<◌, ◌≤◌, Bool, true, false, ◌||◌, cond, List, [], ◌∷◌, ◌++◌, length, refl, sym, ap, subst, ⊎_elim, inl, inr, arith}
 use Rattle.std.specs.Prelude.{fold}
 use Rattle.std.proofs.lemmas.Bool.{and_from, and_parts, both_ways, cases_lt}
 use Rattle.std.proofs.lemmas.List.Sums.{fold-append}
 use Rattle.quiesce_core.specs.declared.event.Event.{Event}
 use Rattle.report_types.specs.declared.report.HistoryLine.{HistoryLine}
-use Rattle.merge_laws.specs.Guarded.{Left, amount, can_go, do_first, go, left, log_of, may_do_first, may_go, may_tell_first, tell_first}
+use Rattle.merge_laws.specs.Guarded.{Left, can_go, do_first, go, left, log_of, may_do_first, may_go, may_tell_first, tell_first}
+use Rattle.merge_laws.proofs.GuardedLaws.{shorter}
 use Rattle.report_check.specs.Going.{IsTried}
 use Rattle.report_check.specs.Ways.{IsPassed, IsSwept, LeadsOn}
 
@@ -25,21 +26,6 @@ ways_join x y z a b =
 pub tried_leads : (x : Left) (c : ℕ) (came : Bool) (y : Left) → IsTried x c came y → LeadsOn x y
 tried_leads x c true y t = record { way = c ∷ []; can = and_from (may_go x c) true (sym t.came_is) refl; to = sym t.new_is }
 tried_leads x c false y t = record { way = []; can = refl; to = sym t.new_is }
-
--- ---- one less is left
-
-shorter : (logs : List (List Event)) (n : ℕ) (e : Event) (rest : List Event) → get_or logs n [] ≡ e ∷ rest → amount (set logs n rest) + 1 ≡ amount logs
-shorter [] n e rest h = absurd (cc (h))
-shorter (l ∷ logs) zero e rest h =
-    let now : amount (set (l ∷ logs) 0 rest) ≡ length rest + amount logs = refl in
-    let was : amount (l ∷ logs) ≡ length l + amount logs = refl in
-    let one : length l ≡ length (e ∷ rest) = ap (λ (es : List Event). length es) h in
-    let more_ : length (e ∷ rest) ≡ length rest + 1 = omega arith in
-    omega (arith, now, was, one, more_)
-shorter (l ∷ logs) (suc n) e rest h =
-    let now : amount (set (l ∷ logs) (suc n) rest) ≡ length l + amount (set logs n rest) = refl in
-    let was : amount (l ∷ logs) ≡ length l + amount logs = refl in
-    omega (arith, now, was, shorter logs n e rest h)
 
 line_less : (x : Left) (ls : List HistoryLine) → x.lines ≡ ls → may_tell_first x.state ls ≡ true → left (tell_first x ls) + 1 ≡ left x
 line_less x [] e h = absurd (both_ways false refl h)

@@ -4,7 +4,7 @@ use Rattle.std.specs.Prelude.{fold, find, is_none, option_map, option_and_then, 
 use Rattle.std.specs.List.{list_all, range_with_len}
 use Rattle.std.specs.Option.{option_map_or, option_or}
 use Rattle.std.proofs.lemmas.Bool.{and_from, and_parts, both_ways, cases_eq, eqb-true, eq-eqb}
-use Rattle.std.proofs.lemmas.Option.{none-some, same_Some, get_or_from_slice_get, slice_get-map}
+use Rattle.std.proofs.lemmas.Option.{none-some, same_Some, get_or_from_slice_get, slice_get-map, cond_some}
 use Rattle.std.proofs.lemmas.Slice.Eq.{bytes_eq-Decides}
 use Rattle.std.proofs.lemmas.List.{length-append, length-set}
 use Rattle.std.proofs.lemmas.List.Folds.{find-append}
@@ -84,10 +84,6 @@ ends_if s None (last.State xs) h = (bytes_eq-Decides (moves.numbers s) xs).1 h
 ends_if s (Some j) (last.Moved i) h = eq-eqb j i (sym h)
 ends_if s None (last.Moved i) h = absurd h
 ends_if s (Some j) (last.State xs) h = absurd h
-
-pub where_true : {A : Type 0} (b : Bool) (x y : A) → cond b (Some x) None ≡ Some y → (b ≡ true) × (x ≡ y)
-where_true true x y is = (refl, same_Some x y is)
-where_true false x y is = absurd (none-some y is)
 
 -- ---- which kind a number is
 
@@ -207,7 +203,7 @@ module _ (report : Report) (t : Nodes) (stands : StandsFor report.history t) (or
     log_then heir l s is =
         let opened_ = made_of_one (led_on m.first_port heir l) (opened x.kept (made_in m)) s is in
         let led_ = made_of_one (closed_so heir l.last) (led_through m.first_port opened_.0 l.events) s opened_.2 in
-        let closed_ = where_true (ends_so led_.0 heir l.last) led_.0 s led_.2 in
+        let closed_ = cond_some (ends_so led_.0 heir l.last) led_.0 s led_.2 in
         (opened_.0, opened_.1, led_.1 ∙ ap Some closed_.1, ap (λ z. ends_so z heir l.last) (sym closed_.1) ∙ closed_.0)
 
     module _ (l : NodeLog) (there : slice_get report.logs i ≡ Some l) where

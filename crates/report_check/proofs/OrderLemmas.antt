@@ -5,9 +5,9 @@ use Rattle.std.specs.Option.{option_map_or}
 use Rattle.std.proofs.lemmas.Bool.{and_parts, both_ways, eqb-true, ltb-true}
 use Rattle.std.proofs.lemmas.List.{get_or-set_other, length-append, length-set}
 use Rattle.std.proofs.lemmas.Grind.{get_or-set_at}
-use Rattle.std.proofs.lemmas.Option.{none-some, same_Some, slice_get-get_or}
+use Rattle.std.proofs.lemmas.Option.{none-some, same_Some, slice_get-get_or, slice_get_within}
 use Rattle.base.proofs.OptionLaws.{map_or_true}
-use Rattle.base.proofs.PlaceLaws.{fresh_behind, slice_get-below, slice_get-push_cases, slice_get-set_cases}
+use Rattle.base.proofs.PlaceLaws.{fresh_behind, slice_get-push_cases, slice_get-set_cases}
 use Rattle.config_graph.specs.Kinds.{row}
 use Rattle.config_graph.specs.declared.node.Node.{Node}
 use Rattle.config_graph.specs.declared.TheConstants.{MAX_NODES, MAX_PORTS, VALUE_LIMIT}
@@ -80,7 +80,7 @@ module _ (t : Nodes) (n : ℕ) (node : Node) (from : Option ℕ) (h : IsOrderly 
       let over = (and_parts (has_room t n node && has_its_argument node) (option_map_or (may_go_over t) from true) ok).1 in
       let here : may_go_over t k ≡ true = sym (ap (λ o. option_map_or (may_go_over t) o true) is) ∙ over in
       let m = map_or_true (λ (m : MadeNode). not m.live && is_none (slice_index_or t.heirs k None)) (slice_get t.made k) here in
-      (omega (arith, n_is, slice_get-below t.made k m.0 m.1), (and_parts (not m.0.live) (is_none (slice_index_or t.heirs k None)) m.2).1)
+      (omega (arith, n_is, slice_get_within t.made k m.0 m.1), (and_parts (not m.0.live) (is_none (slice_index_or t.heirs k None)) m.2).1)
 
   abbrev new : MadeNode
   new = record { kind = node.kind; arg = node.arg; first_port = t.ports; from = from; live = true }

@@ -5,8 +5,8 @@ use Rattle.std.specs.List.{range_with_len}
 use Rattle.std.proofs.lemmas.Bool.{eqb-true, eq-eqb}
 use Rattle.std.proofs.lemmas.List.{ext_get_or, length-map}
 use Rattle.std.proofs.lemmas.List.FromFn.{get_or-range_with_len, length-range_with_len}
-use Rattle.std.proofs.lemmas.Option.{none-some, same_Some, get_or_from_slice_get, slice_get-get_or, slice_get-map}
-use Rattle.base.proofs.PlaceLaws.{slice_get-below, slice_get-there}
+use Rattle.std.proofs.lemmas.Option.{none-some, same_Some, get_or_from_slice_get, slice_get-get_or, slice_get-map, slice_get_within, cond_some}
+use Rattle.base.proofs.PlaceLaws.{slice_get-there}
 use Rattle.quiesce_core.specs.State.{Configuration, slot}
 use Rattle.quiesce_core.specs.declared.state.Slot.{Slot}
 use Rattle.report_types.specs.declared.report.Last.TheVariants as last
@@ -21,16 +21,12 @@ use Rattle.report_check.specs.Leading.{Led, behind_opening, if_complete, log_of_
 use Rattle.report_check.specs.RightAlone.{HasFreeSource, HasRightLogs, IsFreeSource, has_values}
 use Rattle.report_check.specs.Tables.{Nodes, no_nodes, read_lines}
 use Rattle.report_check.specs.declared.tables.MadeNode.{MadeNode}
-use Rattle.report_check.proofs.LedLemmas.{HasLed, OpensSo, came_to, ends_then, goes_to, has_more, led_more, led_to, log_then, made_at, made_of, opens, opens_so, told, where_true}
+use Rattle.report_check.proofs.LedLemmas.{HasLed, OpensSo, came_to, ends_then, goes_to, has_more, led_more, led_to, log_then, made_at, made_of, opens, opens_so, told}
 use Rattle.report_check.proofs.OrderLemmas.{IsOrderly, no_order, orders}
 use Rattle.report_check.proofs.PartlyLemmas.{none_stays}
 use Rattle.report_check.proofs.TableLemmas.{StandsFor, lines_may_be_read, lines_read, made_in, nothing_stands}
-use Rattle.base.proofs.OptionLaws.{made_of_one}
+use Rattle.base.proofs.OptionLaws.{made_of_one, option_map_some}
 use Rattle.change_spec.proofs.MemberLaws.{ended_there}
-
-mapped : {A B : Type 0} (f : A → B) (o : Option A) (y : B) → option_map f o ≡ Some y → (x : A) × (o ≡ Some x) × (f x ≡ y)
-mapped f None y is = absurd (none-some y is)
-mapped f (Some x) y is = (x, refl, same_Some (f x) y is)
 
 module _ (report : Report) (t : Nodes) (stands : StandsFor report.history t) (order : IsOrderly t) where
   abbrev c : Configuration
@@ -60,7 +56,7 @@ module _ (report : Report) (t : Nodes) (stands : StandsFor report.history t) (or
     right_by y slot_is (Some m) at is =
         let heir = slice_index_or t.heirs i None in
         let here = ap (option_and_then (λ (n : MadeNode). option_map (with_node (record x { kept = behind_opening x.kept n }) n i) (log_of_node x.kept heir l n))) (made_at report t stands order i m at) in
-        let w = mapped (with_node (record x { kept = behind_opening x.kept (made_in m) }) (made_in m) i) (log_of_node x.kept heir l (made_in m)) y (sym here ∙ is) in
+        let w = option_map_some (with_node (record x { kept = behind_opening x.kept (made_in m) }) (made_in m) i) (log_of_node x.kept heir l (made_in m)) y (sym here ∙ is) in
         let s = w.0 in
         let log = log_then report t stands order i x led m at heir l s w.1 in
         let opened_ : OpensSo report t stands order i x led m at log.0 = opens_so report t stands order i x led m at log.0 m.from refl log.1 in
@@ -172,7 +168,7 @@ module _ (report : Report) where
     logs_are_right u is =
         let x = made_of_one (if_complete t) (read_logs_on t no_logs report.logs) u is in
         let w = rights report t stands_ order_ report.logs 0 no_logs x.0 (none_led report t stands_ order_) (λ k. ap (slice_get report.logs) (let e : 0 + k ≡ k = omega arith in e)) x.1 in
-        let complete = where_true (length x.0.kept == length t.made) x.0.undone u x.2 in
+        let complete = cond_some (length x.0.kept == length t.made) x.0.undone u x.2 in
         let all_made : length x.0.kept ≡ length t.made = eqb-true (length x.0.kept) (length t.made) complete.0 in
         let long : length report.logs ≡ length t.made = omega (arith, w.0.long, all_made) in
         let right : (k : ℕ) (l : NodeLog) → slice_get report.logs k ≡ Some l → IsRightAt report t stands_ order_ k l = λ k l at.
@@ -185,7 +181,7 @@ module _ (report : Report) where
                 subst (λ n. EndsAs (fold_told report n) (moved_to report.history n) (get_or report.logs k l).last) (sym r.slot_is) r.ends;
             values = λ k l low. (right k (get_or report.logs k l) (slice_get-get_or report.logs k l low)).values;
             sources = λ n k m z at from told_k.
-                let low : n < length report.logs = omega (arith, slice_get-below d.slots n m at, many_made, long) in
+                let low : n < length report.logs = omega (arith, slice_get_within d.slots n m at, many_made, long) in
                 let l = slice_get-there report.logs n low in
                 (right n l.0 l.1).source k m z at from told_k;
           },
@@ -197,7 +193,7 @@ module _ (report : Report) where
         let slots = h.one_log_a_node ∙ stands_.slots in
         let long : length report.logs ≡ length t.made = sym (length-map report.logs (λ (l : NodeLog). l.slot)) ∙ ap length slots ∙ length-range_with_len 0 (length t.made) in
         let right : (k : ℕ) (l : NodeLog) → slice_get report.logs k ≡ Some l → IsRightAt report t stands_ order_ (0 + k) l = λ k l at.
-        let low : k < length report.logs = slice_get-below report.logs k l at in
+        let low : k < length report.logs = slice_get_within report.logs k l at in
         let same : get_or report.logs k l ≡ l = get_or_from_slice_get report.logs k l l at in
         let own : l.slot ≡ k =
         sym (get_or_from_slice_get (map (λ (m : NodeLog). m.slot) report.logs) k l.slot 0 (slice_get-map (λ (m : NodeLog). m.slot) report.logs k ∙ ap (option_map (λ (m : NodeLog). m.slot)) at))

@@ -7,14 +7,14 @@ use Rattle.std.proofs.lemmas.Bool.{and_parts, both_ways, cases_eq, eqb-true, eq-
 use Rattle.std.proofs.lemmas.List.{append-nil, get_or-set_other, length-append, length-map, length-set, map-append, map-set}
 use Rattle.std.proofs.lemmas.List.Elements.{filter_map-append}
 use Rattle.std.proofs.lemmas.List.Folds.{find-append, list_any-append}
-use Rattle.std.proofs.lemmas.Option.{none-some, same_Some, slice_get-map}
+use Rattle.std.proofs.lemmas.Option.{none-some, same_Some, slice_get-map, slice_get_within}
 use Rattle.std.proofs.Math.Bool.{or-false}
 use Rattle.std.proofs.lemmas.Grind.{get_or-set_at}
 use Rattle.std.proofs.lemmas.List.FromFn.{length-range_with_len}
 use Rattle.report_check.proofs.PartlyLemmas.{none_stays}
 use Rattle.base.specs.Each.{EachAfter}
 use Rattle.base.proofs.OptionLaws.{map_or_true}
-use Rattle.base.proofs.PlaceLaws.{fresh_behind, slice_get-below}
+use Rattle.base.proofs.PlaceLaws.{fresh_behind}
 use Rattle.base.proofs.RisingLaws.{places_more}
 use Rattle.config_graph.specs.Kinds.{row}
 use Rattle.config_graph.specs.declared.node.Node.{Node}
@@ -169,7 +169,7 @@ module _ (before : List HistoryLine) (n : ℕ) (node : Node) (from : Option ℕ)
         let over = (and_parts (has_room d n node && has_its_argument node) (option_map_or (is_left_over before) from true) ok).1 in
         let here : is_left_over before k ≡ true = sym (ap (λ o. option_map_or (is_left_over before) o true) is) ∙ over in
         let m = map_or_true (λ (m : Slot). not m.live && is_none (moved_to before k)) (slot d k) here in
-        (omega (arith, h.many, long, slice_get-below d.slots k m.0 m.1), none_is (moved_to before k) (and_parts (not m.0.live) (is_none (moved_to before k)) m.2).1)
+        (omega (arith, h.many, long, slice_get_within d.slots k m.0 m.1), none_is (moved_to before k) (and_parts (not m.0.live) (is_none (moved_to before k)) m.2).1)
       where
         none_is : (o : Option ℕ) → is_none o ≡ true → o ≡ None
         none_is None e = refl

@@ -3,7 +3,7 @@ use Rattle.std.proofs.Common.{◌≡◌, ◌∙◌, ℕ, suc, ◌+◌, ◌<◌, 
 use Rattle.std.specs.Prelude.{◌==◌, filter_map, nat_le, nat_lt, option_and_then, slice_get, if◌then◌else◌}
 use Rattle.std.specs.List.{count_by, list_all, prefix_len, range_with_len}
 use Rattle.std.proofs.lemmas.Bool.{and_from, and_parts, both_ways, eqb-true, eq-eqb, le-leb, leb-true, lt-ltb, ltb-true}
-use Rattle.std.proofs.lemmas.List.{append-nil, length-map, take-append-drop}
+use Rattle.std.proofs.lemmas.List.{append-nil, length-map, take-append-drop, length_push}
 use Rattle.std.proofs.lemmas.List.Folds.{length-prefix_len}
 use Rattle.std.proofs.lemmas.Option.{none-some}
 use Rattle.base.proofs.ListLaws.{count_by-cons}
@@ -18,10 +18,11 @@ use Rattle.merge_laws.specs.Descents.{descents, descents_from}
 use Rattle.merge_laws.specs.Reading.{IsCommittedSo, IsGivenUpSo}
 use Rattle.report_follows.specs.Fronts.{LeadsTo, are_told_once, begin_so, behind_abandon, behind_commit, behind_committed, behind_first, behind_given_up, behind_roots, is_pending_for}
 use Rattle.report_follows.specs.Testing.{drained_in, drained_port, falls_at, falls_in, is_fall, is_tellable, roots_in, told_port}
-use Rattle.report_follows.proofs.FrontLemmas.{drained_front, own_place, is_drained_line, is_root_line, one_more, root_front}
+use Rattle.report_follows.proofs.FrontLemmas.{drained_front, is_drained_line, is_root_line, root_front}
 use Rattle.report_follows.proofs.LineLemmas.{abandon_finds, abandon_means, commit_finds, commit_means, first_finds, first_means, lines_told, told}
 use Rattle.report_follows.proofs.SortedLemmas.{if_once, once_if}
 use Rattle.base.proofs.OptionLaws.{made_of_one}
+use Rattle.base.proofs.PlaceLaws.{own_place}
 
 -- ---- fronts of one sort
 
@@ -96,7 +97,7 @@ falls_from ys d [] = refl
 falls_from ys d (e ∷ seen) =
     let all = ys ++ drained_line d ∷ (drained_line e ∷ map drained_line seen) in
     let next_ = ys ++ drained_line d ∷ [] in
-    let long : length next_ ≡ length ys + 1 = one_more ys (drained_line d) in
+    let long : length next_ ≡ length ys + 1 = length_push ys (drained_line d) in
     let parted : next_ ++ drained_line e ∷ map drained_line seen ≡ all = append_assoc ys (drained_line d ∷ []) (drained_line e ∷ map drained_line seen) in
     let rest : count_by (falls_at all) (range_with_len (length ys + 1 + 1) (length seen)) ≡ descents_from e.port seen =
     ap (λ n. count_by (falls_at all) (range_with_len (n + 1) (length seen))) (sym long)

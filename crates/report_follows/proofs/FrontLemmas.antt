@@ -3,22 +3,12 @@ use Rattle.std.proofs.Common.{◌≡◌, ◌∙◌, ◌+◌, Bool, true, false, 
 use Rattle.std.specs.Prelude.{is_some, slice_get}
 use Rattle.std.specs.List.{list_all, prefix_len, range_with_len}
 use Rattle.std.proofs.lemmas.Bool.{and_from, and_parts, both_ways}
-use Rattle.std.proofs.lemmas.List.{append-nil, length-append}
+use Rattle.std.proofs.lemmas.List.{append-nil, length_push}
 use Rattle.std.proofs.lemmas.Option.{slice_get_past}
 use Rattle.base.proofs.MapLaws.{prefix_len-map}
-use Rattle.base.proofs.PlaceLaws.{slice_get-behind}
+use Rattle.base.proofs.PlaceLaws.{own_place}
 use Rattle.report_types.specs.declared.report.HistoryLine.{HistoryLine}
 use Rattle.report_follows.specs.Testing.{both, drained_in, drained_port, is_drained_at, is_root_at, root_port, roots_in}
-
--- ---- places of a list
-
-pub own_place : {A : Type 0} (ys xs : List A) (x : A) → slice_get (ys ++ x ∷ xs) (length ys) ≡ Some x
-own_place ys xs x =
-    let e : length ys + 0 ≡ length ys = omega arith in
-    ap (slice_get (ys ++ x ∷ xs)) (sym e) ∙ slice_get-behind ys (x ∷ xs) 0 x refl
-
-pub one_more : {A : Type 0} (ys : List A) (x : A) → length (ys ++ x ∷ []) ≡ length ys + 1
-one_more ys x = length-append ys (x ∷ [])
 
 -- what is computed at each place is what is computed of each element
 places : {A C : Type 0} (h : Option A → C) (ys xs : List A) → map (λ k. h (slice_get (ys ++ xs) k)) (range_with_len (length ys) (length xs)) ≡ map (λ x. h (Some x)) xs
@@ -26,7 +16,7 @@ places h ys [] = refl
 places h ys (x ∷ xs) =
     let rest = places h (ys ++ x ∷ []) xs in
     let more_ : map (λ k. h (slice_get (ys ++ x ∷ xs) k)) (range_with_len (length ys + 1) (length xs)) ≡ map (λ y. h (Some y)) xs =
-    ap (λ n. map (λ k. h (slice_get (ys ++ x ∷ xs) k)) (range_with_len n (length xs))) (sym (one_more ys x))
+    ap (λ n. map (λ k. h (slice_get (ys ++ x ∷ xs) k)) (range_with_len n (length xs))) (sym (length_push ys x))
     ∙ ap (λ zs. map (λ k. h (slice_get zs k)) (range_with_len (length (ys ++ x ∷ [])) (length xs))) (sym (append_assoc ys (x ∷ []) xs))
     ∙ rest in
     (λ i. h (own_place ys xs x i) ∷ more_ i)
@@ -50,10 +40,10 @@ pairs t fs [] bs (y ∷ ys) same =
     ap (λ o. both t o (slice_get (bs ++ y ∷ ys) (length bs)) && list_all (λ k. both t (slice_get (fs ++ []) k) (slice_get (bs ++ y ∷ ys) k)) (range_with_len (length bs + 1) (length ys))) past
     ∙ ap (λ b. b && list_all (λ k. both t (slice_get (fs ++ []) k) (slice_get (bs ++ y ∷ ys) k)) (range_with_len (length bs + 1) (length ys))) (both_none t (slice_get (bs ++ y ∷ ys) (length bs)))
 pairs t fs (x ∷ xs) bs (y ∷ ys) same =
-    let rest = pairs t (fs ++ x ∷ []) xs (bs ++ y ∷ []) ys (one_more fs x ∙ ap (λ n. n + 1) same ∙ sym (one_more bs y)) in
+    let rest = pairs t (fs ++ x ∷ []) xs (bs ++ y ∷ []) ys (length_push fs x ∙ ap (λ n. n + 1) same ∙ sym (length_push bs y)) in
     let first : slice_get (fs ++ x ∷ xs) (length bs) ≡ Some x = ap (slice_get (fs ++ x ∷ xs)) (sym same) ∙ own_place fs xs x in
     let more_ : list_all (λ k. both t (slice_get (fs ++ x ∷ xs) k) (slice_get (bs ++ y ∷ ys) k)) (range_with_len (length bs + 1) (length ys)) ≡ begins t xs ys =
-    ap (λ n. list_all (λ k. both t (slice_get (fs ++ x ∷ xs) k) (slice_get (bs ++ y ∷ ys) k)) (range_with_len n (length ys))) (sym (one_more bs y))
+    ap (λ n. list_all (λ k. both t (slice_get (fs ++ x ∷ xs) k) (slice_get (bs ++ y ∷ ys) k)) (range_with_len n (length ys))) (sym (length_push bs y))
     ∙ ap (λ zs. list_all (λ k. both t (slice_get zs k) (slice_get (bs ++ y ∷ ys) k)) (range_with_len (length (bs ++ y ∷ [])) (length ys))) (sym (append_assoc fs (x ∷ []) xs))
     ∙ ap (λ zs. list_all (λ k. both t (slice_get ((fs ++ x ∷ []) ++ xs) k) (slice_get zs k)) (range_with_len (length (bs ++ y ∷ [])) (length ys))) (sym (append_assoc bs (y ∷ []) ys))
     ∙ rest in

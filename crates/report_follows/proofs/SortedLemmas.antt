@@ -1,5 +1,5 @@
 -- A list that climbs and one that rises are one where they count the same: so what was seen is tested by sorting it.
-use Rattle.std.proofs.Common.{◌≡◌, ◌∙◌, ℕ, suc, ◌+◌, ◌<◌, ◌≤◌, get_or, Bool, true, false, ◌||◌, cond, List, [], ◌∷◌, refl, sym, ap, subst, ⊎_elim, arith}
+use Rattle.std.proofs.Common.{◌≡◌, ◌∙◌, ℕ, suc, ◌+◌, ◌≤◌, get_or, Bool, true, false, ◌||◌, cond, List, [], ◌∷◌, refl, sym, ap, subst, ⊎_elim, arith}
 use Rattle.std.specs.Prelude.{◌==◌, ◌↔◌, ◌++◌, Contains, IsTrue}
 use Rattle.std.specs.List.{count_by, list_all, list_any}
 use Rattle.std.specs.List.Sorted.{IsStrictlyIncreasing}
@@ -8,6 +8,7 @@ use Rattle.std.proofs.lemmas.List.Folds.{list_any-append}
 use Rattle.std.proofs.lemmas.List.Sums.{sum_by-cons}
 use Rattle.base.proofs.ContainsLaws.{Contains-here, Contains-there}
 use Rattle.base.proofs.ListLaws.{all_have, count_by-some, count_by-none}
+use Rattle.base.proofs.RisingLaws.{rise_tail}
 use Rattle.report_follows.specs.Fronts.{are_told_once}
 use Rattle.report_follows.specs.Sorting.{Climb}
 
@@ -18,11 +19,6 @@ climb_tail a xs h k low =
 
 rise_climbs : (xs : List ℕ) → IsStrictlyIncreasing xs → Climb xs
 rise_climbs xs h k low = let up = h k low in omega (arith, up)
-
-rise_tail : (a : ℕ) (xs : List ℕ) → IsStrictlyIncreasing (a ∷ xs) → IsStrictlyIncreasing xs
-rise_tail a xs h k low =
-    let f : suc k + 1 ≡ suc (k + 1) = omega arith in
-    subst (λ n. get_or xs k 0 < get_or (a ∷ xs) n 0) f (h (suc k) (omega (arith, low)))
 
 -- the first is the least
 least : (x p : ℕ) (xs : List ℕ) → Climb (x ∷ xs) → list_any (λ q. q == p) (x ∷ xs) ≡ true → x ≤ p

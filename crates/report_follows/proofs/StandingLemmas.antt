@@ -49,12 +49,13 @@ use Rattle.change_round_laws.proofs.LineLaws.{all_changes, changes, changes_both
 use Rattle.change_lists.specs.Layouts.{IsLayoutOf, place_in, port_of}
 use Rattle.change_lists.specs.Lists.{closed_by, commit_by, place_after, places_after, ports_after, ports_from}
 use Rattle.change_lists.specs.declared.layout.Layout.{Layout}
-use Rattle.change_lists.proofs.LayoutLaws.{started_layout}
+use Rattle.change_lists.proofs.LayoutLaws.{started_layout, same_laid}
+use Rattle.change_lists.proofs.ListingLaws.{ports_many}
 use Rattle.merge_laws.specs.Reading.{IsChangeSo}
 use Rattle.report_follows.specs.Readers.{AllCommitted, IsBehind, IsEndedSo}
 use Rattle.report_follows.specs.Testing.{is_tellable}
 use Rattle.report_follows.proofs.ExpectedLemmas.{commits_are_tellable, starts_are_tellable}
-use Rattle.report_follows.proofs.LayingLemmas.{opened_links, ports_many, same_laid}
+use Rattle.report_follows.proofs.LayingLemmas.{opened_links}
 
 -- ---- what the laws say that are called
 

@@ -20,14 +20,12 @@ use Rattle.report_lines.specs.ReportLines.{lacks}
 use Rattle.report_lines.proofs.NumberLemmas.{mapped, plain_is, plain_of}
 use Rattle.report_lines.proofs.LastLemmas.{follows}
 use Rattle.report_lines.proofs.BracketLemmas.{digits_lack}
+use Rattle.base.proofs.NumberLaws.{not_zero}
 
 record IsBelow (value : Option ℕ) (z : ℤ) : Type 0 where
   before : ℕ
   found : value ≡ Some (suc before)
   gives : negsuc before ≡ z
-
-not_zero : (n : ℕ) → (suc n == 0) ≡ false
-not_zero n = grind (arith, nat_tests)
 
 is_below : (value : Option ℕ) (z : ℤ) → below_zero value ≡ Some z → IsBelow value z
 is_below None z e = let never : ⊥ = cc in absurd never

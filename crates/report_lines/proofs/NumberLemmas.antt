@@ -12,6 +12,7 @@ use Rattle.std.proofs.lemmas.Fmt.{decimal_is_IsNumeral, decimal-digits_value, de
 use Rattle.std.proofs.lemmas.Str.Parse.{numerals_by_value, tells_all_ascii_digits}
 use Rattle.report_lines.specs.Parts.{before, is_used_up}
 use Rattle.report_lines.specs.Numbers.{is_plain, max32, one_in, plain, three_in, two_in, within}
+use Rattle.base.proofs.NumberLaws.{at_most}
 
 pub when_some : {A : Type 0} (b : Bool) (o : Option A) (y : A) → cond b o None ≡ Some y → (b ≡ true) × (o ≡ Some y)
 when_some true o y e = (refl, e)
@@ -41,9 +42,6 @@ plain_word (first ∷ rest) is small =
     let parts = and_parts (list_all is_ascii_digit word) (not (first == 48) || length word == 1) is in
     decimal-digits_value (numerals_by_value (λ ds. all_ascii_digits ds ≡ true) tells_all_ascii_digits) word (sym (same_digits word) ∙ parts.0) (omega arith) (lead_of first (length word) parts.1) small
 
-low_of : (n most : ℕ) → nat_le n most ≡ true → n ≤ most
-low_of n most holds = grind (arith, nat_tests)
-
 high_of : (n most : ℕ) → n ≤ most → nat_le n most ≡ true
 high_of n most low = grind (arith, nat_tests)
 
@@ -57,7 +55,7 @@ plain_is most word n small e =
     let outer = when_some (is_plain word) (within most (digits_value 10 word)) n e in
     let inner = when_some (nat_le (digits_value 10 word) most) (Some (digits_value 10 word)) n outer.1 in
     let value = same_Some (digits_value 10 word) n inner.1 in
-    let low = low_of (digits_value 10 word) most inner.0 in
+    let low = at_most (digits_value 10 word) most inner.0 in
     record { text = sym (plain_word word outer.0 (omega arith)) ∙ ap decimal value; low = omega arith }
 
 all_digits : (word : List ℕ) → AllDigits 10 word → list_all is_ascii_digit word ≡ true

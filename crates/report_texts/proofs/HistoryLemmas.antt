@@ -9,6 +9,7 @@ use Rattle.std.proofs.lemmas.Option.{same_Some}
 use Rattle.base.specs.Each.{EachAfter}
 use Rattle.base.proofs.BytesLaws.{same_bytes}
 use Rattle.base.proofs.FindLaws.{find_passes}
+use Rattle.base.proofs.BoolLaws.{no_is_yes}
 use Rattle.config_graph.specs.Graph.{Graph}
 use Rattle.config_graph.specs.GraphText.{graph_text}
 use Rattle.report_writing.specs.Reports.{SlotPath, ended, history_text, made_by, makes}
@@ -33,6 +34,7 @@ use Rattle.report_texts.specs.ReportTexts.{CanBeShown, CanStand, IsOneLine, Stan
 use Rattle.report_texts.specs.Stages.{Front, Past, front, history_from, is_after_pending, is_after_show, keeping, line_above, past_with, shown_in, stands, with_line}
 use Rattle.report_texts.specs.TextLines.{lines, tail}
 use Rattle.report_texts.proofs.LineLemmas.{AllLack, joined, line_at}
+use Rattle.report_texts.proofs.PendingLaws.{ends_so}
 
 -- ---- lines that are no graph's
 
@@ -145,34 +147,25 @@ record Placed (made : ℕ) (above : LineAbove) (says : HistoryLine) : Type 0 whe
   slot : IfSome (made_by says) (λ (m : SlotPath). m.slot ≡ made)
   opens : is_root says ≡ true → is_after_pending above ≡ true
 
-no_root : (b : Bool) → false ≡ true → b ≡ true
-no_root b e = absurd (false≢true e)
-
 placed : (made : ℕ) (above : LineAbove) (says : HistoryLine) → stands made above says ≡ true → Placed made above says
-placed made above (history.Make slot node from) is = record { slot = eqb-true slot made is; opens = λ e. no_root _ e }
+placed made above (history.Make slot node from) is = record { slot = eqb-true slot made is; opens = λ e. no_is_yes _ e }
 placed made above (history.Root port serial) is = record { slot = tt; opens = λ e. is }
-placed made above (history.Show graph) is = record { slot = tt; opens = λ e. no_root _ e }
-placed made above (history.Start name args) is = record { slot = tt; opens = λ e. no_root _ e }
-placed made above (history.Change name args) is = record { slot = tt; opens = λ e. no_root _ e }
-placed made above (history.Link port node provide) is = record { slot = tt; opens = λ e. no_root _ e }
-placed made above (history.Unlink port) is = record { slot = tt; opens = λ e. no_root _ e }
-placed made above (history.Remove node) is = record { slot = tt; opens = λ e. no_root _ e }
-placed made above (history.Close port) is = record { slot = tt; opens = λ e. no_root _ e }
-placed made above (history.Reopen port) is = record { slot = tt; opens = λ e. no_root _ e }
-placed made above (history.Drained port serial) is = record { slot = tt; opens = λ e. no_root _ e }
-placed made above history.Commit is = record { slot = tt; opens = λ e. no_root _ e }
-placed made above history.Abandon is = record { slot = tt; opens = λ e. no_root _ e }
-placed made above history.Skipped is = record { slot = tt; opens = λ e. no_root _ e }
-placed made above (history.Pending rounds) is = record { slot = tt; opens = λ e. no_root _ e }
-placed made above (history.Run k done) is = record { slot = tt; opens = λ e. no_root _ e }
-placed made above (history.Finish n rounds) is = record { slot = tt; opens = λ e. no_root _ e }
-placed made above history.Stop is = record { slot = tt; opens = λ e. no_root _ e }
-
--- what the last line of a history is
-pub ends_so : (past : List HistoryLine) (says : HistoryLine) → ends_pending (past ++ says ∷ []) ≡ is_pending_or_root says
-ends_so [] says = refl
-ends_so (first ∷ []) says = refl
-ends_so (first ∷ next ∷ more) says = ends_so (next ∷ more) says
+placed made above (history.Show graph) is = record { slot = tt; opens = λ e. no_is_yes _ e }
+placed made above (history.Start name args) is = record { slot = tt; opens = λ e. no_is_yes _ e }
+placed made above (history.Change name args) is = record { slot = tt; opens = λ e. no_is_yes _ e }
+placed made above (history.Link port node provide) is = record { slot = tt; opens = λ e. no_is_yes _ e }
+placed made above (history.Unlink port) is = record { slot = tt; opens = λ e. no_is_yes _ e }
+placed made above (history.Remove node) is = record { slot = tt; opens = λ e. no_is_yes _ e }
+placed made above (history.Close port) is = record { slot = tt; opens = λ e. no_is_yes _ e }
+placed made above (history.Reopen port) is = record { slot = tt; opens = λ e. no_is_yes _ e }
+placed made above (history.Drained port serial) is = record { slot = tt; opens = λ e. no_is_yes _ e }
+placed made above history.Commit is = record { slot = tt; opens = λ e. no_is_yes _ e }
+placed made above history.Abandon is = record { slot = tt; opens = λ e. no_is_yes _ e }
+placed made above history.Skipped is = record { slot = tt; opens = λ e. no_is_yes _ e }
+placed made above (history.Pending rounds) is = record { slot = tt; opens = λ e. no_is_yes _ e }
+placed made above (history.Run k done) is = record { slot = tt; opens = λ e. no_is_yes _ e }
+placed made above (history.Finish n rounds) is = record { slot = tt; opens = λ e. no_is_yes _ e }
+placed made above history.Stop is = record { slot = tt; opens = λ e. no_is_yes _ e }
 
 after_so : (b : Bool) → is_after_pending (cond b aboves.Pending aboves.Other) ≡ b
 after_so true = refl
@@ -489,7 +482,7 @@ module _ (version : Version) (reads : Reads) (all : List HistoryLine) (last : �
             ∙ (λ i. ended (codes "show") ++ (drawn.0 i ++ rest.text i))
             ∙ sym (append_assoc (ended (codes "show")) (graph_text graph) (flat_map history_text rest.more ++ flat_map ended (l ∷ left)))
             ∙ sym (append_assoc (history_text s) (flat_map history_text rest.more) (flat_map ended (l ∷ left)));
-        each = (record { can = drawn.1; slot = tt; opens = λ r. no_root _ r }, rest.each);
+        each = (record { can = drawn.1; slot = tt; opens = λ r. no_is_yes _ r }, rest.each);
         lack = rest.lack;
       }
   goes line more lack on past above number so next onward (says s said keeps there next_is) =

@@ -10,3 +10,4 @@ pub mod PastLemmas
 pub mod ShowingLemmas
 pub mod ParsingLemmas
 pub mod FaultLemmas
+pub mod PendingLaws

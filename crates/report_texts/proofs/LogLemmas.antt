@@ -1,14 +1,14 @@
 -- The logs of a report, and the lines behind them: what is written is read, and what is read was written.
-use Rattle.std.proofs.Common.{◌≡◌, ◌==◌, ◌+◌, ◌<◌, ◌%◌, ◌^◌, ℕ, suc, Bool, true, not, inl, inr, List, [], ◌∷◌, ◌++◌, Option, Some, None, codes, decimal, bytes_eq, refl, sym, ap, subst, ◌∙◌, append_assoc, arith, All}
+use Rattle.std.proofs.Common.{◌≡◌, ◌==◌, ◌+◌, ◌<◌, ◌%◌, ◌^◌, ℕ, Bool, true, not, inl, inr, List, [], ◌∷◌, ◌++◌, Option, Some, None, codes, decimal, bytes_eq, refl, sym, ap, subst, ◌∙◌, append_assoc, arith, All}
 use Rattle.std.specs.Prelude.{flat_map, Result, Ok, Err}
 use Rattle.std.specs.Option.{option_map_or}
 use Rattle.std.proofs.lemmas.Bool.{and_from, and_parts, cases_Bool, cond-true, cond-false}
-use Rattle.std.proofs.lemmas.Bool.Decides.{nat_tests}
 use Rattle.std.proofs.lemmas.Fmt.{decimal_by_steps}
 use Rattle.std.proofs.lemmas.List.{append-nil}
-use Rattle.std.proofs.lemmas.List.Elements.{All-cons}
+use Rattle.std.proofs.lemmas.List.Elements.{All-cons, All-head, All-tail, All-nil}
 use Rattle.std.proofs.lemmas.Option.{same_Some}
 use Rattle.base.proofs.BytesLaws.{bytes_eq_self, same_bytes}
+use Rattle.base.proofs.DecimalLaws.{no_feed}
 use Rattle.quiesce_core.specs.declared.event.Event.{Event}
 use Rattle.quiesce_core.specs.declared.event.Event.TheVariants as events
 use Rattle.report_writing.specs.Reports.{SlotPath, ended, event_text, last_text, log_head, log_text, path_in}
@@ -39,9 +39,6 @@ lacks_parts at (byte ∷ bytes) more is =
     let parts = and_parts (not (byte == at)) (lacks at (bytes ++ more)) is in
     let rest = lacks_parts at bytes more parts.1 in
     (and_from (not (byte == at)) (lacks at bytes) parts.0 rest.0, rest.1)
-
-no_feed : (digit : ℕ) → not (48 + digit == 10) ≡ true
-no_feed digit = grind (arith, nat_tests)
 
 pub decimal_lacks : (n : ℕ) → n < 2 ^ 64 → lacks 10 (decimal n) ≡ true
 decimal_lacks =
@@ -118,12 +115,6 @@ last_line (lasts.Moved slot) can = last_at (lasts.Moved slot) (with_one (codes "
 abbrev pub IsEvent : Version → Event → Type 0
 IsEvent version event = IsNodeEvent event × (event_keeps version event ≡ true)
 
-all_first : {A : Type 0} (P : A → Type 0) (x : A) (xs : List A) → All P (x ∷ xs) → P x
-all_first P x xs all = all 0 x (omega arith)
-
-all_rest : {A : Type 0} (P : A → Type 0) (x : A) (xs : List A) → All P (x ∷ xs) → All P xs
-all_rest P x xs all = λ k d low. all (suc k) d (omega arith)
-
 events_written : (version : Version) (rest line : List ℕ) (more : List (List ℕ)) → lines rest ≡ line ∷ more → event_in (words line) ≡ None → (later past : List Event) (number : ℕ) → All (IsEvent version) later
     → (n : ℕ) × (events_from version past number (lines (flat_map event_text later ++ rest)) ≡ front (past ++ later) n (lines rest))
 events_written version rest line more rest_is other [] past number all = (
@@ -132,12 +123,12 @@ events_written version rest line more rest_is other [] past number all = (
       ∙ (λ i. front (sym (append-nil past) i) number (sym rest_is i)),
 )
 events_written version rest line more rest_is other (event ∷ later) past number all =
-    let can = all_first (IsEvent version) event later all in
+    let can = All-head (IsEvent version) event later all in
     let text : List ℕ = flat_map event_text later ++ rest in
     let front_is : lines (flat_map event_text (event ∷ later) ++ rest) ≡ written event ∷ lines text
     = ap lines (append_assoc (event_text event) (flat_map event_text later) rest ∙ append_assoc (written event) (codes "\n") text) ∙ (line_at (written event) text (event_lacks event can.0)).ls in
     let found : event_of version (written event) ≡ Some event = ap (keeping (event_keeps version)) (read_event event can.0) ∙ keep_true (event_keeps version) event can.1 in
-    let on = events_written version rest line more rest_is other later (past ++ event ∷ []) (number + 1) (all_rest (IsEvent version) event later all) in (
+    let on = events_written version rest line more rest_is other later (past ++ event ∷ []) (number + 1) (All-tail (IsEvent version) event later all) in (
       on.0,
       ap (events_from version past number) front_is
           ∙ ap (λ o. option_map_or (λ event. events_from version (past ++ event ∷ []) (number + 1) (lines text)) o (front past number (written event ∷ lines text))) found
@@ -233,9 +224,6 @@ record EventsRead (version : Version) (past all : List Event) (said left : List 
   each : All (IsEvent version) more
   lack : AllLack left
 
-no_members : {A : Type 0} (P : A → Type 0) → All P []
-no_members P = λ k d low. absurd (omega arith)
-
 abbrev EventsGo : Version → Front (List Event) → List (List ℕ) → Type 0
 EventsGo version f ls = (past : List Event) (number : ℕ) → events_from version past number ls ≡ f → EventsRead version past f.read ls f.left
 
@@ -245,7 +233,7 @@ events_by version f line more lack on past number e None is =
     let here : front past number (line ∷ more) ≡ f
     = sym (ap (λ o. option_map_or (λ event. events_from version (past ++ event ∷ []) (number + 1) more) o (front past number (line ∷ more))) is) ∙ e in
     subst (λ (g : Front (List Event)). EventsRead version past g.read (line ∷ more) g.left) here
-    (record { more = []; is = sym (append-nil past); text = refl; each = no_members (IsEvent version); lack = lack })
+    (record { more = []; is = sym (append-nil past); text = refl; each = All-nil (IsEvent version); lack = lack })
 events_by version f line more lack on past number e (Some event) is =
     let onward : events_from version (past ++ event ∷ []) (number + 1) more ≡ f
     = sym (ap (λ o. option_map_or (λ event. events_from version (past ++ event ∷ []) (number + 1) more) o (front past number (line ∷ more))) is) ∙ e in
@@ -262,7 +250,7 @@ events_by version f line more lack on past number e (Some event) is =
 
 events_read : (version : Version) (f : Front (List Event)) (ls : List (List ℕ)) → AllLack ls → EventsGo version f ls
 events_read version f [] lack past number e =
-    subst (λ (g : Front (List Event)). EventsRead version past g.read [] g.left) e (record { more = []; is = sym (append-nil past); text = refl; each = no_members (IsEvent version); lack = tt })
+    subst (λ (g : Front (List Event)). EventsRead version past g.read [] g.left) e (record { more = []; is = sym (append-nil past); text = refl; each = All-nil (IsEvent version); lack = tt })
 events_read version f (line ∷ more) lack past number e =
     events_by version f line more lack (λ p n g. events_read version f more lack.1 p n g) past number e (event_of version line) refl
 

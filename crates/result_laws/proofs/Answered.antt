@@ -13,16 +13,15 @@ use Rattle.component_trait.specs.Fold.{after_event}
 use Rattle.component_trait.specs.States.{NodeState}
 use Rattle.quiesce_core.specs.Reach.{IsPortOf}
 use Rattle.quiesce_core.specs.Runs.{IsRun, is_begin_of, state_after}
-use Rattle.quiesce_core.specs.State.{Configuration, State, exchange, is_live, owner, slot}
+use Rattle.quiesce_core.specs.State.{State, exchange, is_live, owner, slot}
 use Rattle.quiesce_core.specs.declared.event.Event.{Event}
-use Rattle.quiesce_core.specs.declared.event.Event.TheVariants.{Begin, End, Make}
+use Rattle.quiesce_core.specs.declared.event.Event.TheVariants.{Begin, End}
 use Rattle.quiesce_core.specs.declared.state.Slot.{Slot}
 use Rattle.quiesce_core.proofs.InductionLaws.{IsNext, along, none_barred, place, unbarred}
-use Rattle.quiesce_core.proofs.AlterLaws.{reconfigured}
+use Rattle.quiesce_core.proofs.AlterLaws.{reconfigured, ports_grow}
 use Rattle.quiesce_core.proofs.ConfigurationLaws.{owner_kept}
 use Rattle.quiesce_core.proofs.RunLaws.{runs_are_well_formed}
 use Rattle.quiesce_core.specs.Doers.{is_of_change}
-use Rattle.quiesce_core.specs.Alters.{ports_next}
 use Rattle.quiesce_core.specs.Effect.{effect}
 use Rattle.quiesce_core.specs.Legal.{Legal}
 use Rattle.config_graph.specs.declared.node.Node.{Node}
@@ -124,14 +123,10 @@ pub record IsSourcePort (es : List Event) (p : ℕ) : Type 0 where
   pub there : slot (state_after es).config (owner (state_after es).config p) ≡ Some node
   pub kind : node.node.kind ≡ Source
 
-gates_grow : (c : Configuration) (e : Event) → length c.gates ≤ ports_next c e
-gates_grow c (Make n node from) = omega arith
-gates_grow c _ = omega arith
-
 source_port_next : (es : List Event) (e : Event) → IsNext es e → (p : ℕ) → IsSourcePort es p → IsSourcePort (es ++ e ∷ []) p
 source_port_next es e here p w =
     let r = reconfigured (state_after es) e here.legal in
-    let more_ = gates_grow (state_after es).config e in
+    let more_ = ports_grow (state_after es).config e in
     let long = r.ports in
     let low = w.made in
     let after = stays (state_after es).config (effect (state_after es) e).config e r (owner (state_after es).config p) w.node w.there in

@@ -5,9 +5,9 @@ use Rattle.std.specs.List.{list_any, range_with_len}
 use Rattle.std.proofs.lemmas.Bool.{both_ways, cases_Bool, cases_lt, false_from_ne_true}
 use Rattle.std.proofs.lemmas.List.{append-nil, get_or_past}
 use Rattle.std.proofs.lemmas.List.Sums.{sum_by_push}
-use Rattle.std.proofs.lemmas.Option.{none-some, same_Some}
+use Rattle.std.proofs.lemmas.Option.{none-some, same_Some, slice_get_within}
 use Rattle.base.proofs.OptionLaws.{map_or_true}
-use Rattle.base.proofs.PlaceLaws.{slice_get-below}
+use Rattle.base.proofs.SumLaws.{sum_same}
 use Rattle.config_graph.specs.Graph.{Graph}
 use Rattle.config_graph.specs.declared.TheConstants.{VALUE_LIMIT}
 use Rattle.config_graph.specs.declared.kind.Kind.TheVariants.{Branch, Account}
@@ -36,7 +36,7 @@ use Rattle.result_laws.proofs.EventLaws.{Now, is_take, led_to, take_at, takes_at
 use Rattle.result_laws.proofs.FactLaws.{Facts, Fits}
 use Rattle.result_laws.proofs.PlacedLaws.{GraphAt}
 use Rattle.result_laws.specs.Banks.{IsBank}
-use Rattle.result_laws.proofs.Adding.{sums_agree, sum_two, two_terms}
+use Rattle.result_laws.proofs.Adding.{sum_two, two_terms}
 use Rattle.result_laws.proofs.Giving.{given_is_gone, hands_on}
 use Rattle.result_laws.proofs.Handing.{all_held, carried_on, given_more, made_sum, opens_with_a_value, same_exchange, same_total, still}
 use Rattle.result_laws.proofs.Leading.{AllLeadWell, lead_on}
@@ -108,7 +108,7 @@ module _ (handed : StatesAreHanded) (es : List Event) (e : Event) (here : IsNext
     same_config = ap (λ (x : State). x.config) here.next ∙ node_events_keep_the_configuration s e of_node
 
     slot_low : (n : ℕ) (m : Slot) → slot s.config n ≡ Some m → n < size
-    slot_low n m there = slice_get-below s.config.slots n m there
+    slot_low n m there = slice_get_within s.config.slots n m there
 
     -- a live account gave its state to none
     keeps_own : (n : ℕ) → IsAccount s.config n → (p x : ℕ) → target s.config p ≡ Some (record { node = n; provide = x }) → list_any (hands_on n) es ≡ false
@@ -227,7 +227,7 @@ module _ (handed : StatesAreHanded) (es : List Event) (e : Event) (here : IsNext
     same_sum : sum_by after (range_with_len 0 size) ≡ sum_by before (range_with_len 0 size)
     same_sum = ⊎_elim
         (λ (w : Pays s f g now_facts fits e now then_facts books.leads books.serials). paid w)
-        (λ (w : Calm s f g now_facts fits e now then_facts books.leads books.serials). sums_agree after before size (all_same w))
+        (λ (w : Calm s f g now_facts fits e now then_facts books.leads books.serials). sum_same after before size (all_same w))
         (paying s f g now_facts fits e now then_facts books.leads books.serials (λ n. (l.carries n, l.has n)))
 
     opens_nothing : sum_by opened_in (es ++ e ∷ []) ≡ sum_by opened_in es
@@ -296,7 +296,7 @@ module _ (handed : StatesAreHanded) (es : List Event) (e : Event) (here : IsNext
               where
                 by_slot : (x : Option Slot) → slot s.config b.at ≡ x → slot s.config b.at ≡ None
                 by_slot None is = is
-                by_slot (Some m) is = let low = slice_get-below s.config.slots b.at m is in absurd (omega (arith, low, past))
+                by_slot (Some m) is = let low = slice_get_within s.config.slots b.at m is in absurd (omega (arith, low, past))
 
             resting : (g b.at).service ≡ None
             resting = still handed es e here run' later change b.at (rest_of none_past)
@@ -348,7 +348,7 @@ module _ (handed : StatesAreHanded) (es : List Event) (e : Event) (here : IsNext
         carries = l.carries;
         has = has_then;
         sum = ap (λ n. sum_by (λ n. l.carries n + holds (es ++ e ∷ []) n) (range_with_len 0 n)) same_size
-            ∙ sums_agree (λ n. l.carries n + holds (es ++ e ∷ []) n) (λ n. l.carries n + holds es n) size (λ n. ap (λ x. l.carries n + x) (all_held handed es e here run' later change none_made n)) ∙ l.sum ∙ sym opens_nothing;
+            ∙ sum_same (λ n. l.carries n + holds (es ++ e ∷ []) n) (λ n. l.carries n + holds es n) size (λ n. ap (λ x. l.carries n + x) (all_held handed es e here run' later change none_made n)) ∙ l.sum ∙ sym opens_nothing;
         few = let a = l.few in let b = opens_nothing in let c = ap (λ n. n * VALUE_LIMIT) same_size in omega (arith, a, b, c);
       };
       leads = leads_then;

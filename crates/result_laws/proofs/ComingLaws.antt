@@ -6,9 +6,9 @@ use Rattle.std.specs.Option.{option_map_or}
 use Rattle.std.proofs.lemmas.Bool.{both_ways, eq-eqb, ne_eqb, false_from_ne_true}
 use Rattle.std.proofs.lemmas.List.{append-nil}
 use Rattle.std.proofs.lemmas.List.Sums.{fold_push}
-use Rattle.std.proofs.lemmas.Option.{none-some}
+use Rattle.std.proofs.lemmas.Option.{none-some, slice_get_within}
 use Rattle.base.proofs.OptionLaws.{map_or_at, map_or_true, Some-from_is_some}
-use Rattle.base.proofs.PlaceLaws.{slice_get-below, slice_get-there}
+use Rattle.base.proofs.PlaceLaws.{slice_get-there}
 use Rattle.config_graph.specs.declared.kind.Kind.TheVariants.{Fork}
 use Rattle.config_graph.specs.declared.node.Node.{Node}
 use Rattle.component_trait.specs.Fold.{after_event, fold_next}
@@ -141,7 +141,7 @@ pub stays : (c d : Configuration) (e : Event) → Reconfigures c e d → (n : �
 stays c d (Make k node from) r n m at =
     record {
       then_ = m;
-      there = r.slots n ∙ rw (ne_eqb n (length c.slots) (λ same. let low = slice_get-below c.slots n m at in omega (arith, low, same))) at;
+      there = r.slots n ∙ rw (ne_eqb n (length c.slots) (λ same. let low = slice_get_within c.slots n m at in omega (arith, low, same))) at;
       node = refl;
       first = refl;
       from = refl;

@@ -5,7 +5,7 @@ use Rattle.std.specs.List.{list_any}
 use Rattle.std.specs.Option.{option_map_or}
 use Rattle.std.proofs.lemmas.Bool.{both_ways, eq-eqb, eqb-true, or_cases}
 use Rattle.std.proofs.lemmas.List.Folds.{list_any-append}
-use Rattle.base.proofs.PlaceLaws.{any_at}
+use Rattle.std.proofs.lemmas.Map.Keys.{any_passes_from_place}
 use Rattle.quiesce_core.specs.Effect.{effect}
 use Rattle.quiesce_core.specs.Rules.{was_moved}
 use Rattle.quiesce_core.specs.Runs.{IsRun, state_after}
@@ -76,4 +76,4 @@ given_is_gone es run n h =
 pub given_was_moved : (es : List Event) → IsRun es → (n : ℕ) → list_any (hands_on n) es ≡ true → was_moved (state_after es).config n ≡ true
 given_was_moved es run n h =
     let w = took_over es run n h in
-    any_at (λ (m : Slot). option_map_or (λ f. f == n) m.from false) (state_after es).config.slots w.at w.made w.there (ap (λ o. option_map_or (λ f. f == n) o false) w.from ∙ eq-eqb n n refl)
+    any_passes_from_place (λ (m : Slot). option_map_or (λ f. f == n) m.from false) (state_after es).config.slots w.at w.made w.there (ap (λ o. option_map_or (λ f. f == n) o false) w.from ∙ eq-eqb n n refl)

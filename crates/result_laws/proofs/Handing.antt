@@ -6,9 +6,8 @@ use Rattle.std.specs.List.{list_any, range_with_len}
 use Rattle.std.specs.Option.{option_map_or}
 use Rattle.std.proofs.lemmas.Bool.{and_parts, both_ways, eq-eqb, false_from_ne_true, ltb-true, ne_eqb, not-true}
 use Rattle.std.proofs.lemmas.List.Folds.{list_any-append}
-use Rattle.std.proofs.lemmas.Option.{none-some, same_Some}
+use Rattle.std.proofs.lemmas.Option.{none-some, same_Some, slice_get_within}
 use Rattle.base.proofs.OptionLaws.{map_or_true}
-use Rattle.base.proofs.PlaceLaws.{slice_get-below}
 use Rattle.config_graph.specs.Kinds.{row}
 use Rattle.config_graph.specs.declared.TheConstants.{VALUE_LIMIT}
 use Rattle.config_graph.specs.declared.kind.Kind.{Kind}
@@ -29,14 +28,13 @@ use Rattle.quiesce_core.specs.declared.event.Event.TheVariants.{Make, Remove}
 use Rattle.quiesce_core.specs.declared.state.Exchange.{Exchange}
 use Rattle.quiesce_core.specs.declared.state.Service.{Service}
 use Rattle.quiesce_core.specs.declared.state.Slot.{Slot}
-use Rattle.quiesce_core.proofs.AlterLaws.{exchanges_next, reconfigured, services_next}
+use Rattle.quiesce_core.proofs.AlterLaws.{exchanges_next, reconfigured, services_next, change_exchange}
 use Rattle.quiesce_core.proofs.InductionLaws.{IsNext}
 use Rattle.quiesce_core.proofs.StabilityLaws.{serving_nodes_stay}
 use Rattle.change_round_laws.proofs.FoldLaws.{StatesAreHanded}
 use Rattle.result_laws.specs.Coming.{HasFolds, come}
 use Rattle.result_laws.proofs.AgreeingLaws.{change_does}
 use Rattle.result_laws.proofs.ComingLaws.{facts, folds_before, folds_stay, given_to, made_has, old_stays}
-use Rattle.result_laws.proofs.EventLaws.{nothing_there}
 use Rattle.result_laws.proofs.FactLaws.{Facts}
 use Rattle.result_laws.specs.Sums.{is_account}
 use Rattle.result_laws.proofs.Adding.{sum_more, sum_one, sum_two}
@@ -123,7 +121,7 @@ module _ (handed : StatesAreHanded) (es : List Event) (e : Event) (here : IsNext
   reconfigured_so = subst (λ (x : State). Reconfigures s.config e x.config) (sym here.next) (reconfigured s e here.legal)
 
   pub same_exchange : (q : ℕ) → exchange t q ≡ exchange s q
-  same_exchange q = ap (λ (x : State). exchange x q) here.next ∙ exchanges_next s e here.well here.legal q ∙ nothing_there s q e change
+  same_exchange q = ap (λ (x : State). exchange x q) here.next ∙ exchanges_next s e here.well here.legal q ∙ change_exchange s q e change
 
   same_service : (n : ℕ) → service t n ≡ service s n
   same_service n = ap (λ (x : State). service x n) here.next ∙ services_next s e here.well here.legal n ∙ ap (λ b. cond b (service_by (service s n) e) (service s n)) (change_does s e n change)
@@ -218,7 +216,7 @@ module _ (handed : StatesAreHanded) (es : List Event) (k : ℕ) (made : Node) (f
     where
       by : (o : Option Slot) → slot c last ≡ o → slot c last ≡ None
       by None is = is
-      by (Some m) is = let low = slice_get-below c.slots last m is in absurd (omega (arith, low))
+      by (Some m) is = let low = slice_get_within c.slots last m is in absurd (omega (arith, low))
 
   -- none took over from the new one
   new_not_given : list_any (hands_on last) (es ++ e ∷ []) ≡ false
@@ -284,7 +282,7 @@ module _ (handed : StatesAreHanded) (es : List Event) (k : ℕ) (made : Node) (f
         old = map_or_true (λ (m : Slot). not m.live && is_kind m.node.kind made.kind) (slot c j) may.0
 
         below : j < last
-        below = slice_get-below c.slots j old.0 old.1
+        below = slice_get_within c.slots j old.0 old.1
 
         same_account : is_account_at c j ≡ is_account made.kind
         same_account =

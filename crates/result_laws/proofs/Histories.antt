@@ -115,15 +115,6 @@ none_linked g (x ∷ xs) t h = by (target_of g.links x.1.node x.1.require) (none
     by None rest = rest
     by (Some u) rest = ap (λ b. b || list_any t (filter_map (link_of g) xs)) (h x.0 u.node u.provide) ∙ rest
 
-pub start_kept : (g : Graph) → filter is_of_change (start_of g) ≡ start_of g
-start_kept g =
-    let makes = map make_of (enumerate_from 0 g.nodes) in
-    let links = filter_map (link_of g) (enumerate_from 0 (ports g.nodes)) in
-    kept_all (start_of g)
-    (none_both is_of_node (makes ++ links) (map reopen_of (enumerate_from 0 (ports g.nodes)))
-    (none_both is_of_node makes links (none_map is_of_node make_of (λ x. refl) (enumerate_from 0 g.nodes)) (none_linked g (enumerate_from 0 (ports g.nodes)) is_of_node (λ p n x. refl)))
-    (none_map is_of_node reopen_of (λ x. refl) (enumerate_from 0 (ports g.nodes))))
-
 pub start_well : (g : Graph) → IsRow g → EachAfter Well [] (start_of g)
 start_well g q =
     let makes = map make_of (enumerate_from 0 g.nodes) in

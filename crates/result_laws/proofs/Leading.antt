@@ -2,10 +2,9 @@
 use Rattle.std.proofs.Common.{◌≡◌, ◌∙◌, ℕ, ◌+◌, ◌<◌, Bool, true, false, cond, length, Some, None, refl, sym, ap, subst, arith, inl, inr, ⊎_elim}
 use Rattle.std.specs.Prelude.{◌⊎◌, ◌==◌, ◌&&◌, nat_le, nat_lt, option_map}
 use Rattle.std.proofs.lemmas.Bool.{and_parts, both_ways, cases_Bool, eqb-true, ltb-true, not-true}
-use Rattle.std.proofs.lemmas.Option.{same_Some}
+use Rattle.std.proofs.lemmas.Option.{same_Some, slice_get_within}
 use Rattle.base.proofs.ContainsLaws.{at_some_place}
 use Rattle.base.proofs.OptionLaws.{map_or_true}
-use Rattle.base.proofs.PlaceLaws.{slice_get-below}
 use Rattle.config_graph.specs.Cycles.{IsLinked}
 use Rattle.config_graph.specs.Graph.{Graph}
 use Rattle.config_graph.specs.Kinds.{row}
@@ -33,14 +32,14 @@ use Rattle.quiesce_core.specs.declared.state.Exchange.{Exchange}
 use Rattle.quiesce_core.specs.declared.state.Gate.{Gate}
 use Rattle.quiesce_core.specs.declared.state.Service.{Service}
 use Rattle.quiesce_core.specs.declared.state.Slot.{Slot}
-use Rattle.quiesce_core.proofs.AlterLaws.{exchanges_next, reconfigured}
+use Rattle.quiesce_core.proofs.AlterLaws.{exchanges_next, reconfigured, change_exchange}
 use Rattle.quiesce_core.proofs.ConfigurationLaws.{linked_made, owner_kept, port_is, target_kept}
 use Rattle.quiesce_core.proofs.LiveLinkLaws.{linked_at}
 use Rattle.quiesce_core.proofs.RunLaws.{node_events_keep_the_configuration}
 use Rattle.quiesce_core.proofs.SettledLaws.{settled_if}
 use Rattle.quiesce_core.proofs.StabilityLaws.{unsettled_ports_stay}
 use Rattle.result_laws.specs.Describing.{kind_at}
-use Rattle.result_laws.proofs.EventLaws.{idle_passes, nothing_there, starts_at}
+use Rattle.result_laws.proofs.EventLaws.{idle_passes, starts_at}
 use Rattle.result_laws.proofs.FactLaws.{Facts}
 use Rattle.result_laws.specs.Banks.{IsBank, LeadsToAccount}
 use Rattle.result_laws.proofs.Offices.{IsAccount, IsOffice, IsOfKind, Office, kind_stays, no_port_of_account, of_branch, office_owned, office_stays, port_of_branch}
@@ -103,7 +102,7 @@ module _ (c : Configuration) (sound : IsSound c) (named : AreNamed c) (g : Graph
       )
 
   pub leads_in_bank : (q : ℕ) (t : Target) → is_live c (owner c q) ≡ true → target c q ≡ Some t → LeadsWell c q
-  leads_in_bank q t live leads = by (bank.kinds from.0 (slice_get-below g.nodes from.0 from.1.made.node from.1.stands))
+  leads_in_bank q t live leads = by (bank.kinds from.0 (slice_get_within g.nodes from.0 from.1.made.node from.1.stands))
     where
       from : (i : ℕ) × StandsAt c g.nodes (owner c q) i
       from = live_stands (owner c q) live
@@ -200,7 +199,7 @@ module _ (s : State) (f : ℕ → NodeState) (facts : Facts s f) (e : Event) (le
       gate_is z at = (reconfigured s e legal).gates q ∙ ap (gate_next s.config q) at
 
       idle_is : (z : Event) → e ≡ z → is_of_change z ≡ true → exchange after q ≡ exchange s q
-      idle_is z at h = exchanges_next s e facts.well legal q ∙ ap (exchange_next s q) at ∙ nothing_there s q z h
+      idle_is z at h = exchanges_next s e facts.well legal q ∙ ap (exchange_next s q) at ∙ change_exchange s q z h
 
       -- the gate is as closed as it was
       as_was : (z : Event) → e ≡ z → is_of_change z ≡ true → (gate after.config q).closed ≡ (gate s.config q).closed → InUse s q

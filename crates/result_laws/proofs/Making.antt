@@ -4,10 +4,10 @@ use Rattle.std.specs.Prelude.{◌⊎◌, ⊤, ◌||◌, Contains, slice_get}
 use Rattle.std.specs.List.{list_any}
 use Rattle.std.proofs.lemmas.Bool.{both_ways, cases_Bool, or_parts}
 use Rattle.std.proofs.lemmas.List.{append-nil}
+use Rattle.std.proofs.lemmas.Option.{slice_get_within}
 use Rattle.base.specs.Each.{EachAfter}
 use Rattle.base.proofs.ContainsLaws.{Contains-here, Contains-there}
 use Rattle.base.proofs.OptionLaws.{option_map_some}
-use Rattle.base.proofs.PlaceLaws.{slice_get-below}
 use Rattle.config_graph.specs.Graph.{Graph}
 use Rattle.config_graph.specs.declared.kind.Kind.{Kind}
 use Rattle.config_graph.specs.declared.kind.Kind.TheVariants.{Sink, Source}
@@ -80,7 +80,7 @@ makes_well before (m ∷ ms) t source sink = (
 -- ---- a row has one source and one sink
 
 kind_below : (g : Graph) (i : ℕ) (k : Kind) → kind_at g i ≡ Some k → i < length g.nodes
-kind_below g i k h = let n = option_map_some (λ (n : Node). n.kind) (slice_get g.nodes i) k h in slice_get-below g.nodes i n.0 n.1
+kind_below g i k h = let n = option_map_some (λ (n : Node). n.kind) (slice_get g.nodes i) k h in slice_get_within g.nodes i n.0 n.1
 
 pub one_source_at : (g : Graph) (q : IsRow g) (i : ℕ) → kind_at g i ≡ Some Source → i ≡ q.source
 one_source_at g q i h = by (q.no_others i (kind_below g i Source h))

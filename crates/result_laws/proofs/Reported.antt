@@ -7,10 +7,12 @@ use Rattle.std.proofs.lemmas.Bool.{and_parts, both_ways, cases_Bool, eq-eqb, eqb
 use Rattle.std.proofs.lemmas.List.Elements.{All-contains}
 use Rattle.std.proofs.lemmas.List.Folds.{list_any-append}
 use Rattle.std.proofs.lemmas.List.Sums.{sum_by-cons}
+use Rattle.std.proofs.lemmas.Option.{slice_get_within}
+use Rattle.std.proofs.lemmas.Map.Keys.{any_passes_from_place}
 use Rattle.base.proofs.ContainsLaws.{Contains-filter_map, Contains-here, Contains-there}
 use Rattle.base.proofs.FindLaws.{find_passes, is_some-find_from}
 use Rattle.base.proofs.OptionLaws.{Some-from_is_some}
-use Rattle.base.proofs.PlaceLaws.{any_at, slice_get-below}
+use Rattle.base.proofs.SumLaws.{sum_same}
 use Rattle.config_graph.specs.declared.kind.Kind.TheVariants.{Account, Fork}
 use Rattle.config_graph.specs.declared.node.Node.{Node}
 use Rattle.component_trait.specs.States.{NodeState, at_rest, nothing}
@@ -53,7 +55,6 @@ use Rattle.result_laws.proofs.PlacedLaws.{opened_at}
 use Rattle.result_laws.proofs.StoppingLaws.{NothingIsOpen, logs_fold, open_nowhere, slots_of_logs, state_told, takes_over}
 use Rattle.result_laws.specs.Banks.{AreBanks, IsBank}
 use Rattle.result_laws.specs.Sums.{balance, gone_at, is_account, live_at, live_sum, makes_account, opened_by, opened_sum, removed_sum, removes}
-use Rattle.result_laws.proofs.Adding.{sums_agree}
 use Rattle.result_laws.proofs.Books.{Books, keep_books}
 use Rattle.result_laws.proofs.Giving.{hands_on}
 use Rattle.result_laws.proofs.Handing.{account_stays}
@@ -178,7 +179,7 @@ accounts_made es run =
                   where
                     by_slot : (o : Option Slot) → slot (state_after before).config n ≡ o → slot (state_after before).config n ≡ None
                     by_slot None is = is
-                    by_slot (Some m) is = let low = slice_get-below (state_after before).config.slots n m is in absurd (omega (arith, low, at_end))
+                    by_slot (Some m) is = let low = slice_get_within (state_after before).config.slots n m is in absurd (omega (arith, low, at_end))
             either false other =
                 let apart : (i == n) ≡ false = ne_eqb i n (λ h. both_ways (n == length (state_after before).config.slots) other (eq-eqb n (length (state_after before).config.slots) (sym h ∙ is_next))) in
                 ap (λ b. is_account_at (state_after before).config n || (cond b (is_account made.kind) false || false)) apart
@@ -217,7 +218,7 @@ moved_so history n = ⊎_elim
     of_line : (l : HistoryLine) (at : ℕ) → slice_get history at ≡ Some l → gives_line n l ≡ true → is_some (moved_to history n) ≡ true
     of_line (to.Make i made from) at there h =
         is_some-find_from (λ j. list_any (is_made_from n j) history) (filter_map made_slot history) i (Contains-filter_map made_slot history at (to.Make i made from) i there refl)
-        (any_at (is_made_from n i) history at (to.Make i made from) there (line_gives n i made from h))
+        (any_passes_from_place (is_made_from n i) history at (to.Make i made from) there (line_gives n i made from h))
     of_line _ at there h = absurd (both_ways false refl h)
 
     forth : list_any (gives_line n) history ≡ true → is_some (moved_to history n) ≡ true
@@ -228,7 +229,7 @@ moved_so history n = ⊎_elim
         let any = find_passes (λ j. list_any (is_made_from n j) history) (filter_map made_slot history) j is in
         let w = any_there (is_made_from n j) history any in
         let t = takes_over n j w.1 w.3 in
-        any_at (gives_line n) history w.0 (to.Make t.0 t.1 (Some n)) (w.2 ∙ ap Some t.2) (eq-eqb n n refl)
+        any_passes_from_place (gives_line n) history w.0 (to.Make t.0 t.1 (Some n)) (w.2 ∙ ap Some t.2) (eq-eqb n n refl)
 
 -- ---- sums over logs
 
@@ -291,7 +292,7 @@ module _ (handed : StatesAreHanded) (each_may : EachMayCommit) (by_config : Comm
 
   all_held : sum_by (holds es) (range_with_len 0 (length (state_after es).config.slots)) ≡ sum_by opened_in es
   all_held =
-      sums_agree (holds es) (λ n. books.ledger.carries n + holds es n) (length (state_after es).config.slots) (λ n. let z = carries_none n in omega (arith, z)) ∙ books.ledger.sum
+      sum_same (holds es) (λ n. books.ledger.carries n + holds es n) (length (state_after es).config.slots) (λ n. let z = carries_none n in omega (arith, z)) ∙ books.ledger.sum
 
   -- ---- lines and events of the report
 

@@ -6,10 +6,9 @@ use Rattle.std.proofs.lemmas.Bool.{both_ways}
 use Rattle.quiesce_word.specs.Phases.{is_idle}
 use Rattle.quiesce_word.specs.declared.word.TheConstants.{LAST_SERIAL}
 use Rattle.config_graph.specs.declared.TheConstants.{VALUE_LIMIT}
-use Rattle.std.proofs.lemmas.Option.{same_Some}
+use Rattle.std.proofs.lemmas.Option.{same_Some, slice_get_within}
 use Rattle.base.proofs.ContainsLaws.{Contains-at, at_some_place}
 use Rattle.base.proofs.OptionLaws.{map_or_true, option_map_some}
-use Rattle.base.proofs.PlaceLaws.{slice_get-below}
 use Rattle.config_graph.specs.Graph.{Graph}
 use Rattle.config_graph.specs.Kinds.{row}
 use Rattle.config_graph.specs.declared.kind.Kind.{Kind}
@@ -116,6 +115,6 @@ module _ (handed : StatesAreHanded) (es : List Event) (run : IsRun es) (folds : 
             ⊎_elim
             (λ (s : listed.0 ≡ r.source). inl (one_stand c sound named alive.from f fits g is r n a r.source (subst (StandsAt c g.nodes n) s here) at))
             (λ (others : Contains r.maps listed.0 ⊎ (listed.0 ≡ r.sink)). inr (w.on_way n listed.0 here others))
-            (r.no_others listed.0 (slice_get-below g.nodes listed.0 m.0.node listed.1));
+            (r.no_others listed.0 (slice_get_within g.nodes listed.0 m.0.node listed.1));
         begun = λ busy. absurd (both_ways (is_idle (exchange (state_after es) p).phase) busy (rest.still.idle p));
       }

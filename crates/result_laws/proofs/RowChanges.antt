@@ -2,10 +2,9 @@
 -- freezes the source, and finds its port closed and idle before it makes one.
 use Rattle.std.proofs.Common.{◌≡◌, ◌∙◌, ℕ, List, [], ◌∷◌, Option, Some, None, refl, sym, ap, subst, inl, inr}
 use Rattle.std.specs.Prelude.{◌⊎◌, All, Contains, option_map, slice_get}
-use Rattle.std.proofs.lemmas.Option.{none-some, same_Some}
+use Rattle.std.proofs.lemmas.Option.{none-some, same_Some, slice_get_within}
 use Rattle.std.proofs.lemmas.List.Elements.{All-head, All-tail}
 use Rattle.base.proofs.ContainsLaws.{Contains-at, Contains-cons_cases, Contains-nil, at_some_place}
-use Rattle.base.proofs.PlaceLaws.{slice_get-below}
 use Rattle.config_graph.specs.Cycles.{IsLinked}
 use Rattle.config_graph.specs.Graph.{Graph}
 use Rattle.config_graph.specs.Sound.{Sound}
@@ -83,7 +82,7 @@ module _ (old new : Graph) (sound_old : Sound old) (sound_new : Sound new) (r : 
           absurd (cc (sym k ∙ ap (kind_at new) is ∙ q.is_sink))
 
       held : (n : Node) → slice_get old.nodes r.source ≡ Some n → Contains new.nodes n ⊎ (¬ Contains new.nodes n) → IsTwin old new r.source q.source
-      held n here (inl c) = let p = at_some_place new.nodes n c in at_source n here p.0 p.1 (q.no_others p.0 (slice_get-below new.nodes p.0 n p.1))
+      held n here (inl c) = let p = at_some_place new.nodes n c in at_source n here p.0 p.1 (q.no_others p.0 (slice_get_within new.nodes p.0 n p.1))
       held n here (inr none_) = absurd (nodes_kept r.source (record { node = n; here = here; gone = none_ }))
 
       by : (o : Option Node) → slice_get old.nodes r.source ≡ o → IsTwin old new r.source q.source
@@ -92,7 +91,7 @@ module _ (old new : Graph) (sound_old : Sound old) (sound_new : Sound new) (r : 
 
   -- so nothing is created
   pub nothing_created : (x : ℕ) → IsGone new old x → ⊥
-  nothing_created x gone = by (q.no_others x (slice_get-below new.nodes x gone.node gone.here))
+  nothing_created x gone = by (q.no_others x (slice_get_within new.nodes x gone.node gone.here))
     where
       no_twin : (j : ℕ) → IsTwin old new j x → ⊥
       no_twin j t = gone.gone (subst (Contains old.nodes) (same_Some t.node gone.node (sym t.there ∙ gone.here)) (Contains-at old.nodes j t.node t.here))

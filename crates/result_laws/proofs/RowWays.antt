@@ -2,10 +2,9 @@
 use Rattle.std.proofs.Common.{◌≡◌, ◌∙◌, ℕ, ◌+◌, ◌-◌, ◌%◌, ◌<◌, ◌≤◌, true, List, [], ◌∷◌, length, Some, refl, sym, ap, subst, arith, inl, inr, ⊎_elim}
 use Rattle.std.specs.Prelude.{◌⊎◌, All, Contains, option_map}
 use Rattle.std.specs.Option.{option_map_or}
-use Rattle.std.proofs.lemmas.Option.{same_Some}
+use Rattle.std.proofs.lemmas.Option.{same_Some, slice_get_within}
 use Rattle.base.proofs.ContainsLaws.{Contains-here, Contains-there, Contains-cons_cases, Contains-nil, at_some_place}
 use Rattle.base.proofs.OptionLaws.{map_or_true}
-use Rattle.base.proofs.PlaceLaws.{slice_get-below}
 use Rattle.config_graph.specs.Cycles.{IsLinked}
 use Rattle.config_graph.specs.Graph.{Graph}
 use Rattle.config_graph.specs.Kinds.{row}
@@ -82,7 +81,7 @@ module _ (c : Configuration) (sound : IsSound c) (named : AreNamed c) (owners : 
       (is.links_are i' (gate c q).require j x).1 ((linked_at c g.nodes i' (gate c q).require j x).0
       (record { port = q; to = to; leads = leads; requirement = refl; from_there = here; to_there = b })) in
       let port = port_is q (owner c q) m.0 (record { node = to; provide = x }) leads refl m.1 in
-      by i' here linked port (r.no_others i' (slice_get-below g.nodes i' m.0.node listed.1))
+      by i' here linked port (r.no_others i' (slice_get_within g.nodes i' m.0.node listed.1))
     where
       one : (i' : ℕ) → (here : StandsAt c g.nodes (owner c q) i') → IsLinked g i' (gate c q).require j x → PortIs q (owner c q) here.made → IsOn i' → (kind_at g i' ≡ Some Source) ⊎ (kind_at g i' ≡ Some Map) → q ≡ p
       one i' here linked port on' kind =

@@ -5,8 +5,8 @@ use Rattle.std.specs.Prelude.{◌==◌, ◌&&◌, nat_lt, nat_le, option_map}
 use Rattle.std.specs.Option.{option_map_or}
 use Rattle.std.proofs.lemmas.Bool.{and_parts, both_ways, cases_Bool, cases_lt, eqb-true, ne_eqb}
 use Rattle.std.proofs.lemmas.List.{get_or_past}
-use Rattle.std.proofs.lemmas.Option.{none-some, same_Some}
-use Rattle.base.proofs.PlaceLaws.{slice_get-below, slice_get-there}
+use Rattle.std.proofs.lemmas.Option.{none-some, same_Some, slice_get_within}
+use Rattle.base.proofs.PlaceLaws.{slice_get-there}
 use Rattle.config_graph.specs.Kinds.{row}
 use Rattle.config_graph.specs.declared.kind.Kind.{Kind}
 use Rattle.config_graph.specs.declared.kind.Kind.TheVariants.{Map, Sink, Source}
@@ -27,12 +27,11 @@ use Rattle.quiesce_core.specs.declared.state.Exchange.{Exchange}
 use Rattle.quiesce_core.specs.declared.state.Gate.{Gate}
 use Rattle.quiesce_core.specs.declared.state.Slot.{Slot}
 use Rattle.quiesce_core.proofs.ConfigurationLaws.{owner_kept}
-use Rattle.quiesce_core.proofs.AlterLaws.{exchanges_next, reconfigured}
+use Rattle.quiesce_core.proofs.AlterLaws.{exchanges_next, reconfigured, change_exchange}
 use Rattle.quiesce_core.proofs.InductionLaws.{IsNext, always}
 use Rattle.change_round_laws.proofs.FoldLaws.{StatesAreHanded}
 use Rattle.result_laws.proofs.AtRest.{IsStill}
 use Rattle.result_laws.specs.Coming.{HasFolds, come}
-use Rattle.result_laws.proofs.EventLaws.{nothing_there}
 use Rattle.result_laws.proofs.ComingLaws.{given_to, made_has, old_stays}
 use Rattle.result_laws.proofs.Ends.{IsMadeWell, last_made, last_more, last_next, same_sink, same_source}
 use Rattle.result_laws.proofs.Resting.{Rest}
@@ -126,7 +125,7 @@ calm_last k o _ h = refl
 module _ (handed : StatesAreHanded) (es : List Event) (e : Event) (here : IsNext es e) (run' : IsRun (es ++ e ∷ [])) (later : HasFolds (es ++ e ∷ [])) (change : is_of_change e ≡ true) where
   still_on : is_reopen e ≡ false → IsStill (state_after es) (come es) → IsStill (state_after (es ++ e ∷ [])) (come (es ++ e ∷ []))
   still_on calm still = record {
-    idle = λ q. ap (λ (s : State). is_idle (exchange s q).phase) here.next ∙ ap (λ (x : Exchange). is_idle x.phase) (exchanges_next (state_after es) e here.well here.legal q ∙ nothing_there (state_after es) q e change) ∙ still.idle q;
+    idle = λ q. ap (λ (s : State). is_idle (exchange s q).phase) here.next ∙ ap (λ (x : Exchange). is_idle x.phase) (exchanges_next (state_after es) e here.well here.legal q ∙ change_exchange (state_after es) q e change) ∙ still.idle q;
     opened = λ q open_.
         let now : gate (state_after (es ++ e ∷ [])).config q ≡ gate_next (state_after es).config q e = ap (λ (s : State). gate s.config q) here.next ∙ (reconfigured (state_after es) e here.legal).gates q in
         let was = was_open (state_after es).config e q calm (sym (ap (λ (g : Gate). g.closed) now) ∙ open_) in
@@ -188,13 +187,13 @@ module _ (handed : StatesAreHanded) (es : List Event) (e : Event) (here : IsNext
       r = subst (λ (s : State). Reconfigures (state_after es).config e s.config) (sym here.next) (reconfigured (state_after es) e here.legal)
 
       same : exchange (state_after (es ++ e ∷ [])) q ≡ exchange (state_after es) q
-      same = ap (λ (s : State). exchange s q) here.next ∙ exchanges_next (state_after es) e here.well here.legal q ∙ nothing_there (state_after es) q e change
+      same = ap (λ (s : State). exchange s q) here.next ∙ exchanges_next (state_after es) e here.well here.legal q ∙ change_exchange (state_after es) q e change
 
       of_old : q < length (state_after es).config.gates → (exchange (state_after (es ++ e ∷ [])) q).serial ≤ length past
       of_old made =
           let owned = owner_kept (state_after es).config (state_after (es ++ e ∷ [])).config e r q made in
           let o = here.well.sound.ports q made in
-          let low = slice_get-below (state_after es).config.slots (owner (state_after es).config q) o.node o.made in
+          let low = slice_get_within (state_after es).config.slots (owner (state_after es).config q) o.node o.made in
           let was = live_before (state_after es).config (state_after (es ++ e ∷ [])).config e r (owner (state_after es).config q) low (ap (is_live (state_after (es ++ e ∷ [])).config) (sym owned) ∙ live) in
           let kind_was = sym (ap (λ (n : NodeState). n.kind) (old_stays handed es e here run' change (owner (state_after es).config q) o.node o.made)) ∙ ap (λ i. (come (es ++ e ∷ []) i).kind) (sym owned) ∙ kind in
           subst (λ (x : Exchange). x.serial ≤ length past) (sym same) (rest.few q was kind_was)

@@ -5,11 +5,11 @@ use Rattle.std.specs.List.{list_any, range_with_len}
 use Rattle.std.specs.Option.{option_map_or}
 use Rattle.std.proofs.lemmas.Bool.{and_parts, both_ways, eq-eqb, eqb-true, not-true, or_cases, or_left, or_right}
 use Rattle.std.proofs.lemmas.List.Elements.{All-contains}
-use Rattle.std.proofs.lemmas.Option.{same_Some}
+use Rattle.std.proofs.lemmas.Option.{same_Some, slice_get_within}
 use Rattle.base.proofs.ContainsLaws.{Contains-at}
 use Rattle.base.proofs.FindLaws.{find_passes}
 use Rattle.base.proofs.OptionLaws.{map_or_true}
-use Rattle.base.proofs.PlaceLaws.{slice_get-below, slice_get-map_some}
+use Rattle.base.proofs.PlaceLaws.{slice_get-map_some}
 use Rattle.config_graph.specs.declared.node.Node.{Node}
 use Rattle.component_trait.specs.Moves as moves
 use Rattle.component_trait.specs.States.{NodeState}
@@ -131,7 +131,7 @@ module _ (m : List Member) (report : Report) (merge : Merge m report) (run : IsR
   log_of n x there =
       let c = (state_after (events m)).config in
       let at : slice_get (map (λ (l : NodeLog). l.slot) report.logs) n ≡ Some n =
-      ap (λ xs. slice_get xs n) slots_of_logs ∙ range_at 0 (length c.slots) n (slice_get-below c.slots n x there) ∙ ap Some (omega arith) in
+      ap (λ xs. slice_get xs n) slots_of_logs ∙ range_at 0 (length c.slots) n (slice_get_within c.slots n x there) ∙ ap Some (omega arith) in
       let l = slice_get-map_some (λ (l : NodeLog). l.slot) report.logs n n at in
       (l.0, Contains-at report.logs n l.0 l.1, l.2)
 

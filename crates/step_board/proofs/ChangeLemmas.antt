@@ -4,9 +4,9 @@ use Rattle.std.specs.Prelude.{slice_get, ◌==◌}
 use Rattle.std.specs.Option.{option_map_or}
 use Rattle.std.proofs.lemmas.Bool.{both_ways, cases_eq, eqb-true, ne_eqb}
 use Rattle.std.proofs.lemmas.List.{length-set}
-use Rattle.std.proofs.lemmas.Option.{same_Some}
+use Rattle.std.proofs.lemmas.Option.{same_Some, slice_get_within}
 use Rattle.base.proofs.OptionLaws.{map_or_at, map_or_true}
-use Rattle.base.proofs.PlaceLaws.{slice_get-below, slice_get-set_cases, slice_get-set_other, slice_get-set_same}
+use Rattle.base.proofs.PlaceLaws.{slice_get-set_cases, slice_get-set_other, slice_get-set_same}
 use Rattle.quiesce_core.specs.Alters.{nodes_next}
 use Rattle.quiesce_core.specs.Doers.{is_make, is_of_change}
 use Rattle.quiesce_core.specs.Runs.{IsRun, Step, doer, is_doer, state_after}
@@ -109,7 +109,7 @@ module _ (t : State) (nodes : List SlotEntry) (ends : List ℕ) (es : List Event
   nodes_then = set nodes n (here x')
 
   within : n < length nodes
-  within = slice_get-below nodes n (here x) at
+  within = slice_get_within nodes n (here x) at
 
   here_put : (k : ℕ) (y : NodeSeen) → k ≡ n → slice_get nodes_then k ≡ Some (here y) → x' ≡ y
   here_put k y same there = inside (same_Some (here x') (here y) (sym (slice_get-set_same nodes n (here x') within) ∙ subst (λ i. slice_get nodes_then i ≡ Some (here y)) same there))

@@ -7,8 +7,8 @@ use Rattle.std.proofs.Math.Bool.{and-false}
 use Rattle.std.proofs.lemmas.Bool.{cases_eq, eq-eqb, ne_eqb, cases_Bool, le-ltb, lt-ltb}
 use Rattle.std.proofs.lemmas.List.{length-append, length-set, length-take, take_all, take_more}
 use Rattle.std.proofs.lemmas.List.Folds.{position_or_len_push}
-use Rattle.std.proofs.lemmas.Option.{get_or_from_slice_get, same_Some, slice_get-get_or}
-use Rattle.base.proofs.PlaceLaws.{slice_get-below, slice_get-there}
+use Rattle.std.proofs.lemmas.Option.{get_or_from_slice_get, same_Some, slice_get-get_or, slice_get_within}
+use Rattle.base.proofs.PlaceLaws.{slice_get-there}
 use Rattle.change_board.specs.Collecting.{heir_of, took_over}
 use Rattle.quiesce_core.specs.State.{Configuration, slot}
 use Rattle.quiesce_core.specs.declared.state.Slot.{Slot}
@@ -68,7 +68,7 @@ below_more c i m there k =
     ∙ ap (λ n. cond (is_some (heir_below c i k)) (heir_below c i k) (cond (took_over k m) (Some n) None)) (length-take i c.slots ∙ omega (arith, within))
   where
     within : i < length c.slots
-    within = slice_get-below c.slots i m there
+    within = slice_get_within c.slots i m there
 
 module _ (heirs : List (Option ℕ)) (i : ℕ) where
   abbrev after : ℕ → Bool → List (Option ℕ)

@@ -2,8 +2,8 @@
 use Rattle.std.proofs.Common.{◌≡◌, ◌∙◌, ℕ, ◌<◌, ◌≤◌, List, [], ◌∷◌, ◌++◌, length, Some, None, refl, ap, sym, subst, ⊎_elim, arith}
 use Rattle.std.specs.Prelude.{slice_get}
 use Rattle.std.specs.Option.{option_map_or}
-use Rattle.std.proofs.lemmas.Option.{none-some, same_Some}
-use Rattle.base.proofs.PlaceLaws.{slice_get-below, slice_get-snoc, slice_get-there}
+use Rattle.std.proofs.lemmas.Option.{none-some, same_Some, slice_get_within}
+use Rattle.base.proofs.PlaceLaws.{slice_get-snoc, slice_get-there}
 use Rattle.quiesce_core.specs.Runs.{state_after}
 use Rattle.quiesce_core.specs.State.{State, slot}
 use Rattle.quiesce_core.specs.declared.event.Event.{Event}
@@ -78,7 +78,7 @@ module _ (s : State) (nodes : List SlotEntry) (ends : List ℕ) (es : List Event
       there = ap (λ (u : State). slot u.config n) (sym h.state) ∙ at
 
       entry : (x : SlotEntry) × (slice_get nodes n ≡ Some x)
-      entry = slice_get-there nodes n (subst (λ i. n < i) (sym h.made) (slice_get-below (state_after es).config.slots n m there))
+      entry = slice_get-there nodes n (subst (λ i. n < i) (sym h.made) (slice_get_within (state_after es).config.slots n m there))
 
       by : (x : SlotEntry) → slice_get nodes n ≡ Some x → ⊥
       by (here x) is = not_behind n m n x.past there from (h.nodes_here n x is).past (omega arith) (end_at n x is)

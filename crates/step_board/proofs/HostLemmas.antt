@@ -2,37 +2,18 @@
 use Rattle.std.proofs.Common.{◌≡◌, ◌∙◌, ℕ, ◌<◌, ◌≢◌, true, List, length, set, ◌≤◌, Option, Some, None, refl, ap, sym, subst, ⊎_elim, arith}
 use Rattle.std.specs.Prelude.{slice_get}
 use Rattle.std.proofs.lemmas.Bool.{cases_eq, false≢true}
-use Rattle.std.proofs.lemmas.Option.{same_Some}
-use Rattle.base.proofs.PlaceLaws.{slice_get-below, slice_get-set_other, slice_get-set_same, slice_get-there}
-use Rattle.component_trait.specs.States.{NodeState, Service}
-use Rattle.quiesce_core.specs.Knowledge.{OwnPort}
-use Rattle.quiesce_core.specs.declared.event.Event.{Event}
-use Rattle.quiesce_core.specs.declared.known.Known.{Known}
-use Rattle.quiesce_core.specs.declared.known.Served.{Served}
-use Rattle.quiesce_core.proofs.KnownLaws.{service_of_log}
-use Rattle.node_turn_laws.specs.Agreement.{ServicesAgree}
-use Rattle.node_host.specs.Hosted.{IsHosted, SeatSeen}
-use Rattle.node_host.specs.Lines.{LineNode}
+use Rattle.std.proofs.lemmas.Option.{same_Some, slice_get_within}
+use Rattle.base.proofs.PlaceLaws.{slice_get-set_other, slice_get-set_same, slice_get-there}
 use Rattle.step_board.specs.Rooms.{has_past_room}
 use Rattle.step_board.specs.Seen.{is_node}
 use Rattle.step_board.specs.declared.held.Held.{Held}
-
-agree_none : (far : ℕ → OwnPort) (o : Option Service) (u : Option Served) → ServicesAgree far o u → u ≡ None → o ≡ None
-agree_none far None u h is = refl
-agree_none far (Some v) None h is = absurd h
-agree_none far (Some v) (Some u) h is = absurd (cc)
-
--- a node of which its seat knows no service is in none
-pub rests_told : (slot first : ℕ) (t : NodeState) (log : List Event) (line : List LineNode) (known : Known) (waiting : List (Option ℕ)) (seat : SeatSeen) → IsHosted slot first t log line known waiting seat → seat.known.service ≡ None → t.service ≡ None
-rests_told slot first t log line known waiting seat h is =
-    agree_none _ t.service _ h.agrees.services (sym (ap (λ (w : Known). w.service) h.knows ∙ service_of_log first log) ∙ ap (λ (w : Known). w.service) h.kept ∙ is)
 
 -- the room in the pasts stays where a node in a slot keeps its own
 pub past_rooms_kept : (xs : List Held) (sources n : ℕ) (old new : Held) → ((k : ℕ) (h : Held) → k < sources → slice_get xs k ≡ Some h → has_past_room h ≡ true) → slice_get xs n ≡ Some old → has_past_room new ≡ has_past_room old
     → (k : ℕ) (h : Held) → k < sources → slice_get (set xs n new) k ≡ Some h → has_past_room h ≡ true
 past_rooms_kept xs sources n old new rooms at same k h low is = ⊎_elim
     (λ (here : k ≡ n).
-    let new_is : new ≡ h = same_Some new h (sym (slice_get-set_same xs n new (slice_get-below xs n old at)) ∙ subst (λ i. slice_get (set xs n new) i ≡ Some h) here is) in
+    let new_is : new ≡ h = same_Some new h (sym (slice_get-set_same xs n new (slice_get_within xs n old at)) ∙ subst (λ i. slice_get (set xs n new) i ≡ Some h) here is) in
     ap has_past_room (sym new_is) ∙ same ∙ rooms n old (subst (λ i. i < sources) here low) at)
     (λ (other : k ≢ n). rooms k h low (sym (slice_get-set_other xs n new k other) ∙ is))
     (cases_eq k n)
@@ -42,7 +23,7 @@ node_below xs n h = by (slice_get xs n) refl h
   where
     by : (o : Option Held) → slice_get xs n ≡ o → is_node o ≡ true → n < length xs
     by None at h = absurd (false≢true h)
-    by (Some x) at h = slice_get-below xs n x at
+    by (Some x) at h = slice_get_within xs n x at
 
 -- the room in the pasts where it was made for each
 pub past_rooms_made : (first xs : List Held) (sources : ℕ) → sources ≤ length first → ((k : ℕ) (h : Held) → k < sources → slice_get first k ≡ Some h → has_past_room h ≡ true)

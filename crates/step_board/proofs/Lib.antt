@@ -21,5 +21,4 @@ mod HostLemmas
 mod Heirs
 mod ReadLemmas
 mod RoomLemmas
-mod LineLemmas
 mod MakeTable

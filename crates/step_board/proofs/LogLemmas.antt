@@ -8,6 +8,7 @@ use Rattle.std.proofs.lemmas.List.{map-append, take_all, take_more}
 use Rattle.std.proofs.lemmas.List.Elements.{All-append, All-cons, All-nil}
 use Rattle.std.proofs.lemmas.List.FromFn.{length-map-range_with_len}
 use Rattle.base.proofs.PlaceLaws.{slice_get-there}
+use Rattle.base.proofs.RisingLaws.{places_more}
 use Rattle.change_board.specs.Collecting.{heir_of}
 use Rattle.change_spec.specs.Lawful.{EndsAs}
 use Rattle.report_types.specs.declared.report.Last.TheVariants as last
@@ -21,7 +22,6 @@ use Rattle.node_turn_laws.specs.Reached.{IsReached}
 use Rattle.node_turn_laws.specs.World.{World, state_of}
 use Rattle.step_board.specs.Going.{ShowsSome}
 use Rattle.step_board.specs.Standing.{AreLogs}
-use Rattle.step_board.proofs.TurnLemmas.{range_more}
 
 -- ---- how a log ends
 
@@ -61,7 +61,7 @@ module _ {B : Type 0} (S : B → World → Type 0) (b : B) (s : State) (logs : L
         → l.slot ≡ i → l.events ≡ slice_index_or logs i [] → heir ≡ heir_of s.config i → ((w : World) → S b w → EndsAs (state_of w i) heir l.last)
         → AreBelow (i + 1) (given ++ l ∷ [])
     one_more i given l heir some below h slot events_are heir_is ends = record {
-      slots = map-append (λ (x : NodeLog). x.slot) given (l ∷ []) ∙ ap (λ xs. xs ++ l.slot ∷ []) h.slots ∙ ap (λ n. range_with_len 0 i ++ n ∷ []) slot ∙ sym (range_more i);
+      slots = map-append (λ (x : NodeLog). x.slot) given (l ∷ []) ∙ ap (λ xs. xs ++ l.slot ∷ []) h.slots ∙ ap (λ n. range_with_len 0 i ++ n ∷ []) slot ∙ sym (places_more i);
       events_are = map-append (λ (x : NodeLog). x.events) given (l ∷ []) ∙ ap (λ xs. xs ++ l.events ∷ []) h.events_are ∙ ap (λ es. take i logs ++ es ∷ []) events_are
           ∙ sym (take_more logs i [] (omega (arith, below, one_a_node some)));
       ends = λ w k. All-append (EndsSo w) given (l ∷ []) (h.ends w k)

@@ -4,8 +4,8 @@ use Rattle.std.specs.Prelude.{slice_get}
 use Rattle.std.specs.Option.{option_map_or}
 use Rattle.std.proofs.lemmas.Bool.{both_ways, cases_eq, eq-eqb}
 use Rattle.std.proofs.lemmas.List.{length-set}
-use Rattle.std.proofs.lemmas.Option.{same_Some}
-use Rattle.base.proofs.PlaceLaws.{slice_get-below, slice_get-front, slice_get-last, slice_get-set_other, slice_get-set_same, slice_get-snoc}
+use Rattle.std.proofs.lemmas.Option.{same_Some, slice_get_within}
+use Rattle.base.proofs.PlaceLaws.{slice_get-front, slice_get-last, slice_get-set_other, slice_get-set_same, slice_get-snoc}
 use Rattle.config_graph.specs.declared.node.Node.{Node}
 use Rattle.quiesce_core.specs.Knowledge.{nothing_known}
 use Rattle.quiesce_core.specs.Runs.{Step, done_by, state_after}
@@ -156,7 +156,7 @@ holds_made_first s t nodes ends es node h st x f none_before =
     let count : length ends ≡ k = ends_number s t nodes ends es node None h st x f in
     let later = next s t nodes ends es node None h st x f in
     let line : line_of x ≡ k = ap (λ p. option_map_or (λ (m : Predecessor). m.slot) (slice_get p 0) x.slot) none_before ∙ f.place in
-    let apart : (i j : ℕ) → slice_get ends i ≡ Some j → i ≢ k = λ i j at same. (let below = slice_get-below ends i j at in omega (arith, below, count, same)) in
+    let apart : (i j : ℕ) → slice_get ends i ≡ Some j → i ≢ k = λ i j at same. (let below = slice_get_within ends i j at in omega (arith, below, count, same)) in
     made_holds s t nodes ends es node None h st x f nodes k refl line (omega arith)
     (subst (λ p. IsPast (es ++ Make k node None ∷ []) k p) (sym none_before) (first_of_line k (new_slot (state_after es).config node None) (there s t nodes ends es node None h st x f) refl))
     (λ j y at. (at, apart (line_of y) j (h.line_ends j y at)))
@@ -229,10 +229,10 @@ holds_made_from s t nodes ends es node k h st old x at_k f past_is g line_is pla
     count = ends_number s t nodes ends es node (Some k) h st x f
 
     low : l ≤ n'
-    low = let below = slice_get-below ends l k end_k in omega (arith, below, count)
+    low = let below = slice_get_within ends l k end_k in omega (arith, below, count)
 
     within : k < length nodes
-    within = slice_get-below nodes k (here old) at_k
+    within = slice_get_within nodes k (here old) at_k
 
     below_n : k < n'
     below_n = omega (arith, within, number_is s t nodes ends es node (Some k) h st x f)

@@ -3,10 +3,11 @@ use Rattle.std.proofs.Common.{◌≡◌, ◌∙◌, ◌⊎◌, ℕ, ◌+◌, ◌
 use Rattle.std.specs.Prelude.{slice_get, is_some, option_map, nat_le, nat_lt, ◌==◌}
 use Rattle.std.specs.Option.{option_map_or}
 use Rattle.std.proofs.lemmas.Bool.{and_parts, both_ways, eq-eqb, leb-true, ltb-true, not-true}
-use Rattle.std.proofs.lemmas.List.{length-map, length-set}
-use Rattle.std.proofs.lemmas.Option.{same_Some}
+use Rattle.std.proofs.lemmas.List.{length-map, length-set, map_push}
+use Rattle.std.proofs.lemmas.Option.{same_Some, slice_get_within}
+use Rattle.std.proofs.lemmas.Map.Keys.{any_passes_from_place}
 use Rattle.base.proofs.OptionLaws.{map_or_at, map_or_true}
-use Rattle.base.proofs.PlaceLaws.{slice_get-below, slice_get-map_at, any_at, slice_get-set_cases, slice_get-snoc, slice_get-there}
+use Rattle.base.proofs.PlaceLaws.{slice_get-map_at, slice_get-set_cases, slice_get-snoc, slice_get-there}
 use Rattle.config_graph.specs.Kinds.{row}
 use Rattle.config_graph.specs.declared.TheConstants.{MAX_NODES, MAX_PORTS}
 use Rattle.config_graph.specs.declared.kind.Kind.{Kind}
@@ -33,7 +34,6 @@ use Rattle.step_board.specs.Worlds.{ShowsIn}
 use Rattle.step_board.specs.declared.handed.Handed.{Handed}
 use Rattle.step_board.specs.declared.held.Held.{Held}
 use Rattle.step_board.specs.declared.held.Held.TheVariants as held
-use Rattle.step_board.proofs.LineLemmas.{map_snoc}
 use Rattle.step_board.proofs.MakeLemmas.{IsFresh, holds_made_first, holds_made_from, inside_here}
 use Rattle.step_board.proofs.Showing.{shows_made, shows_same}
 use Rattle.step_board.proofs.TurnTable.{map_set}
@@ -111,7 +111,7 @@ module _ (S : AnyNode → NodeState) (s t : State) (xs xs' : List Held) (ends en
       (ap Some (sym state_is)) (ap (λ (a : NodeState). a.kind) state_is) waiting in
       shows_same t t' (nodes ++ here x ∷ []) (map (seen S) xs') (set (ends ++ n ∷ []) n n) ends' tells tells' (with_event w (Make (length w.machine.config.slots) node None))
       (subst (λ i. ShowsIn t (nodes ++ here x ∷ []) (set (ends ++ n ∷ []) n n) tells (with_event w (Make i node None))) event_at all) t_is
-      (ap (map (seen S)) nodes_are ∙ map_snoc (seen S) xs new ∙ ap (λ e. nodes ++ e ∷ []) new_is)
+      (ap (map (seen S)) nodes_are ∙ map_push (seen S) xs new ∙ ap (λ e. nodes ++ e ∷ []) new_is)
       (ends_are ∙ ap (λ k. set (ends ++ k ∷ []) line k) slot_n ∙ ap (λ l. set (ends ++ n ∷ []) l n) (line_is ∙ ap (λ (u : State). length u.config.slots) h.holds.state)) tells_is
 
   pub shown_from : (k : ℕ) (old : Held) (y : NodeSeen) (g : Handed) → Step s (Make (length s.config.slots) node (Some k)) t → slice_get xs k ≡ Some old → seen S old ≡ here y
@@ -122,7 +122,7 @@ module _ (S : AnyNode → NodeState) (s t : State) (xs xs' : List Held) (ends en
       let step' : Step s (Make n node (Some k)) t = subst (λ (u : State). Step s (Make (length u.config.slots) node (Some k)) t) h.holds.state step in
       let at_entry : slice_get nodes k ≡ Some (here y) = slice_get-map_at (seen S) xs k old at ∙ ap Some old_is in
       let mid : List SlotEntry = set nodes k (gone g) in
-      let within : k < length nodes = slice_get-below nodes k (here y) at_entry in
+      let within : k < length nodes = slice_get_within nodes k (here y) at_entry in
       let held_ = holds_made_from s t nodes ends w.events node k h.holds step' y x at_entry fresh past_is g g_line g_place in
       let count : length mid ≡ n = length-set nodes k (gone g) ∙ h.holds.made in
       let all =
@@ -133,7 +133,7 @@ module _ (S : AnyNode → NodeState) (s t : State) (xs xs' : List Held) (ends en
       (ap (λ (a : NodeState). a.kind) state_is ∙ kind_is) waiting in
       shows_same t t' (mid ++ here x ∷ []) (map (seen S) xs') (set (ends ++ n ∷ []) (line_of y) n) ends' tells tells' (with_event w (Make (length w.machine.config.slots) node (Some k)))
       (subst (λ i. ShowsIn t (mid ++ here x ∷ []) (set (ends ++ n ∷ []) (line_of y) n) tells (with_event w (Make i node (Some k)))) event_at all) t_is
-      (ap (map (seen S)) nodes_are ∙ map_snoc (seen S) (set xs k (held.Handed g)) new ∙ ap (λ e. map (seen S) (set xs k (held.Handed g)) ++ e ∷ []) new_is ∙ ap (λ l. l ++ here x ∷ []) (map_set (seen S) xs k (held.Handed g)))
+      (ap (map (seen S)) nodes_are ∙ map_push (seen S) (set xs k (held.Handed g)) new ∙ ap (λ e. map (seen S) (set xs k (held.Handed g)) ++ e ∷ []) new_is ∙ ap (λ l. l ++ here x ∷ []) (map_set (seen S) xs k (held.Handed g)))
       (ends_are ∙ ap (λ i. set (ends ++ i ∷ []) line i) slot_n ∙ ap (λ l. set (ends ++ n ∷ []) l n) line_is) tells_is
     where
       was_there : (k : ℕ) (g : Handed) → k < length nodes → (j : ℕ) (z : NodeSeen) → slice_get (set nodes k (gone g)) j ≡ Some (here z) → slice_get nodes j ≡ Some (here z)
@@ -157,7 +157,7 @@ module _ (S : AnyNode → NodeState) (s : State) (xs : List Held) (ends : List �
 
   pub source_is_node : is_node (slice_get xs k) ≡ true
   source_is_node =
-      let made : k < length xs = subst (λ i. k < i) (sym (h.holds.made ∙ ap (λ (u : State). length u.config.slots) (sym h.holds.state)) ∙ length-map xs (seen S)) (slice_get-below s.config.slots k source.old source.there) in
+      let made : k < length xs = subst (λ i. k < i) (sym (h.holds.made ∙ ap (λ (u : State). length u.config.slots) (sym h.holds.state)) ∙ length-map xs (seen S)) (slice_get_within s.config.slots k source.old source.there) in
       let at = slice_get-there xs k made in ap is_node at.1 ∙ by at.0 at.1
     where
       by : (x : Held) → slice_get xs k ≡ Some x → is_node (Some x) ≡ true
@@ -166,7 +166,7 @@ module _ (S : AnyNode → NodeState) (s : State) (xs : List Held) (ends : List �
           let g = h.holds.nodes_gone k y (slice_get-map_at (seen S) xs k (held.Handed y) at) in
           let moves = (and_parts (option_map_or (λ (m : Slot). not m.live && is_kind m.node.kind node.kind) (slot s.config k) false) (not (was_moved s.config k)) (can_make s n node (Some k) may).moves).1 in
           absurd (both_ways (was_moved s.config k) (not-true (was_moved s.config k) moves)
-          (any_at (λ (m : Slot). option_map_or (λ i. i == k) m.from false) s.config.slots g.heir g.taker (ap (λ (u : State). slot u.config g.heir) h.holds.state ∙ g.there) (map_or_at (λ i. i == k) g.taker.from false k g.from ∙ eq-eqb k k refl)))
+          (any_passes_from_place (λ (m : Slot). option_map_or (λ i. i == k) m.from false) s.config.slots g.heir g.taker (ap (λ (u : State). slot u.config g.heir) h.holds.state ∙ g.there) (map_or_at (λ i. i == k) g.taker.from false k g.from ∙ eq-eqb k k refl)))
 
   module _ (old : Held) (y : NodeSeen) (at : slice_get xs k ≡ Some old) (is : seen S old ≡ here y) where
     old_here : IsHere w.events k y
@@ -185,4 +185,4 @@ module _ (S : AnyNode → NodeState) (s : State) (xs : List Held) (ends : List �
     source_place = old_here.place
 
     pub source_line : line_of y ≤ length ends
-    source_line = let below = slice_get-below ends (line_of y) k (h.holds.line_ends k y (slice_get-map_at (seen S) xs k old at ∙ ap Some is)) in omega (arith, below)
+    source_line = let below = slice_get_within ends (line_of y) k (h.holds.line_ends k y (slice_get-map_at (seen S) xs k old at ∙ ap Some is)) in omega (arith, below)

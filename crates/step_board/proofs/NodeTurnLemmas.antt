@@ -4,9 +4,9 @@ use Rattle.std.specs.Prelude.{slice_get, nat_lt, ◌==◌, option_map}
 use Rattle.std.specs.Option.{option_map_or}
 use Rattle.std.proofs.lemmas.Bool.{and_parts, cases_eq, eqb-true, ltb-true}
 use Rattle.std.proofs.lemmas.List.{get_or-set_other, get_or-set_same, length-set}
-use Rattle.std.proofs.lemmas.Option.{none-some, same_Some}
+use Rattle.std.proofs.lemmas.Option.{none-some, same_Some, slice_get_within}
 use Rattle.base.proofs.OptionLaws.{map_or_at, map_or_true, option_map_some}
-use Rattle.base.proofs.PlaceLaws.{slice_get-below, slice_get-set_other, slice_get-set_same}
+use Rattle.base.proofs.PlaceLaws.{slice_get-set_other, slice_get-set_same}
 use Rattle.config_graph.proofs.KindLaws.{two_requires}
 use Rattle.config_graph.specs.Kinds.{row}
 use Rattle.config_graph.specs.declared.node.Target.{Target}
@@ -142,7 +142,7 @@ module _ (s t : State) (nodes : List SlotEntry) (ends : List ℕ) (tells tells' 
   shown = h.nodes_shown n x at
 
   within : n < length nodes
-  within = slice_get-below nodes n (here x) at
+  within = slice_get_within nodes n (here x) at
 
   well : IsWellFormed s
   well = subst (λ (u : State). IsWellFormed u) (sym h.holds.state) (runs_are_well_formed w.events h.holds.runs)

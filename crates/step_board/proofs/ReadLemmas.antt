@@ -5,8 +5,8 @@ use Rattle.std.specs.Option.{option_map_or}
 use Rattle.std.proofs.Props.{props}
 use Rattle.std.proofs.Math.Logic.{∥∥₁_elim, ∥∥₁_map}
 use Rattle.std.proofs.lemmas.List.{length-map}
-use Rattle.std.proofs.lemmas.Option.{get_or_from_slice_get, same_Some}
-use Rattle.base.proofs.PlaceLaws.{slice_get-below, slice_get-map_at}
+use Rattle.std.proofs.lemmas.Option.{get_or_from_slice_get, same_Some, slice_get_within}
+use Rattle.base.proofs.PlaceLaws.{slice_get-map_at}
 use Rattle.component_trait.specs.States.{NodeState}
 use Rattle.quiesce_core.specs.Runs.{done_by}
 use Rattle.quiesce_core.specs.State.{State, slot}
@@ -57,7 +57,7 @@ module _ (S : AnyNode → NodeState) (s : State) (xs : List Held) (ends : List �
 
 module _ (S : AnyNode → NodeState) (xs : List Held) (ends : List ℕ) (y : Handed) (there : ∥ HasLog (map (seen S) xs) ends y ∥₁) where
   pub line_below : y.line < length ends
-  line_below = ∥∥₁_elim there (Prim.hlevel props) (λ (g : HasLog (map (seen S) xs) ends y). slice_get-below ends y.line g.at g.end_is)
+  line_below = ∥∥₁_elim there (Prim.hlevel props) (λ (g : HasLog (map (seen S) xs) ends y). slice_get_within ends y.line g.at g.end_is)
 
   module _ (e : ℕ) (end_is : e ≡ get_or ends y.line e) where
     end_at : slice_get ends y.line ≡ Some e
@@ -71,7 +71,7 @@ module _ (S : AnyNode → NodeState) (xs : List Held) (ends : List ℕ) (y : Han
 
     pub end_below : e < length xs
     end_below = ∥∥₁_elim there (Prim.hlevel props)
-        (λ (g : HasLog (map (seen S) xs) ends y). subst (λ k. e < k) (length-map xs (seen S)) (slice_get-below (map (seen S) xs) e (here g.last) (last_at g)))
+        (λ (g : HasLog (map (seen S) xs) ends y). subst (λ k. e < k) (length-map xs (seen S)) (slice_get_within (map (seen S) xs) e (here g.last) (last_at g)))
 
     module _ (h : Held) (at : slice_get xs e ≡ Some h) where
       pub end_not_gone : (z : Handed) → seen S h ≡ gone z → ⊥
@@ -82,7 +82,7 @@ module _ (S : AnyNode → NodeState) (xs : List Held) (ends : List ℕ) (y : Han
       place_below x is = ∥∥₁_elim there (Prim.hlevel props)
           (λ (g : HasLog (map (seen S) xs) ends y).
           let same = here_same (map (seen S) xs) e g.last x (last_at g) (slice_get-map_at (seen S) xs e h at ∙ ap Some is) in
-          slice_get-below x.past y.place g.old (ap (λ (z : NodeSeen). slice_get z.past y.place) (sym same) ∙ g.old_is))
+          slice_get_within x.past y.place g.old (ap (λ (z : NodeSeen). slice_get z.past y.place) (sym same) ∙ g.old_is))
 
       pub past_found : (x : NodeSeen) → seen S h ≡ here x → (m : Predecessor) → slice_get x.past y.place ≡ Some m → m.log ≡ past_log y.place (slice_get (map (seen S) xs) (get_or ends y.line 0))
       past_found x is m at_place =

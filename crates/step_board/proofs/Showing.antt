@@ -3,8 +3,8 @@ use Rattle.std.proofs.Common.{◌≡◌, ◌∙◌, ℕ, zero, suc, ◌+◌, ◌
 use Rattle.std.specs.Prelude.{slice_get}
 use Rattle.std.proofs.lemmas.Bool.{both_ways}
 use Rattle.std.proofs.lemmas.List.{get_or_append_left}
-use Rattle.std.proofs.lemmas.Option.{get_or_from_slice_get}
-use Rattle.base.proofs.PlaceLaws.{fresh_behind, slice_get-below, slice_get-last}
+use Rattle.std.proofs.lemmas.Option.{get_or_from_slice_get, slice_get_within}
+use Rattle.base.proofs.PlaceLaws.{fresh_behind, slice_get-last}
 use Rattle.config_graph.proofs.KindLaws.{two_requires}
 use Rattle.config_graph.specs.declared.kind.Kind.{Kind}
 use Rattle.config_graph.specs.Kinds.{row}
@@ -76,7 +76,7 @@ module _ (s t : State) (nodes nodes' : List SlotEntry) (ends ends' : List ℕ) (
   old_shown : (j : ℕ) (y : NodeSeen) → slice_get nodes j ≡ Some (here y) → IsShown v j y
   old_shown j y at =
       let i = h.nodes_shown j y at in
-      let below : j < length nodes = slice_get-below nodes j (here y) at in
+      let below : j < length nodes = slice_get_within nodes j (here y) at in
       record {
         state = get_or_append_left w.folds (opened w node from ∷ []) None j (omega (arith, below, h.folds_made)) ∙ i.state;
         two = i.two;

@@ -1,16 +1,15 @@
 -- A node whose state no other took over is still there.
-use Rattle.std.proofs.Common.{◌≡◌, ◌∙◌, ◌+◌, ℕ, true, false, List, [], ◌∷◌, ◌++◌, take, Some, None, refl, sym, ap}
-use Rattle.std.specs.Prelude.{◌==◌, is_some, slice_get}
+use Rattle.std.proofs.Common.{◌≡◌, ◌∙◌, ℕ, true, false, Some, None, refl, sym, ap}
+use Rattle.std.specs.Prelude.{◌==◌, is_some}
 use Rattle.std.specs.List.{list_any}
 use Rattle.std.specs.Option.{option_map_or}
 use Rattle.std.proofs.Math.Logic.{∥∥₁_elim}
 use Rattle.std.proofs.Props.{props}
 use Rattle.std.proofs.lemmas.Bool.{both_ways, eq-eqb}
-use Rattle.std.proofs.lemmas.List.{take_more}
-use Rattle.std.proofs.lemmas.Option.{get_or_from_slice_get, same_Some}
+use Rattle.std.proofs.lemmas.Option.{same_Some}
+use Rattle.std.proofs.lemmas.Map.Keys.{any_passes_from_place}
 use Rattle.base.proofs.FindLaws.{is_some-position}
 use Rattle.base.proofs.OptionLaws.{map_or_true}
-use Rattle.base.proofs.PlaceLaws.{any_at, slice_get-below}
 use Rattle.change_board.specs.Collecting.{heir_of, took_over}
 use Rattle.quiesce_core.proofs.SourceLaws.{sources_are_gone}
 use Rattle.quiesce_core.specs.State.{Configuration, State, is_live, slot}
@@ -28,7 +27,7 @@ no_heir c k none_ taken = ∥∥₁_elim taken (Prim.hlevel props)
     (λ h.
     both_ways (list_any (took_over k) c.slots)
     (sym (is_some-position (took_over k) c.slots) ∙ ap is_some none_)
-    (any_at (took_over k) c.slots h.0 h.1 h.2 (ap (λ o. option_map_or (λ f. f == k) o false) h.3 ∙ eq-eqb k k refl)))
+    (any_passes_from_place (took_over k) c.slots h.0 h.1 h.2 (ap (λ o. option_map_or (λ f. f == k) o false) h.3 ∙ eq-eqb k k refl)))
 
 pub no_heir_of_live : (s : State) (k : ℕ) → is_live s.config k ≡ true → ∥ ((w : World) × IsReached w × (w.machine ≡ s)) ∥₁ → IsTakenOver s.config k → ⊥
 no_heir_of_live s k live some taken = ∥∥₁_elim some (Prim.hlevel props)
@@ -40,8 +39,3 @@ no_heir_of_live s k live some taken = ∥∥₁_elim some (Prim.hlevel props)
     let found = map_or_true (λ (x : Slot). x.live) (slot s.config k) live in
     let one : found.0 ≡ g.old = same_Some found.0 g.old (sym found.1 ∙ sym (ap (λ (t : State). slot t.config k) same) ∙ g.there) in
     both_ways found.0.live (ap (λ (x : Slot). x.live) one ∙ g.removed) found.2))
-
--- one number more
-pub numbers_more : (xs ys : List ℕ) (i x : ℕ) → slice_get xs i ≡ Some x → ys ≡ take i xs → ys ++ x ∷ [] ≡ take (i + 1) xs
-numbers_more xs ys i x there so_far =
-    ap (λ zs. zs ++ x ∷ []) so_far ∙ ap (λ y. take i xs ++ y ∷ []) (sym (get_or_from_slice_get xs i x x there)) ∙ sym (take_more xs i x (slice_get-below xs i x there))

@@ -1,12 +1,10 @@
 -- A round by its turns, slot by slot.
 use Rattle.std.proofs.Common.{◌≡◌, ◌∙◌, ◌+◌, ◌-◌, ◌<◌, ℕ, Bool, true, false, cond, List, [], ◌∷◌, ◌++◌, Option, Some, suc, refl, sym, ap, subst, arith}
-use Rattle.std.specs.Prelude.{◌||◌, ◌&&◌, filter, find, fold, not, OnErr, Result, Ok, Err}
+use Rattle.std.specs.Prelude.{◌||◌, ◌&&◌, filter, find, fold, not}
 use Rattle.std.proofs.Math.Bool.{or-false}
 use Rattle.std.proofs.Math.Logic.{∥∥₁_map}
 use Rattle.std.specs.List.{range_with_len}
-use Rattle.std.proofs.lemmas.List.{map-id}
 use Rattle.std.proofs.lemmas.List.Elements.{filter-append}
-use Rattle.std.proofs.lemmas.List.FromFn.{map-range_with_len_more}
 use Rattle.std.proofs.lemmas.List.Sums.{fold-append}
 use Rattle.quiesce_core.specs.State.{Configuration, is_live}
 use Rattle.node_turn_laws.specs.Reached.{IsReached}
@@ -14,13 +12,10 @@ use Rattle.node_turn_laws.specs.Round.{Round, give_turn}
 use Rattle.node_turn_laws.specs.World.{World}
 use Rattle.step_board.specs.Going.{Gave, GaveTurnIfLive, ShowsSome, Went, WentOn, before_turns, live_below, turn_if_live, turns_below}
 use Rattle.step_board.specs.TurnFacts.{went_live, went_none}
-
-pub range_more : (k : ℕ) → range_with_len 0 (k + 1) ≡ range_with_len 0 k ++ k ∷ []
-range_more k =
-    sym (map-id (range_with_len 0 (k + 1))) ∙ map-range_with_len_more (λ (x : ℕ). x) 0 k k (omega arith) ∙ ap (λ xs. xs ++ k ∷ []) (map-id (range_with_len 0 k))
+use Rattle.base.proofs.RisingLaws.{places_more}
 
 pub filtered_more : (p : ℕ → Bool) (k : ℕ) → filter p (range_with_len 0 (k + 1)) ≡ filter p (range_with_len 0 k) ++ cond (p k) (k ∷ []) []
-filtered_more p k = ap (filter p) (range_more k) ∙ filter-append p (range_with_len 0 k) (k ∷ [])
+filtered_more p k = ap (filter p) (places_more k) ∙ filter-append p (range_with_len 0 k) (k ∷ [])
 
 pub went_below : (begins : Bool) (w : World) (k : ℕ) → IsReached w → WentOn w (turns_below begins w k).world
 went_below begins w k r = went_live w begins (range_with_len 0 k) (before_turns w) (went_none w r)
@@ -62,10 +57,6 @@ module _ {B : Type 0} (S : B → World → Type 0) where
 
   pub some_given : (mid new : B) (begins : Bool) (k : ℕ) (more_ : Bool) → GaveTurnIfLive S mid new begins k more_ → ShowsSome S mid → ShowsSome S new
   some_given mid new begins k more_ turn_ some = ∥∥₁_map some (λ h. ((turn_if_live begins h.0 k).world, (turn_ h.0 h.1).shows))
-
-pub if_err : {A E P : Type 0} → P → (r : Result A E) → OnErr r P
-if_err h (Ok x) = tt
-if_err h (Err e) = h
 
 -- ---- the first live node that isn't done
 

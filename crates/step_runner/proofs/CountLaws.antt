@@ -4,7 +4,7 @@ use Rattle.std.specs.Prelude.{sum_by}
 use Rattle.std.specs.List.{count_by, range_with_len}
 use Rattle.std.proofs.lemmas.Bool.{cases_Bool}
 use Rattle.std.proofs.lemmas.List.Sums.{sum_by-cons}
-use Rattle.base.proofs.SumLaws.{sum_plus}
+use Rattle.base.proofs.SumLaws.{sum_plus, sum_same}
 use Rattle.txn_records.specs.Looks.{ended_in_word}
 use Rattle.change_board.specs.Scans.{Found, all_ports, ended_in, ports_of}
 use Rattle.quiesce_word.specs.Phases.{is_idle}
@@ -17,7 +17,7 @@ use Rattle.quiesce_core.specs.declared.event.Event.{Event}
 use Rattle.quiesce_core.specs.declared.event.Event.TheVariants.{Begin, Call, Take, Give, End, More, Ask, Hear, Miss, Close, Reopen, Make, Link, Unlink, Remove}
 use Rattle.quiesce_core.specs.declared.state.Exchange.{Exchange}
 use Rattle.quiesce_laws.proofs.SerialLaws.{busy_serial, tallied}
-use Rattle.quiesce_laws.proofs.TotalLaws.{ends_make_all_serials, is_busy_at, open_ports, sum_same}
+use Rattle.quiesce_laws.proofs.TotalLaws.{ends_make_all_serials, is_busy_at, open_ports}
 use Rattle.quiesce_laws.specs.Events as law
 use Rattle.step_board.specs.RunFacts.{machine_is, reached_runs}
 use Rattle.node_turn_laws.specs.Reached.{IsReached}

@@ -1,7 +1,8 @@
 -- Lemmas on parts that are carried out one after the other.
-use Rattle.std.proofs.Common.{◌≡◌, ◌∙◌, ℕ, ℤ, ◌+◌, List, [], ◌∷◌, ◌++◌, append_assoc, append-nil, length, take, refl, sym, ap, subst, Some, slice_get}
+use Rattle.std.proofs.Common.{◌≡◌, ◌∙◌, ℕ, ℤ, ◌+◌, List, [], ◌∷◌, ◌++◌, append_assoc, append-nil, length, take, refl, sym, ap, subst}
 use Rattle.std.proofs.lemmas.List.{map-append}
 use Rattle.base.proofs.EachLaws.{each_pushed}
+use Rattle.base.proofs.PlaceLaws.{own_place}
 use Rattle.config_graph.specs.Graph.{Graph}
 use Rattle.change_plan_laws.specs.Committing.{made_in}
 use Rattle.change_board.specs.declared.board.Board.{Ghosts as BoardWords}
@@ -25,10 +26,6 @@ stage_front g (x ∷ xs) ys = stage_front x.next xs ys
 take_front : {A : Type 0} (xs ys : List A) → take (length xs) (xs ++ ys) ≡ xs
 take_front [] ys = refl
 take_front (x ∷ xs) ys = ap (λ zs. x ∷ zs) (take_front xs ys)
-
-get_front : {A : Type 0} (xs ys : List A) (y : A) → slice_get (xs ++ y ∷ ys) (length xs) ≡ Some y
-get_front [] ys y = refl
-get_front (x ∷ xs) ys y = get_front xs ys y
 
 items_pushed : (rs : List Rolled) (r : Rolled) → items_of (rs ++ r ∷ []) ≡ items_of rs ++ r.items
 items_pushed [] r = append-nil r.items
@@ -93,7 +90,7 @@ module _ {B : Type 0} (W : BoardWords B) (old : Engine B) (name : List ℕ) (arg
             mid = e;
             before = v.0;
             part = p;
-            there = get_front done_ rest p;
+            there = own_place done_ rest p;
             gave_up = v.1;
             graph = x.graph ∙ w.rolled.graph ∙ sym (stage_front old.graph done_ (p ∷ rest));
           }

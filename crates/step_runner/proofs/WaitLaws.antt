@@ -1,15 +1,17 @@
 -- How a change and a stop wait: what their looks find, round after round, is what looks at the world find.
 use Rattle.std.proofs.Common.{◌≡◌, ◌∙◌, ℕ, ◌<◌, suc, Bool, true, false, not, cond, List, [], ◌∷◌, ◌++◌, append_assoc, length, map, refl, sym, ap, subst, ⊎_elim, arith}
 use Rattle.std.specs.Prelude.{⊤, ◌==◌, filter, flat_map}
-use Rattle.std.proofs.lemmas.Bool.{cases_eq, ne_eqb}
+use Rattle.std.proofs.lemmas.Bool.{cases_eq}
 use Rattle.std.proofs.lemmas.List.{append-nil, length-append, map-append}
 use Rattle.base.specs.Each.{EachAfter}
+use Rattle.base.proofs.NumberLaws.{not_zero}
 use Rattle.change_board.specs.Scans.{Found, look_entry, ports_of, scan_entries}
 use Rattle.change_board.specs.Transcripts.{entries}
 use Rattle.change_engine.specs.Passivating.{IsPassivation, IsRound, Passivation, WaitingRound, close_item, is_busy, left_after, look_item, passivation_items, root_of, root_ports, roots_of, round_items, silent_items}
 use Rattle.change_engine.specs.declared.passivating.LeftRoot.{LeftRoot}
 use Rattle.change_spec.specs.Scene.{Seen}
 use Rattle.change_spec.specs.Serial.{after_changes, is_none_left, looks_after, seen_at}
+use Rattle.change_spec.proofs.SerialLaws.{ports_seen}
 use Rattle.quiesce_word.specs.Words as words
 use Rattle.quiesce_word.specs.declared.word.Word.{Word}
 use Rattle.quiesce_core.proofs.RunLaws.{runs_are_well_formed}
@@ -23,8 +25,9 @@ use Rattle.step_board.specs.RunFacts.{machine_is, reached_runs, round_goes_on}
 use Rattle.node_turn_laws.specs.Reached.{IsReached}
 use Rattle.node_turn_laws.specs.Round.{after_rounds}
 use Rattle.node_turn_laws.specs.World.{World}
-use Rattle.step_runner.proofs.WorldLaws.{AreSo, look_entries, play_both, play_closes, play_items, play_looks, play_scan, reach_all, so_items}
+use Rattle.step_runner.proofs.WorldLaws.{AreSo, play_both, play_closes, play_items, play_looks, play_scan, reach_all, so_items}
 use Rattle.change_engine.proofs.PassivationLaws.{is_found, found_seen, drained_in, left_more, seen_root, drained_by}
+use Rattle.change_engine.proofs.ItemLaws.{look_entries}
 
 -- ---- what looks find
 
@@ -85,13 +88,6 @@ module _ (w : World) (r : IsReached w) where
 ports_of_roots : (xs : List LeftRoot) → root_ports xs ≡ map (λ (d : Seen). d.port) (map seen_root xs)
 ports_of_roots [] = refl
 ports_of_roots (x ∷ xs) = ap (λ ps. x.port ∷ ps) (ports_of_roots xs)
-
-ports_seen : (w : World) (ps : List ℕ) → map (λ (d : Seen). d.port) (map (seen_at w) ps) ≡ ps
-ports_seen w [] = refl
-ports_seen w (p ∷ ps) = ap (λ xs. p ∷ xs) (ports_seen w ps)
-
-not_zero : (n : ℕ) → (suc n == 0) ≡ false
-not_zero n = ne_eqb (suc n) 0 (λ e. omega (arith, e))
 
 pub some_there : (xs : List LeftRoot) → (xs ≡ [] → ⊥) → (length (root_ports xs) == 0) ≡ false
 some_there [] h = absurd (h refl)

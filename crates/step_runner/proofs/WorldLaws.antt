@@ -9,7 +9,6 @@ use Rattle.base.specs.Each.{EachAfter}
 use Rattle.txn_records.specs.declared.entry.Entry.{Entry}
 use Rattle.txn_records.specs.declared.entry.Entry.TheVariants.{Did, Looked, Sighted, Scanned}
 use Rattle.change_board.specs.Scans.{Found, look_entry, scan_entries}
-use Rattle.txn_records.specs.Looks.{is_drained_word, serial_of}
 use Rattle.change_board.specs.Sights.{Sight, sight_entry}
 use Rattle.change_board.specs.Steps.{Deed, events_of}
 use Rattle.change_board.specs.Transcripts.{Item, silent, told, entries, entry_in}
@@ -28,7 +27,7 @@ use Rattle.node_turn_laws.specs.Reached.{IsReached}
 use Rattle.node_turn_laws.specs.Round.{round}
 use Rattle.node_turn_laws.specs.World.{World, nowhere, with_event}
 use Rattle.step_runner.specs.Behind.{AreByRounds, world_behind}
-use Rattle.change_engine.proofs.ItemLaws.{entries_both, silent_entries}
+use Rattle.change_engine.proofs.ItemLaws.{entries_both, silent_entries, look_entries}
 
 -- the world behind items that begin in this one
 abbrev pub play_items : World → List Item → World
@@ -113,12 +112,6 @@ one_look : (p v : ℕ) (l : HistoryLine) (b : Bool) (xs : List Entry)
     → cons_option (entry_in (cond b (told (Looked p v) l) (silent (Looked p v)))) xs ≡ Looked p v ∷ xs
 one_look p v l true xs = refl
 one_look p v l false xs = refl
-
-pub look_entries : (fs : List Found) → entries (map look_item fs) ≡ map look_entry fs
-look_entries [] = refl
-look_entries (f ∷ fs) =
-    one_look f.port f.word (to.Drained f.port (serial_of f.word)) (is_drained_word f.word) (entries (map look_item fs))
-    ∙ ap (λ xs. Looked f.port f.word ∷ xs) (look_entries fs)
 
 pub looks_leave : (w : World) (fs : List Found) → fold play w (map look_entry fs) ≡ w
 looks_leave w [] = refl

@@ -1,9 +1,10 @@
 -- What the loads of a call tell.
-use Rattle.std.proofs.Common.{◌≡◌, ◌∙◌, ℕ, ◌+◌, Bool, true, false, ◌&&◌, ◌||◌, cond, List, [], ◌∷◌, ◌++◌, Option, Some, None, refl, sym, ap, subst, arith}
+use Rattle.std.proofs.Common.{◌≡◌, ◌∙◌, ℕ, ◌+◌, Bool, true, false, ◌||◌, cond, List, [], ◌∷◌, ◌++◌, Option, Some, None, refl, sym, ap, subst, arith}
 use Rattle.std.specs.Prelude.{◌==◌, fold, is_none, is_some, not, option_map}
 use Rattle.std.specs.Option.{option_map_or}
 use Rattle.std.proofs.lemmas.Bool.{ne_eqb}
 use Rattle.std.proofs.lemmas.List.Sums.{fold-append}
+use Rattle.std.specs.Cmp.Derive.{both_true}
 use Rattle.base.proofs.NumberLaws.{same_number}
 use Rattle.config_graph.specs.declared.node.Target.{Target}
 use Rattle.quiesce_word.specs.Phases.{is_answered, is_in_more}
@@ -24,9 +25,6 @@ use Rattle.txn_spec.specs.declared.view.LoadStep.{LoadStep}
 use Rattle.txn_spec.specs.declared.view.NodeView.{NodeView}
 use Rattle.txn_gate.specs.Calls.{ByWord, ByWords, after, begin_loads, begin_reads, called_in, exchanged_in, leads_in, refused_in}
 use Rattle.txn_gate.specs.Told.{loads_by, loads_next, loads_of, next_load, no_loads, with_found}
-
-both : {a b : Bool} → a ≡ true → b ≡ true → (a && b) ≡ true
-both {a} {b} x y = ap (λ t. t && b) x ∙ y
 
 -- events load nothing
 pub after_loads : (n : NodeView) (es : List Event) → (after n es).loads ≡ n.loads
@@ -82,12 +80,12 @@ module _ (s : Loads) (n : NodeView) (p l f : ℕ) where
     where
       other : (b : Bool) → begin_shows (cond b (Closed f) (Again l f)) (record (next_load s l) { found = Some f }) ≡ true
       other true = found_there l f
-      other false = both (same_number l) (same_number f)
+      other false = both_true (same_number l) (same_number f)
 
       began : begin_shows (Begun ((unpack l).serial + 1) (leads_in l)) (next_load s l) ≡ true
       began =
-          both (ap (λ o. option_map_or (λ (u : Target). u.node == option_map_or (λ (x : Target). x.node) o 0) o false) leads ∙ same_number t.node)
-          (both (same_number ((unpack l).serial + 1)) (both (ap not opened) refl))
+          both_true (ap (λ o. option_map_or (λ (u : Target). u.node == option_map_or (λ (x : Target). x.node) o 0) o false) leads ∙ same_number t.node)
+          (both_true (same_number ((unpack l).serial + 1)) (both_true (ap not opened) refl))
 
       by : (b : Bool) → (f == l) ≡ b → LoadsAt p (begin_shows (cond b (Begun ((unpack l).serial + 1) (leads_in l)) (cond (unpack f).closed (Closed f) (Again l f)))) s
           (loads_by kinds.Exchange p f (loads_by kinds.Own p l s))
@@ -100,7 +98,7 @@ module _ (s : Loads) (n : NodeView) (p l f : ℕ) where
   begin_told = closed (unpack l).closed refl
     where
       spent : (b : Bool) → is_spent (unpack l) ≡ b → (unpack l).closed ≡ false → (t : Target) → (unpack l).target ≡ Some t → told (cond b (Some (Spent (unpack l).serial)) None)
-      spent true is opened t leads = own_tells s p l (begin_shows (Spent (unpack l).serial)) (both (both (ap not opened) (ap is_some leads)) is)
+      spent true is opened t leads = own_tells s p l (begin_shows (Spent (unpack l).serial)) (both_true (both_true (ap not opened) (ap is_some leads)) is)
       spent false is opened t leads = tried opened t leads
 
       linked : (o : Option Target) → (unpack l).target ≡ o → (unpack l).closed ≡ false
@@ -124,17 +122,17 @@ call_shown s w = by (unpack w).target refl
         spent : (b : Bool) → call_shows (cond b (Missed w) (Called ((unpack w).serial + 1) (leads_in w))) (next_load s w) ≡ true
         spent true = same_number w
         spent false =
-            both (ap (λ o. option_map_or (λ (u : Target). u.node == option_map_or (λ (x : Target). x.node) o 0) o false) leads ∙ same_number t.node) (same_number ((unpack w).serial + 1))
+            both_true (ap (λ o. option_map_or (λ (u : Target). u.node == option_map_or (λ (x : Target). x.node) o 0) o false) leads ∙ same_number t.node) (same_number ((unpack w).serial + 1))
 
 pub see_shown : (s : Loads) (w : ℕ) → see_shows (seen_in w) (next_load s w) ≡ true
 see_shown s w = by (is_answered (unpack w).phase) refl
   where
     more_ : (b : Bool) → is_in_more (unpack w).phase ≡ b → see_shows (cond b (see.More (unpack w).value) (see.NotYet w)) (next_load s w) ≡ true
-    more_ true is = both is (same_number (unpack w).value)
+    more_ true is = both_true is (same_number (unpack w).value)
     more_ false is = same_number w
 
     by : (b : Bool) → is_answered (unpack w).phase ≡ b → see_shows (cond b (see.Answer (unpack w).value) (cond (is_in_more (unpack w).phase) (see.More (unpack w).value) (see.NotYet w))) (next_load s w) ≡ true
-    by true is = both is (same_number (unpack w).value)
+    by true is = both_true is (same_number (unpack w).value)
     by false is = more_ (is_in_more (unpack w).phase) refl
 
 -- ---- what a call tells where its view has more loads

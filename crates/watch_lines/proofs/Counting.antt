@@ -6,8 +6,9 @@ use Rattle.std.proofs.lemmas.Bool.{and_parts, eqb-true, leb-true, ltb-true}
 use Rattle.std.proofs.lemmas.List.{length-append}
 use Rattle.std.proofs.lemmas.List.Elements.{All-cons, All-nil}
 use Rattle.std.proofs.lemmas.List.Kept.{AllPairs-cons}
+use Rattle.std.proofs.lemmas.Option.{slice_get_within}
 use Rattle.base.proofs.OptionLaws.{map_or_at, map_or_true}
-use Rattle.base.proofs.PlaceLaws.{slice_get-below, slice_get-front, slice_get-last, slice_get-push_cases, slice_get-there}
+use Rattle.base.proofs.PlaceLaws.{slice_get-front, slice_get-last, slice_get-push_cases, slice_get-there}
 use Rattle.config_graph.specs.Graph.{Graph}
 use Rattle.watch_lines.specs.Lists.{no_graph}
 use Rattle.watch_lines.specs.Counts.{AreCountsOf, before_all, is_counted, is_next, lines_from, lines_of}
@@ -22,7 +23,7 @@ sighting_on graphs g s is = (is.0, slice_get-front (no_graph ∷ graphs) (g ∷ 
 pub counts_of_none : AreCountsOf [] (before_all ∷ [])
 counts_of_none = record {
   count = refl;
-  each = λ number s there. ⊎_elim (λ (none : slice_get [] number ≡ Some s). absurd (let low = slice_get-below [] number s none in omega (arith, low)))
+  each = λ number s there. ⊎_elim (λ (none : slice_get [] number ≡ Some s). absurd (let low = slice_get_within [] number s none in omega (arith, low)))
       (λ (t : (number ≡ 0) × (before_all ≡ s)). subst (λ (x : Sighting). (x.commits ≡ number) × IsSightingOf [] x) t.1 (sym t.0, (no_graph, refl, (refl, refl))))
       (slice_get-push_cases [] before_all number s there);
 }

@@ -1,8 +1,10 @@
 -- What was noted of the graphs at commit lines is what the lines tell.
-use Rattle.std.proofs.Common.{◌≡◌, ℕ, zero, suc, ◌+◌, ◌<◌, Bool, false, cond, List, [], ◌∷◌, ◌++◌, refl, sym, subst, ap, ◌∙◌, ⊎_elim, inl, inr, ◌⊎◌, arith}
+use Rattle.std.proofs.Common.{◌≡◌, ℕ, zero, suc, ◌+◌, ◌<◌, Bool, false, cond, List, [], ◌∷◌, ◌++◌, refl, sym, subst, ap, ◌∙◌, ⊎_elim, inl, inr, ◌⊎◌, arith, zero-add}
 use Rattle.std.specs.Prelude.{slice_get, Some}
 use Rattle.std.proofs.lemmas.List.Sums.{sum_by-cons}
-use Rattle.base.proofs.PlaceLaws.{one_at, slice_get-below}
+use Rattle.std.proofs.lemmas.Option.{slice_get_within}
+use Rattle.std.proofs.Math.Numerals.{one-add}
+use Rattle.base.proofs.PlaceLaws.{one_at}
 use Rattle.config_graph.specs.Graph.{Graph}
 use Rattle.report_types.specs.declared.report.HistoryLine.{HistoryLine}
 use Rattle.report_types.specs.declared.report.HistoryLine.TheVariants as to
@@ -34,17 +36,11 @@ line_on l history k f = record {
   counted = count_more l f.before ∙ ap (λ n. number_of (is_commit l) + n) f.counted;
 }
 
-one_and : (k : ℕ) → 1 + k ≡ suc k
-one_and k = omega arith
-
-none_and : (k : ℕ) → 0 + k ≡ k
-none_and k = omega arith
-
 commit_line_from : (history : List HistoryLine) (k : ℕ) → ((j : ℕ) → j < commit_count history → CommitLine history j) → k < commit_count (to.Commit ∷ history) → CommitLine (to.Commit ∷ history) k
 commit_line_from history zero later low = record { before = []; after = history; parts = refl; counted = refl }
 commit_line_from history (suc k) later low =
     let more : commit_count (to.Commit ∷ history) ≡ 1 + commit_count history = count_more to.Commit history in
-    subst (CommitLine (to.Commit ∷ history)) (one_and k) (line_on to.Commit history k (later k (omega (arith, more, low))))
+    subst (CommitLine (to.Commit ∷ history)) (one-add k) (line_on to.Commit history k (later k (omega (arith, more, low))))
 
 -- a line is `commit`, or none of those that are counted
 commit_or : (l : HistoryLine) → (l ≡ to.Commit) ⊎ (is_commit l ≡ false)
@@ -72,7 +68,7 @@ line_behind : (l : HistoryLine) (history : List HistoryLine) (k : ℕ) → is_co
 line_behind l history k other later low =
     let more = count_more l history in
     let none : number_of (is_commit l) ≡ 0 = ap number_of other in
-    subst (CommitLine (l ∷ history)) (ap (λ n. n + k) none ∙ none_and k) (line_on l history k (later (omega (arith, more, none, low))))
+    subst (CommitLine (l ∷ history)) (ap (λ n. n + k) none ∙ zero-add k) (line_on l history k (later (omega (arith, more, none, low))))
 
 commit_line_at : (history : List HistoryLine) (k : ℕ) → k < commit_count history → CommitLine history k
 commit_line_at [] k low = absurd (omega (arith, low))
@@ -86,7 +82,7 @@ commit_line_at (l ∷ history) k low = ⊎_elim
 stands_at : (history : List HistoryLine) (graphs : List Graph) (number : ℕ) (graph : Graph) → AreCommitted history graphs → slice_get (no_graph ∷ graphs) number ≡ Some graph → StandsAt history number graph
 stands_at history graphs zero graph are there = subst (StandsAt history 0) (one_at (no_graph ∷ graphs) 0 no_graph graph refl there) at_none
 stands_at history graphs (suc k) graph are there =
-    let line = commit_line_at history k (let low = slice_get-below graphs k graph there in let count = are.count in omega (arith, low, count)) in
+    let line = commit_line_at history k (let low = slice_get_within graphs k graph there in let count = are.count in omega (arith, low, count)) in
     let heard = are.each line.before line.after line.parts in
     let same : heard.graph ≡ graph = one_at graphs (commit_count line.before) heard.graph graph heard.heard (subst (λ (n : ℕ). slice_get graphs n ≡ Some graph) (sym line.counted) there) in
     let number : commit_count line.before + 1 ≡ suc k = (let n = line.counted in omega (arith, n)) in

@@ -5,8 +5,8 @@ use Rattle.std.specs.Option.{option_map_or}
 use Rattle.std.proofs.lemmas.Bool.{cases_lt, ltb-true, ltb-false, true≢false}
 use Rattle.std.proofs.lemmas.List.Elements.{All-get_or, All-from_get_or, All-nil, All-push, All-weaker}
 use Rattle.std.proofs.lemmas.List.Quantifiers.{all_pairs_push}
-use Rattle.std.proofs.lemmas.Option.{get_or_from_slice_get, none-some, same_Some}
-use Rattle.base.proofs.PlaceLaws.{slice_get-below, slice_get-front, slice_get-there}
+use Rattle.std.proofs.lemmas.Option.{get_or_from_slice_get, none-some, same_Some, slice_get_within}
+use Rattle.base.proofs.PlaceLaws.{slice_get-front, slice_get-there}
 use Rattle.config_graph.specs.Graph.{Graph}
 use Rattle.watch_lines.specs.Sightings.{CountsOf, IsBelow, IsSightingOf}
 use Rattle.watch_lines.specs.declared.sighting.Sighting.{Sighting}
@@ -36,10 +36,10 @@ last_sighting list s g number graph counts = (
 )
 
 sighted_within : (list : List Graph) (s : Sighting) → IsSightingOf list s → s.commits ≤ length list
-sighted_within list s is = let low = slice_get-below (no_graph ∷ list) s.commits is.0 is.1 in omega (arith, low)
+sighted_within list s is = let low = slice_get_within (no_graph ∷ list) s.commits is.0 is.1 in omega (arith, low)
 
 at_place : {A : Type 0} (P : A → Type 0) (xs : List A) (i : ℕ) (x : A) → All P xs → slice_get xs i ≡ Some x → P x
-at_place P xs i x all is = subst P (get_or_from_slice_get xs i x x is) (All-get_or P xs i x (slice_get-below xs i x is) all)
+at_place P xs i x all is = subst P (get_or_from_slice_get xs i x x is) (All-get_or P xs i x (slice_get_within xs i x is) all)
 
 parted_at_last : {A : Type 0} (xs : List A) (n : ℕ) (x : A) → slice_get xs n ≡ Some x → length xs ≡ n + 1 → (earlier : List A) × (xs ≡ earlier ++ x ∷ [])
 parted_at_last [] n x is long = absurd (none-some x is)
@@ -82,6 +82,6 @@ noted_already list noted commits are old number = ends_at (slice_get noted (leng
     ends_at (Some last) is old =
         let low = ltb-false last.commits commits old in
         let high = sighted_within list last (at_place (IsSightingOf list) noted (length noted - 1) last are.each is) in
-        let within = slice_get-below noted (length noted - 1) last is in
+        let within = slice_get_within noted (length noted - 1) last is in
         let parts = parted_at_last noted (length noted - 1) last is (omega (arith, within)) in
         (parts.0, last, parts.1, omega (arith, low, high, number))

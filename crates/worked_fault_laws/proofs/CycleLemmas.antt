@@ -1,8 +1,7 @@
 -- The graph of the description whose one node is linked to itself.
 use Rattle.std.proofs.Common.{◌≡◌, ◌∙◌, ◌⊎◌, inl, inr, ℕ, pos, [], ◌∷◌, Some, codes, slice_get, refl, sym, ap, subst, arith, Contains}
-use Rattle.std.proofs.lemmas.Option.{none-some, same_Some}
+use Rattle.std.proofs.lemmas.Option.{none-some, same_Some, slice_get_within}
 use Rattle.base.proofs.ContainsLaws.{Contains-at, Contains-cons_cases, Contains-here, Contains-one}
-use Rattle.base.proofs.PlaceLaws.{slice_get-below}
 use Rattle.config_graph.specs.Cycles.{FirstOnCycle}
 use Rattle.config_graph.specs.Graph.{Graph}
 use Rattle.config_graph.specs.Kinds.{row}
@@ -93,7 +92,7 @@ is_link =
 -- a node of the list is the one, at place 0
 at_zero : (n : Node) (k : ℕ) → slice_get (map_node ∷ []) k ≡ Some n → (k ≡ 0) × (n ≡ map_node)
 at_zero n k at =
-    let place : k ≡ 0 = omega (arith, slice_get-below (map_node ∷ []) k n at) in
+    let place : k ≡ 0 = omega (arith, slice_get_within (map_node ∷ []) k n at) in
     (place, sym (same_Some map_node n (subst (λ k. slice_get (map_node ∷ []) k ≡ Some n) place at)))
 
 only_link : (l : Link) → IsLink tree top (map_node ∷ []) l → l ≡ own_link
@@ -102,8 +101,8 @@ only_link l is =
     let to = at_zero is.to l.to is.to_there in
     let requires_it = subst (λ (n : Node). slice_get (row n.kind).requires_ l.require ≡ Some is.linked.required) from.1 is.linked.requires_it in
     let provides_it = subst (λ (n : Node). slice_get (row n.kind).provides l.provide ≡ Some is.linked.provided) to.1 is.linked.provides_it in
-    let require : l.require ≡ 0 = omega (arith, slice_get-below (row Map).requires_ l.require is.linked.required requires_it) in
-    let provide : l.provide ≡ 0 = omega (arith, slice_get-below (row Map).provides l.provide is.linked.provided provides_it) in
+    let require : l.require ≡ 0 = omega (arith, slice_get_within (row Map).requires_ l.require is.linked.required requires_it) in
+    let provide : l.provide ≡ 0 = omega (arith, slice_get_within (row Map).provides l.provide is.linked.provided provides_it) in
     λ i. record { from = from.0 i; require = require i; to = to.0 i; provide = provide i }
 
 pub is_graph : IsElab tree top the_graph

@@ -11,6 +11,7 @@ use Rattle.base.specs.Each.{Each}
 use Rattle.base.proofs.EachLaws.{each_at}
 use Rattle.base.proofs.PlaceLaws.{tails_are}
 use Rattle.base.proofs.RangeLaws.{all_in_range}
+use Rattle.base.proofs.BoolLaws.{then_so}
 use Rattle.quiesce_word.specs.Phases.{is_idle}
 use Rattle.quiesce_core.specs.Effect.{effect}
 use Rattle.quiesce_core.specs.Runs.{IsRun, done_by, is_begin_of, state_after}
@@ -159,10 +160,6 @@ reopened_in m h =
 -- the close is one of the two
 abbrev is_one_of_two : ℕ → Bool
 is_one_of_two j = not (begins_so (drop j told)) || (j == 12 || j == 25)
-
-pub then_so : (a b : Bool) → (not a || b) ≡ true → a ≡ true → b ≡ true
-then_so true b h e = h
-then_so false b h e = absurd (both_ways false refl e)
 
 -- behind the first, up to a place behind all closes, the port is reopened
 abbrev is_reopened : ℕ → Bool

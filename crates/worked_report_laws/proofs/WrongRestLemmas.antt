@@ -1,6 +1,6 @@
 -- A wrong rest: a buffer was empty before the line before, and has an item at each place since.
 use Rattle.std.proofs.Common.{◌≡◌, ◌∙◌, ℕ, ◌<◌, ◌≤◌, Bool, true, false, List, [], ◌∷◌, ◌++◌, append_assoc, drop, length, take, Option, Some, None, refl, sym, ap, subst, ⊎_elim, arith, Contains}
-use Rattle.std.specs.Prelude.{◌||◌, All, codes, filter_map, fold, map, if◌then◌else◌}
+use Rattle.std.specs.Prelude.{◌||◌, All, codes, filter_map, map, if◌then◌else◌}
 use Rattle.std.specs.List.{count_by, list_any}
 use Rattle.std.specs.Option.{option_map_or}
 use Rattle.std.proofs.lemmas.Bool.{both_ways, or_right}
@@ -19,9 +19,9 @@ use Rattle.quiesce_core.specs.declared.event.Event.{Event}
 use Rattle.quiesce_core.specs.declared.event.Event.TheVariants as event
 use Rattle.quiesce_core.specs.declared.state.Slot.{Slot}
 use Rattle.quiesce_core.specs.Effect.{effect}
-use Rattle.quiesce_core.specs.Runs.{IsRun, done_by, done_from, is_doer, is_end_of, state_after}
-use Rattle.quiesce_core.specs.State.{Configuration, State, empty, is_live, slot}
-use Rattle.quiesce_core.proofs.RunLaws.{fronts_are_runs}
+use Rattle.quiesce_core.specs.Runs.{IsRun, done_by, done_from, is_end_of, state_after}
+use Rattle.quiesce_core.specs.State.{Configuration, empty, is_live, slot}
+use Rattle.quiesce_core.proofs.RunLaws.{fronts_are_runs, done_parts}
 use Rattle.quiesce_laws.specs.Events.{is_take_of}
 use Rattle.quiesce_laws.proofs.OrderLaws.{in_order}
 use Rattle.node_turn_laws.specs.Round.{ends_transaction}
@@ -40,17 +40,6 @@ use Rattle.worked_report_laws.proofs.PlaceLemmas.{DoneAt, done_at, passes_there}
 use Rattle.worked_report_laws.proofs.WrongLogLemmas.{AreFew, ends_by_sources, few_behind, some_log}
 use Rattle.worked_report_laws.proofs.WrongRunLemmas.{behind_line, ends_in}
 use Rattle.worked_report_laws.proofs.WrongStateLemmas.{folds_so}
-
--- what a node does in a list that is put together
-pub done_parts : (s : State) (n : ℕ) (xs ys : List Event) → done_from s n (xs ++ ys) ≡ done_from s n xs ++ done_from (fold effect s xs) n ys
-done_parts s n [] ys = refl
-done_parts s n (e ∷ xs) ys = by (is_doer s n e) (done_parts (effect s e) n xs ys)
-  where
-    by : (b : Bool) → done_from (effect s e) n (xs ++ ys) ≡ done_from (effect s e) n xs ++ done_from (fold effect (effect s e) xs) n ys
-        → (if b then e ∷ done_from (effect s e) n (xs ++ ys) else done_from (effect s e) n (xs ++ ys))
-        ≡ (if b then e ∷ done_from (effect s e) n xs else done_from (effect s e) n xs) ++ done_from (fold effect (effect s e) xs) n ys
-    by true h = ap (λ es. e ∷ es) h
-    by false h = h
 
 -- an event of a log that is the only one of its sort stands in the part of all events in which there is one
 pub placed : (test : Event → Bool) (n : ℕ) (es rest log : List Event) (e : Event) → done_by n (es ++ rest) ≡ log → Contains log e → test e ≡ true → count_by test (es ++ rest) ≤ 1 → 1 ≤ count_by test es → DoneAt n [] es e

@@ -17,7 +17,7 @@ use Rattle.quiesce_core.specs.State.{State, empty, exchange}
 use Rattle.quiesce_core.specs.declared.event.Event.{Event}
 use Rattle.quiesce_core.specs.declared.event.Event.TheVariants as event
 use Rattle.quiesce_core.specs.declared.state.Exchange.{Exchange}
-use Rattle.quiesce_core.proofs.RunLaws.{fronts_are_runs}
+use Rattle.quiesce_core.proofs.RunLaws.{fronts_are_runs, done_parts}
 use Rattle.quiesce_laws.specs.Events.{is_take_of}
 use Rattle.quiesce_laws.specs.Roots.{has_root}
 use Rattle.quiesce_laws.proofs.OrderLaws.{begun_count, ended_count, in_order, was_begun}
@@ -29,12 +29,12 @@ use Rattle.change_spec.specs.Roots.{StoodSinceClose}
 use Rattle.change_spec.proofs.StoodLaws.{stood_since}
 use Rattle.change_spec.proofs.MemberLaws.{at_line, events_parts, lines_parts, parted_at}
 use Rattle.base.proofs.ListLaws.{count_by-some}
+use Rattle.base.proofs.BoolLaws.{then_so}
 use Rattle.worked_report_laws.specs.WrongSerials.{ahead, between, late, log_of_a}
 use Rattle.worked_report_laws.proofs.PlaceLemmas.{DoneAt}
 use Rattle.worked_report_laws.proofs.WrongChangeLemmas.{any_left, any_right}
 use Rattle.worked_report_laws.proofs.WrongLogLemmas.{some_log}
-use Rattle.worked_report_laws.proofs.WrongLookLemmas.{then_so}
-use Rattle.worked_report_laws.proofs.WrongRestLemmas.{done_parts, placed}
+use Rattle.worked_report_laws.proofs.WrongRestLemmas.{placed}
 
 -- a port that had come to a serial has no lower one later
 fallen : (xs ys : List Event) (p k j : ℕ) → IsRun (xs ++ ys) → (exchange (state_after xs) p).serial ≡ k → (exchange (state_after (xs ++ ys)) p).serial ≡ j

@@ -1,6 +1,5 @@
 use Rattle.std.proofs.Common.{◌≡◌, ◌++◌, ◌∷◌, [], append_assoc, sym, ap, ◌∙◌, subst, arith}
-use Rattle.std.proofs.lemmas.List.{append-nil}
-use Rattle.base.proofs.MapLaws.{no_length}
+use Rattle.std.proofs.lemmas.List.{append-nil, nil_from_length}
 use Rattle.change_board.specs.Doing.{DoesEvents}
 use Rattle.change_board.specs.Steps.{HasRoomForAll, MayDoAll}
 use Rattle.change_board.proofs.DeedLemmas.{does_both, does_none, here_next}
@@ -47,6 +46,6 @@ pub returns : goal.returns
 returns g c =
     let inv = c.loop-event.invariant in
     let rest = c.loop-event.event-iterator.rest in
-    let none_ : rest.items ≡ [] = no_length rest.items (omega (arith, rest.ok.0, c.in-None.ensures.steps.0)) in
+    let none_ : rest.items ≡ [] = nil_from_length rest.items (omega (arith, rest.ok.0, c.in-None.ensures.steps.0)) in
     let all : c.loop-event.yielded ≡ c.args.events.items = sym (append-nil c.loop-event.yielded) ∙ ap (λ es. c.loop-event.yielded ++ es) (sym none_) ∙ inv.4 in
     subst (DoesEvents g.B.Board c.args.board.now c.loop-event.board) all inv.2

@@ -3,8 +3,8 @@ use Rattle.change_engine.specs.Breaking.{BrokeInRound}
 use Rattle.change_engine.specs.Draining.{left_lines}
 use Rattle.change_engine.specs.Passivating.{Passivated}
 use Rattle.change_engine.proofs.ChangeLemmas.{waited}
-use Rattle.change_engine.proofs.Growing.{if_err}
 use Rattle.change_engine.specs.Growing.{telling}
+use Rattle.base.proofs.AnswerLaws.{if_err}
 use Rattle.change_engine.proofs.draining.drain.Goals as goal
 
 pub passivate-requires-clause-line_place : goal.passivate-requires-clause-line_place

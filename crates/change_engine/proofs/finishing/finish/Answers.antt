@@ -1,6 +1,6 @@
 use Rattle.change_engine.proofs.Breaking.{saw_alone}
-use Rattle.change_engine.proofs.Growing.{if_err}
 use Rattle.change_engine.proofs.Scanning.{all_quiet, finished}
+use Rattle.base.proofs.AnswerLaws.{if_err}
 use Rattle.change_engine.proofs.finishing.finish.Goals as goal
 
 pub returns-clause-ok : goal.returns-clause-ok

@@ -2,10 +2,10 @@ use Rattle.std.proofs.Common.{◌≡◌, ◌+◌, ◌++◌, ◌∷◌, [], lengt
 use Rattle.std.proofs.lemmas.List.{append-nil, length-append}
 use Rattle.change_engine.specs.Finishing.{ScansGoOn, ends_finish, rounds_in}
 use Rattle.change_engine.proofs.Breaking.{broke_behind}
-use Rattle.change_engine.proofs.Growing.{if_err}
 use Rattle.change_engine.proofs.Scanning.{all_quiet, rounds_pushed, scans_add, scans_are, scans_twice, seen_by}
 use Rattle.change_engine.proofs.finishing.make_scans.Goals as goal
 use Rattle.base.proofs.ListLaws.{AllByRecursion-push}
+use Rattle.base.proofs.AnswerLaws.{if_err}
 
 pub loop-made-init : goal.loop-made-init
 loop-made-init g c = record {

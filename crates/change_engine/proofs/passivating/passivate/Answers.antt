@@ -4,10 +4,10 @@ use Rattle.std.proofs.lemmas.Bool.{both_ways, eq-eqb, eqb-true}
 use Rattle.std.proofs.lemmas.List.{length-append}
 use Rattle.change_engine.specs.declared.passivating.LeftRoot.{LeftRoot}
 use Rattle.change_engine.proofs.Breaking.{broke_in_round}
-use Rattle.change_engine.proofs.Growing.{if_err}
 use Rattle.change_engine.proofs.Passing.{begun, closes, made_behind, made_on, made_still, passivation_more, went_on}
 use Rattle.change_engine.proofs.passivating.passivate.Goals as goal
 use Rattle.change_engine.proofs.PassivationLaws.{left_more}
+use Rattle.base.proofs.AnswerLaws.{if_err}
 
 none_left : (xs : List LeftRoot) (n : ℕ) → n ≡ length xs → (n == 0) ≡ true → xs ≡ []
 none_left [] n e h = refl

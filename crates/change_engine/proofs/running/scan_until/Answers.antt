@@ -1,9 +1,9 @@
 use Rattle.std.proofs.Common.{◌++◌, ◌∷◌, [], refl, sym, ap, ◌∙◌, subst, arith}
 use Rattle.std.proofs.lemmas.List.{append-nil}
 use Rattle.base.proofs.EachLaws.{each_pushed}
+use Rattle.base.proofs.AnswerLaws.{if_err}
 use Rattle.change_engine.specs.Running.{RunsOn, ends_run}
 use Rattle.change_engine.proofs.Breaking.{broke_behind, saw_alone}
-use Rattle.change_engine.proofs.Growing.{if_err}
 use Rattle.change_engine.proofs.RunLemmas.{out_pushed, run_enough, run_on, run_out, since_pushed}
 use Rattle.change_engine.proofs.Scanning.{all_quiet, scans_add, scans_are, scans_twice, seen_by}
 use Rattle.change_engine.proofs.running.scan_until.Goals as goal

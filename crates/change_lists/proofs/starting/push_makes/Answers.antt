@@ -1,8 +1,9 @@
 use Rattle.std.proofs.Common.{◌++◌, map, None, Some, ap, ◌∙◌, arith}
 use Rattle.std.specs.List.{enumerate_from}
 use Rattle.std.proofs.lemmas.List.{take_all}
+use Rattle.std.proofs.lemmas.List.FromFn.{length-enumerate_from}
 use Rattle.quiesce_core.specs.declared.event.Event.TheVariants.{Make}
-use Rattle.quiesce_core.proofs.GraphLaws.{get_numbered, length-numbered_from}
+use Rattle.quiesce_core.proofs.GraphLaws.{get_numbered}
 use Rattle.quiesce_laws.specs.Starts.{make_of}
 use Rattle.change_lists.proofs.ListingLaws.{mapped_on}
 use Rattle.change_lists.proofs.starting.push_makes.Goals as goal
@@ -19,4 +20,4 @@ pub returns : goal.returns
 returns c =
     let nodes = c.args.graph.now.nodes in
     c.loop-slot.invariant ∙ ap (λ xs. c.args.events.now.items ++ map make_of xs)
-    (take_all c.loop-slot.slot (enumerate_from 0 nodes) (omega (arith, length-numbered_from 0 nodes, c.loop-slot-test, c.loop-slot.auto, c.node_count-slot-end.ensures.count)))
+    (take_all c.loop-slot.slot (enumerate_from 0 nodes) (omega (arith, length-enumerate_from 0 nodes, c.loop-slot-test, c.loop-slot.auto, c.node_count-slot-end.ensures.count)))

@@ -1,10 +1,11 @@
 use Rattle.std.proofs.Common.{◌<◌, ◌++◌, length, map, Some, refl, ap, ◌∙◌, arith}
 use Rattle.std.specs.List.{enumerate_from}
 use Rattle.std.proofs.lemmas.List.{take_all}
+use Rattle.std.proofs.lemmas.List.FromFn.{length-enumerate_from}
 use Rattle.base.proofs.PlaceLaws.{slice_get-there}
 use Rattle.config_graph.specs.Graph.{ports}
 use Rattle.quiesce_core.specs.declared.event.Event.TheVariants.{Reopen}
-use Rattle.quiesce_core.proofs.GraphLaws.{get_numbered, length-numbered_from}
+use Rattle.quiesce_core.proofs.GraphLaws.{get_numbered}
 use Rattle.quiesce_laws.specs.Starts.{reopen_of}
 use Rattle.change_lists.proofs.ListingLaws.{mapped_on}
 use Rattle.change_lists.proofs.starting.push_reopens.Goals as goal
@@ -22,4 +23,4 @@ pub returns : goal.returns
 returns c =
     let made = ports c.args.graph.now.nodes in
     c.loop-port.invariant ∙ ap (λ xs. c.args.events.now.items ++ map reopen_of xs)
-    (take_all c.loop-port.port (enumerate_from 0 made) (omega (arith, length-numbered_from 0 made, c.loop-port-test, c.loop-port.auto, c.port_count-port-end.ensures)))
+    (take_all c.loop-port.port (enumerate_from 0 made) (omega (arith, length-enumerate_from 0 made, c.loop-port-test, c.loop-port.auto, c.port_count-port-end.ensures)))

@@ -1,6 +1,7 @@
 use Rattle.std.proofs.Common.{◌∙◌, ◌<◌, false, None, arith, inl, inr, length}
 use Rattle.std.proofs.lemmas.Result.{err_from_is_err_and}
-use Rattle.change_plan.proofs.MoveLemmas.{is_missing, is_there, marked_more, other_source, other_target, read_entry, repeated_source, repeated_target}
+use Rattle.change_plan.proofs.MoveLemmas.{is_missing, is_there, marked_more, other_source, other_target, repeated_source, repeated_target}
+use Rattle.base.proofs.PlaceLaws.{read_entry}
 use Rattle.change_plan.proofs.moving.mark_move.Goals as goal
 
 pub returns-in_err-shift-clause-refused : goal.returns-in_err-shift-clause-refused

@@ -1,5 +1,5 @@
 use Rattle.std.proofs.Common.{◌≡◌, ◌∙◌, ◌++◌, ◌∷◌, [], append_assoc, sym, ap, subst, arith}
-use Rattle.base.proofs.MapLaws.{no_length}
+use Rattle.std.proofs.lemmas.List.{nil_from_length}
 use Rattle.change_engine.specs.Calls.{HasStarted}
 use Rattle.change_spec.specs.Follows.{Follows}
 use Rattle.change_transcript_laws.specs.Pieces.{items_of}
@@ -59,7 +59,7 @@ returns g c =
     let l = c.loop-step in
     let rest = l.step-iterator.rest in
     let all = c.args.steps.items in
-    let none_ : rest.items ≡ [] = no_length rest.items (omega (arith, rest.ok.0, c.in-None.ensures.steps.0)) in
+    let none_ : rest.items ≡ [] = nil_from_length rest.items (omega (arith, rest.ok.0, c.in-None.ensures.steps.0)) in
     let p = ended W H c.args.start all l.yielded rest.items l.engine l.listener l.given_up none_ l.invariant.3 l.invariant.2 in
     let x = c.in_ok-report in
     let run = stopped W H c.args.start all l.engine l.listener l.given_up x.report x.board p x.ensures in

@@ -1,13 +1,13 @@
 -- The line by what the three tests of the report came to.
 use Rattle.std.proofs.Common.{true, false, refl, subst}
 use Rattle.std.specs.Prelude.{◌↔◌, IsTrue}
+use Rattle.std.proofs.lemmas.Result.{IfOk-weaker}
 use Rattle.change_spec.specs.Consistent.{Consistent}
 use Rattle.command_answers.specs.Answers.{ShowsAnswer, consistent, consistent_line, unlawful, unlawful_line}
 use Rattle.command_answers.specs.declared.status.Status.TheVariants as status
 use Rattle.command_spec.specs.Commands.{IsJudged, can_be, can_not_be}
 use Rattle.command_program.specs.Preparing.{statements_in}
 use Rattle.command_program.specs.Refusals.{IsLine}
-use Rattle.command_program.proofs.Planning.{if_ok}
 use Rattle.command_program.proofs.judging.judge_report.Goals as goal
 
 pub returns-then-branch : goal.returns-then-branch
@@ -15,7 +15,7 @@ returns-then-branch c =
     let statements = statements_in c.args.asked.now in
     let report = c.args.report.now in
     let decided : IsTrue true ↔ Consistent statements report = subst (λ b. IsTrue b ↔ Consistent statements report) c.if-branch.true (rw c.as_slice.ensures.value at c.in_ok-check_report.ensures) in
-    if_ok c.line.result (IsLine status.Ok consistent_line) (λ answer. ShowsAnswer (IsJudged statements report) answer.status answer.text.items)
+    IfOk-weaker c.line.result (IsLine status.Ok consistent_line) (λ answer. ShowsAnswer (IsJudged statements report) answer.status answer.text.items)
     (λ answer is. record { answer = consistent; is = can_be (decided.0 refl); has_status = is.status_is; has_text = is.text_is }) c.line.ensures
 
 pub returns-else-branch : goal.returns-else-branch
@@ -23,5 +23,5 @@ returns-else-branch c =
     let statements = statements_in c.args.asked.now in
     let report = c.args.report.now in
     let decided : IsTrue false ↔ Consistent statements report = subst (λ b. IsTrue b ↔ Consistent statements report) c.if-branch.false (rw c.as_slice.ensures.value at c.in_ok-check_report.ensures) in
-    if_ok c.line-else-branch.result (IsLine status.Unlawful unlawful_line) (λ answer. ShowsAnswer (IsJudged statements report) answer.status answer.text.items)
+    IfOk-weaker c.line-else-branch.result (IsLine status.Unlawful unlawful_line) (λ answer. ShowsAnswer (IsJudged statements report) answer.status answer.text.items)
     (λ answer is. record { answer = unlawful; is = can_not_be (λ can. let is_true : IsTrue false = decided.1 can in cc (is_true)); has_status = is.status_is; has_text = is.text_is }) c.line-else-branch.ensures

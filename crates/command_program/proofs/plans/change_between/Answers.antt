@@ -1,6 +1,6 @@
 -- A change is refused with the start, with the second component, or for want of room.
 use Rattle.std.proofs.Common.{ℕ, List}
-use Rattle.std.proofs.lemmas.Result.{err_from_is_err_and}
+use Rattle.std.proofs.lemmas.Result.{err_from_is_err_and, IfOk-weaker, IfErr-weaker}
 use Rattle.config_graph.specs.Graph.{Graph}
 use Rattle.command_answers.specs.declared.status.Status.{Status}
 use Rattle.command_spec.specs.Descriptions.{IsDescriptionRefusal}
@@ -8,7 +8,7 @@ use Rattle.command_spec.specs.Queries.{IsTextBy}
 use Rattle.command_spec.specs.Plans.{RefusesStart, HasChange, HasSteps, RefusesPlan, starts_not, leads_nowhere, made_of_graph}
 use Rattle.command_program.specs.Planning.{IsFull}
 use Rattle.command_answers.specs.DescriptionFaults.{MayRefuse}
-use Rattle.command_program.proofs.Planning.{refused_through, plan_refused, changed_by_steps, if_ok, if_err}
+use Rattle.command_program.proofs.Planning.{refused_through, plan_refused, changed_by_steps}
 use Rattle.command_program.proofs.plans.change_between.Goals as goal
 
 pub returns-clause-change : goal.returns-clause-change
@@ -18,7 +18,7 @@ returns-clause-change c text checked =
     let old = c.in_ok-old.old in
     let new = c.in_ok-new.new in
     let IsText : Status → Graph → Graph → List ℕ → Type 0 = IsTextBy c.args.cut.now call target in
-    if_ok c.change_graphs.result (λ answer. HasSteps (IsText answer.status) old new answer.text.items) (λ answer. HasChange (IsText answer.status) text call target answer.text.items)
+    IfOk-weaker c.change_graphs.result (λ answer. HasSteps (IsText answer.status) old new answer.text.items) (λ answer. HasChange (IsText answer.status) text call target answer.text.items)
     (λ answer steps. changed_by_steps (IsText answer.status) text call target old new answer.text.items (c.in_ok-old.ensures.starts text checked) (c.in_ok-new.ensures.graph text checked) steps)
     c.change_graphs.ensures.steps
 
@@ -28,7 +28,7 @@ returns-clause-refused c text checked =
     let target = c.args.target.now in
     let old = c.in_ok-old.old in
     let new = c.in_ok-new.new in
-    if_err c.change_graphs.result (MayRefuse (IsFull old new (made_of_graph old))) (MayRefuse (RefusesPlan text call target))
+    IfErr-weaker c.change_graphs.result (MayRefuse (IsFull old new (made_of_graph old))) (MayRefuse (RefusesPlan text call target))
     (λ e. refused_through (IsFull old new (made_of_graph old)) (RefusesPlan text call target) e
     (λ words full. plan_refused text call target old new words (c.in_ok-old.ensures.starts text checked) (c.in_ok-new.ensures.graph text checked) full))
     c.change_graphs.ensures.full

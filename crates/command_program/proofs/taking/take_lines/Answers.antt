@@ -2,7 +2,7 @@
 use Rattle.std.proofs.Common.{◌≡◌, ◌∙◌, ◌++◌, ◌∷◌, [], append_assoc, ap, arith, subst, sym}
 use Rattle.std.specs.Prelude.{is_some}
 use Rattle.std.proofs.lemmas.Result.{err_from_is_err_and}
-use Rattle.base.proofs.MapLaws.{no_length}
+use Rattle.std.proofs.lemmas.List.{nil_from_length}
 use Rattle.command_program.specs.Fitting.{MayAllStand}
 use Rattle.command_program.proofs.Passing.{IsPassed, all_passed, begun_at_end, none_passed, passed_on, stopped_at}
 use Rattle.command_program.proofs.taking.take_lines.Goals as goal
@@ -57,12 +57,12 @@ pub returns-clause-took : goal.returns-clause-took
 returns-clause-took g c = λ p at.
     let l = c.loop-line in
     let rest = l.line-iterator.rest in
-    let none_ : rest.items ≡ [] = no_length rest.items (omega (arith, rest.ok.0, c.in-None.ensures.steps.0)) in
+    let none_ : rest.items ≡ [] = nil_from_length rest.items (omega (arith, rest.ok.0, c.in-None.ensures.steps.0)) in
     all_passed _ _ _ _ _ l.yielded rest.items c.args.lines.items _ _ none_ l.invariant.3 l.invariant.2 p at
 
 pub returns-clause-begun : goal.returns-clause-begun
 returns-clause-begun g c =
     let l = c.loop-line in
     let rest = l.line-iterator.rest in
-    let none_ : rest.items ≡ [] = no_length rest.items (omega (arith, rest.ok.0, c.in-None.ensures.steps.0)) in
+    let none_ : rest.items ≡ [] = nil_from_length rest.items (omega (arith, rest.ok.0, c.in-None.ensures.steps.0)) in
     begun_at_end _ _ _ _ l.yielded rest.items _ _ none_ l.invariant.2

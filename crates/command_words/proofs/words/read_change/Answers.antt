@@ -1,7 +1,8 @@
 -- The first `--` parts the words into two calls, or else they are no change.
 use Rattle.std.proofs.Common.{map, string_bytes, ◌+◌, take, drop, refl, subst, arith}
+use Rattle.std.proofs.lemmas.List.{take_rest}
 use Rattle.command_words.proofs.Refusals.{no_call, no_target, not_parted}
-use Rattle.command_words.proofs.Parting.{parted_by, parted_nowhere, rest_is}
+use Rattle.command_words.proofs.Parting.{parted_by, parted_nowhere}
 use Rattle.command_words.specs.declared.words.TopCall.{TopCall}
 use Rattle.command_words.specs.CommandLine.{IsCall}
 use Rattle.command_words.proofs.words.read_change.Goals as goal
@@ -24,7 +25,7 @@ returns-in_default-2-clause-none c =
     let at = c.parting-at.result in
     let parts = parted_by string_bytes words at (at + 1) c.parting-at.ensures refl (omega arith) in
     no_target (map string_bytes words) (map string_bytes (take at words)) (map string_bytes (drop (at + 1) words)) parts
-    (subst (λ ws. (call : TopCall) → IsCall (map string_bytes ws) call → ⊥) (rest_is words (at + 1)) (rw c.in_default-2.is at c.in_ok-target.ensures.none))
+    (subst (λ ws. (call : TopCall) → IsCall (map string_bytes ws) call → ⊥) (take_rest words (at + 1)) (rw c.in_default-2.is at c.in_ok-target.ensures.none))
 
 pub returns-clause-found : goal.returns-clause-found
 returns-clause-found c =
@@ -37,5 +38,5 @@ returns-clause-found c =
       map string_bytes (drop (at + 1) words),
       parts.parted,
       call,
-      subst (λ ws. IsCall (map string_bytes ws) c.in-Some-2.target) (rest_is words (at + 1)) target,
+      subst (λ ws. IsCall (map string_bytes ws) c.in-Some-2.target) (take_rest words (at + 1)) target,
     )

@@ -1,12 +1,11 @@
 use Rattle.std.proofs.Common.{All, slice_index_or, ◌≡◌, ◌∙◌, ◌<◌, ℕ, [], ◌∷◌, ◌++◌, Contains, Some, ap, arith, inl, inr, length, slice_get, subst, sym}
 use Rattle.std.proofs.lemmas.Bool.{cases_lt}
 use Rattle.std.proofs.lemmas.List.Elements.{All-push, Contains-append_left, Contains-append_right}
-use Rattle.std.proofs.lemmas.Option.{same_Some, slice_get-get_or}
+use Rattle.std.proofs.lemmas.Option.{same_Some, slice_get-get_or, slice_get_within}
 use Rattle.config_graph.specs.Graph.{requires_of, ports as ports_of}
 use Rattle.config_graph.proofs.NumberingLaws.{within_list}
 use Rattle.config_graph.specs.declared.node.Port.{Port}
 use Rattle.base.proofs.ContainsLaws.{Contains-here, at_some_place}
-use Rattle.base.proofs.PlaceLaws.{slice_get-below}
 use Rattle.config_graph.proofs.cycles.push_owners.Goals as goal
 
 pub loop-port-preserved : goal.loop-port-preserved
@@ -39,4 +38,4 @@ loop-port-preserved c =
 pub returns-clause-owners : goal.returns-clause-owners
 returns-clause-owners c = λ port owner held there.
     let at = at_some_place c.args.ports.now port held in
-    c.loop-port.invariant.owners at.0 port owner (omega (arith, slice_get-below c.args.ports.now at.0 port at.1, c.loop-port-test.false)) at.1 there
+    c.loop-port.invariant.owners at.0 port owner (omega (arith, slice_get_within c.args.ports.now at.0 port at.1, c.loop-port-test.false)) at.1 there

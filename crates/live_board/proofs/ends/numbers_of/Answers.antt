@@ -1,6 +1,6 @@
 use Rattle.std.proofs.Common.{◌∙◌}
 use Rattle.component_trait.specs.Moves as moves
-use Rattle.live_board.proofs.PlaceLemmas.{taken_more}
+use Rattle.base.proofs.PlaceLaws.{taken_more}
 use Rattle.live_board.proofs.ends.numbers_of.Goals as goal
 
 pub loop-index-preserved : goal.loop-index-preserved

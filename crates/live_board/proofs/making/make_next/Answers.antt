@@ -5,6 +5,7 @@ use Rattle.atomic_table.specs.Seated.{TableId}
 use Rattle.live_board.specs.Behind.{HasBehind}
 use Rattle.live_board.specs.Making.{Made, SightsLine}
 use Rattle.live_hall.specs.Sighting.{PastSeen, sight_of, views_of}
+use Rattle.live_hall.proofs.PastLaws.{config_sights}
 use Rattle.quiesce_core.specs.declared.event.Event.TheVariants.{Make}
 use Rattle.quiesce_core.specs.declared.known.Known.{Known}
 use Rattle.state_handover.specs.contracts.any_node.AnyNodeComponent.TheImpl.{ghosts}
@@ -15,8 +16,9 @@ use Rattle.txn_records.specs.Entries.{config_of}
 use Rattle.txn_records.specs.declared.entry.Entry.{Entry}
 use Rattle.txn_records.specs.declared.entry.Entry.TheVariants.{Did}
 use Rattle.live_board.proofs.LineLaws.{line_behind}
-use Rattle.live_board.proofs.MakeLemmas.{config_sighted, make_fits, make_limits, rests_told, rotated, slot_below, source_behind, source_guest}
+use Rattle.live_board.proofs.MakeLemmas.{make_fits, make_limits, rotated, slot_below, source_behind, source_guest}
 use Rattle.live_board.proofs.SightingLaws.{looked}
+use Rattle.node_host.proofs.HostedLaws.{rests_told}
 use Rattle.live_board.proofs.making.make_next.Goals as goal
 
 pub handed-guest-requires-clause-rests : goal.handed-guest-requires-clause-rests
@@ -99,7 +101,7 @@ returns c =
           adds = seen ∙ ap (λ (k : ChangeView). k.entries ++ map sight_of (views_of c.args.old)) c.make_node-theirs.ensures.change ∙ append_assoc r (make ∷ []) (map sight_of (views_of c.args.old))
               ∙ ap (λ (es : List Entry). r ++ make ∷ es) looked_at.2;
           of_source = subst (λ n. SightsLine (config_of (record_of c.sight.new.seat)) n looked_at.0) c.requires.fits.0
-              (subst (λ d. SightsLine d x.slot looked_at.0) (sym (ap config_of seen ∙ config_sighted (record_of c.make_node-theirs.new.seat) (views_of c.args.old))) looked_at.1);
+              (subst (λ d. SightsLine d x.slot looked_at.0) (sym (ap config_of seen ∙ config_sights (record_of c.make_node-theirs.new.seat) (views_of c.args.old))) looked_at.1);
         };
         nodes = c.sight.ensures.nodes ∙ c.make_node-theirs.ensures.nodes;
         spare = ap (λ k. k + 1) c.sight.ensures.spare ∙ c.make_node-theirs.ensures.spare;

@@ -1,6 +1,6 @@
 use Rattle.std.proofs.Common.{◌≡◌, ◌<◌, ◌∷◌, ◌++◌, ℕ, IsTrue, [], ap, length, subst, sym}
 use Rattle.live_board.specs.Ended.{AgreesWith}
-use Rattle.live_run.proofs.LastLook.{agrees_still, config_kept}
+use Rattle.live_run.proofs.LastLook.{agrees_still}
 use Rattle.quiesce_core.specs.State.{Configuration}
 use Rattle.txn_spec.specs.Views.{is_among}
 use Rattle.txn_records.specs.Entries.{config_of}
@@ -8,6 +8,7 @@ use Rattle.txn_gate.specs.Seats.{collected_in, record_of}
 use Rattle.txn_spec.specs.Merging.{MergeIntoRun}
 use Rattle.txn_spec.specs.declared.view.ChangeView.{ChangeView}
 use Rattle.txn_records.specs.declared.entry.Entry.TheVariants.{Looked}
+use Rattle.txn_records.proofs.EntryLaws.{config_looked}
 use Rattle.live_run.proofs.ending.look_last.Goals as goal
 
 pub finish-requires-clause-collected : goal.finish-requires-clause-collected
@@ -20,7 +21,7 @@ returns-clause-all c =
     let nodes = collected_in c.args.seat.now in
     let is : record_of c.finish.new.seat ≡ r ++ Looked 0 word ∷ [] = ap (λ (v : ChangeView). v.entries) c.finish.ensures.change.1 in
     let here : (n : ℕ) → n < length (config_of (r ++ Looked 0 word ∷ [])).slots → IsTrue (is_among nodes n) =
-    subst (λ (q : Configuration). (n : ℕ) → n < length q.slots → IsTrue (is_among nodes n)) (sym (config_kept r 0 word)) c.requires.carried.2.all_taken_in in
+    subst (λ (q : Configuration). (n : ℕ) → n < length q.slots → IsTrue (is_among nodes n)) (sym (config_looked r 0 word)) c.requires.carried.2.all_taken_in in
     subst (λ ns. (n : ℕ) → n < length (config_of (record_of c.finish.new.seat)).slots → IsTrue (is_among ns n)) (sym c.finish.ensures.nodes)
     (subst (λ q. (n : ℕ) → n < length (config_of q).slots → IsTrue (is_among nodes n)) (sym is) here)
 

@@ -1,13 +1,13 @@
 use Rattle.std.proofs.Common.{◌<◌, ◌∙◌, All, arith, length}
 use Rattle.config_graph.specs.Graph.{ports}
-use Rattle.passive_set.proofs.FeedingLemmas.{incoming_below}
+use Rattle.config_graph.proofs.IncomingLaws.{incoming-within}
 use Rattle.passive_set.proofs.PortLemmas.{Adds-listed}
 use Rattle.passive_set.proofs.passive.add_incoming.Goals as goal
 
 pub add-requires : goal.add-requires
 add-requires c =
     let g = c.args.graph.now in
-    let below : All (λ p. p < length (ports g.nodes)) c.incoming-port-items.result.now = rw c.incoming-port-items.ensures.ports (incoming_below g c.requires.graph c.args.node c.args.provide) in
+    let below : All (λ p. p < length (ports g.nodes)) c.incoming-port-items.result.now = rw c.incoming-port-items.ensures.ports (incoming-within g c.requires.graph c.args.node c.args.provide) in
     omega (arith, below c.loop-port.port-index 0 c.loop-port-test.true, c.loop-port.invariant.room, c.requires.room)
 
 pub loop-port-preserved : goal.loop-port-preserved

@@ -3,10 +3,11 @@ use Rattle.std.specs.Prelude.{slice_get}
 use Rattle.std.specs.List.{enumerate_from}
 use Rattle.std.proofs.lemmas.Option.{slice_get-get_or}
 use Rattle.std.proofs.lemmas.List.{take_all}
+use Rattle.std.proofs.lemmas.List.FromFn.{length-enumerate_from}
 use Rattle.config_graph.specs.Graph.{first_port}
 use Rattle.quiesce_core.specs.declared.state.Slot.{Slot}
 use Rattle.quiesce_core.specs.Start.{slot_of}
-use Rattle.quiesce_core.proofs.GraphLaws.{get_numbered, length-numbered_from, first_port_more, first_port_fits}
+use Rattle.quiesce_core.proofs.GraphLaws.{get_numbered, first_port_more, first_port_fits}
 use Rattle.quiesce_core.proofs.starting.list_slots.Goals as goal
 use Rattle.base.proofs.MapLaws.{mapped_more}
 
@@ -36,4 +37,4 @@ loop-node-preserved c =
 pub returns : goal.returns
 returns c =
     let nodes = c.args.nodes.now in
-    c.loop-node.invariant.items ∙ ap (λ xs. map (slot_of nodes) xs) (take_all c.loop-node.node-index (enumerate_from 0 nodes) (omega (arith, length-numbered_from 0 nodes)))
+    c.loop-node.invariant.items ∙ ap (λ xs. map (slot_of nodes) xs) (take_all c.loop-node.node-index (enumerate_from 0 nodes) (omega (arith, length-enumerate_from 0 nodes)))

@@ -1,5 +1,5 @@
 use Rattle.std.proofs.Common.{rules, ◌∙◌, ◌<◌, length}
-use Rattle.base.proofs.PlaceLaws.{slice_get-below}
+use Rattle.std.proofs.lemmas.Option.{slice_get_within}
 use Rattle.step_board.proofs.RoomLemmas.{one_kept, one_room, one_seen}
 use Rattle.step_board.proofs.reserving.reserve_pasts.Goals as goal
 
@@ -24,4 +24,4 @@ loop-slot-preserved c =
 
 pub returns-clause-room : goal.returns-clause-room
 returns-clause-room c = λ k h at.
-    let below = slice_get-below c.loop-slot.nodes k h at in c.loop-slot.invariant.room k h (search (rules, below)) at
+    let below = slice_get_within c.loop-slot.nodes k h at in c.loop-slot.invariant.room k h (search (rules, below)) at

@@ -1,5 +1,6 @@
 use Rattle.std.proofs.Common.{◌∙◌}
-use Rattle.step_board.proofs.TurnLemmas.{gave_next, if_err, some_given, went_so_far}
+use Rattle.step_board.proofs.TurnLemmas.{gave_next, some_given, went_so_far}
+use Rattle.base.proofs.AnswerLaws.{if_err}
 use Rattle.step_board.proofs.scanning.give_turns.Goals as goal
 
 pub loop-slot-preserved : goal.loop-slot-preserved

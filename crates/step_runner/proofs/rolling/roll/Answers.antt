@@ -1,7 +1,7 @@
 use Rattle.std.proofs.Common.{◌≡◌, ◌∙◌, ◌++◌, ◌+◌, ◌∷◌, [], ◌<◌, ◌^◌, ℕ, List, Option, append_assoc, append-nil, length, length-append, refl, sym, ap, subst, arith}
 use Rattle.std.specs.Prelude.{IfErr}
 use Rattle.std.proofs.lemmas.Result.{err_from_is_err_and}
-use Rattle.base.proofs.MapLaws.{no_length}
+use Rattle.std.proofs.lemmas.List.{nil_from_length}
 use Rattle.change_board.specs.Transcripts.{Item}
 use Rattle.change_engine.specs.Engines.{IsIdle}
 use Rattle.change_engine.specs.declared.passivating.LeftRoot.{LeftRoot}
@@ -91,7 +91,7 @@ returns-clause-ok g c = λ t idle can.
     let l = c.loop-part in
     let e = c.args.engine.now in
     let rest = l.part-iterator.rest in
-    let none_ : rest.items ≡ [] = no_length rest.items (omega (arith, rest.ok.0, c.in-None.ensures.steps.0)) in
+    let none_ : rest.items ≡ [] = nil_from_length rest.items (omega (arith, rest.ok.0, c.in-None.ensures.steps.0)) in
     let all : l.yielded ≡ c.args.parts.items = sym (append-nil l.yielded) ∙ ap (λ es. l.yielded ++ es) (sym none_) ∙ l.invariant.3 in
     all_done W e c.args.name c.args.args.items c.args.rounds t l.yielded c.args.parts.items l.engine
     (subst (λ rs. Progress W e c.args.name c.args.args.items c.args.rounds t l.yielded rs l.engine) none_ (l.invariant.2 t idle can)) all

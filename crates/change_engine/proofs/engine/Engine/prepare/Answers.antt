@@ -5,8 +5,8 @@ use Rattle.change_board.specs.Transcripts.{entries}
 use Rattle.report_types.specs.declared.report.HistoryLine.TheVariants as to
 use Rattle.change_engine.specs.declared.engine.Engine.{Engine}
 use Rattle.change_engine.proofs.EngineLemmas.{record_sound}
-use Rattle.change_engine.proofs.Growing.{if_err}
 use Rattle.change_engine.proofs.PrepareLemmas.{has_prepared, idle_still}
+use Rattle.base.proofs.AnswerLaws.{if_err}
 use Rattle.change_engine.proofs.engine.Engine.prepare.Goals as goal
 
 pub list_change-requires : goal.list_change-requires

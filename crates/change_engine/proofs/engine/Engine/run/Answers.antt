@@ -4,9 +4,9 @@ use Rattle.change_board.specs.Transcripts.{entries}
 use Rattle.change_engine.specs.declared.engine.Engine.{Engine}
 use Rattle.change_engine.proofs.EngineLemmas.{as_many, few_ports, has_run}
 use Rattle.change_engine.proofs.Breaking.{saw_alone, saw_before}
-use Rattle.change_engine.proofs.Growing.{if_err}
 use Rattle.change_engine.proofs.Passing.{looks_quiet}
 use Rattle.change_engine.proofs.Scanning.{all_quiet}
+use Rattle.base.proofs.AnswerLaws.{if_err}
 use Rattle.change_engine.proofs.engine.Engine.run.Goals as goal
 
 pub port_count-requires : goal.port_count-requires

@@ -3,8 +3,8 @@ use Rattle.std.proofs.lemmas.List.{append-nil}
 use Rattle.report_types.specs.declared.report.HistoryLine.TheVariants as to
 use Rattle.change_engine.specs.declared.engine.Engine.{Engine}
 use Rattle.change_engine.proofs.EngineLemmas.{continues, said_alone}
-use Rattle.change_engine.proofs.Growing.{if_err}
 use Rattle.change_engine.proofs.PrepareLemmas.{idle_still}
+use Rattle.base.proofs.AnswerLaws.{if_err}
 use Rattle.change_engine.proofs.engine.Engine.skip.Goals as goal
 
 pub returns-in_err-reserve-clause-err : goal.returns-in_err-reserve-clause-err

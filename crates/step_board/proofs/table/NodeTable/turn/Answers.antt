@@ -5,9 +5,10 @@ use Rattle.port_queue.specs.Inboxes.{no_counts}
 use Rattle.port_queue.specs.Plain.{box_of}
 use Rattle.step_board.specs.Seen.{seen}
 use Rattle.step_board.specs.declared.held.Held.TheVariants as held
-use Rattle.step_board.proofs.HostLemmas.{past_rooms_kept, rests_told}
+use Rattle.step_board.proofs.HostLemmas.{past_rooms_kept}
 use Rattle.step_board.proofs.NodeTableLemmas.{at_slot, live_not_gone, seat_fits, seat_node, within_live}
 use Rattle.step_board.proofs.TurnTable.{shows_err, shows_ok}
+use Rattle.node_host.proofs.HostedLaws.{rests_told}
 use Rattle.step_board.proofs.table.NodeTable.turn.Goals as goal
 
 pub index_mut-requires : goal.index_mut-requires
