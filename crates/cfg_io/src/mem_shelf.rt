@@ -12,7 +12,7 @@ use std::marker::Model;
 
 /// Files in memory. Contracts see them as pairs of a name and bytes, with the numbers of the fetches
 /// that are to fail, the number of the next fetch, and the names on which it failed.
-#[derive(Debug, Drop)]
+#[derive(Drop)]
 pub struct MemShelf {
     alloc: Global,
     files: BTreeMap<String, Vec<u8>>,

@@ -11,7 +11,7 @@ use std::marker::Model;
 
 /// A sink that keeps what it takes, and fails once its room is full. Contracts see the bytes that it
 /// took, the room that is left, and its count of faults.
-#[derive(Debug, Drop)]
+#[derive(Drop)]
 pub struct MemSink {
     bytes: Vec<u8>,
     room: usize,

@@ -5,7 +5,7 @@ ghost use Rattle.std.specs.Prelude.{◌≡◌, ◌≤◌, ℕ, List, Option, IfO
 use std::alloc::{AllocError, AllocFailed};
 
 /// Why a fetch gave no bytes.
-#[derive(Debug, Drop)]
+#[derive(Drop)]
 pub enum ShelfError {
     /// The file isn't there or can't be read. The shelf keeps its name.
     Failed,

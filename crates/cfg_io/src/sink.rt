@@ -5,11 +5,11 @@ ghost use Rattle.base.specs.Count.{Rose};
 ghost use Rattle.cfg_io.specs.Sink.{taken_after, with_bytes};
 
 /// A sink took nothing of a piece.
-#[derive(Clone, Copy, Debug, PartialEq, Eq)]
+#[derive(Clone, Copy, PartialEq, Eq)]
 pub struct SinkFailed;
 
 /// A sink failed after it took this many bytes.
-#[derive(Clone, Copy, Debug, PartialEq, Eq)]
+#[derive(Clone, Copy, PartialEq, Eq)]
 pub struct Stopped {
     pub written: usize,
 }

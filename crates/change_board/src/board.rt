@@ -19,7 +19,7 @@ use report_types::NodeLog;
 use txn_records::Look;
 
 /// What a scan found.
-#[derive(Clone, Copy, Debug, PartialEq, Eq)]
+#[derive(Clone, Copy)]
 pub struct Scan {
     /// Whether a turn that it gave moved.
     pub moved: bool,
@@ -31,7 +31,7 @@ pub struct Scan {
 }
 
 /// What is left of the nodes of a board.
-#[derive(Debug, Drop)]
+#[derive(Drop)]
 pub struct Collected {
     /// What each node did, by its slot.
     pub logs: List<NodeLog>,

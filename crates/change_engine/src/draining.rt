@@ -15,7 +15,7 @@ use report_types::HistoryLine;
 use std::alloc::AllocError;
 
 /// Why a change can't be committed.
-#[derive(Debug, Drop)]
+#[derive(Drop)]
 pub enum PassError {
     /// After so many rounds these roots were left.
     Pending { rounds: u32, left: Items<LeftRoot> },

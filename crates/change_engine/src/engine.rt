@@ -29,7 +29,7 @@ use std::alloc::Global;
 use std::mem;
 
 /// All that a change will do, once it is prepared.
-#[derive(Debug, Drop)]
+#[derive(Drop)]
 pub struct Change {
     /// The ports that it closes.
     pub closed: Vec<u32>,
@@ -46,7 +46,7 @@ pub struct Change {
 }
 
 /// A system on a board, with the history of what its change did and saw.
-#[derive(Debug, Drop)]
+#[derive(Drop)]
 pub struct Engine<B> {
     pub board: B,
     pub history: Vec<HistoryLine>,

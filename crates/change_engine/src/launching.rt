@@ -21,7 +21,7 @@ use report_types::HistoryLine;
 use std::alloc::Global;
 
 /// What a start leaves beside the board.
-#[derive(Debug, Drop)]
+#[derive(Drop)]
 pub(crate) struct Begun {
     pub history: Vec<HistoryLine>,
     pub layout: Layout,

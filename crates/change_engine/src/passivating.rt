@@ -20,14 +20,14 @@ use std::alloc::Global;
 use txn_records::Look;
 
 /// A port with the serial of the transaction that its owner began and that a look saw there.
-#[derive(Clone, Copy, Debug, PartialEq, Eq)]
+#[derive(Clone, Copy)]
 pub struct LeftRoot {
     pub port: u32,
     pub serial: u32,
 }
 
 /// The lists that a wait is kept in. With place for all ports that are closed it takes no memory.
-#[derive(Debug, Drop)]
+#[derive(Drop)]
 pub struct Waiting {
     /// The ports that a round looks at.
     pub ports: Vec<u32>,

@@ -9,7 +9,7 @@ use config_graph::{Graph, NoMemory, Port};
 use std::alloc::Global;
 
 /// The slots and the ports that were made on a board, by their numbers.
-#[derive(Debug, Drop)]
+#[derive(Drop)]
 pub struct Layout {
     /// For each slot the place of its node in the graph, where that is live.
     pub places: Vec<Option<u32>>,

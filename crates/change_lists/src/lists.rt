@@ -73,7 +73,7 @@ fn push_ports(ports: &mut Vec<Port>, node: u32, kind: Kind) -> Result<(), NoMemo
 }
 
 /// What the commit of a plan does, and what is made on the board after it.
-#[derive(Debug, Drop)]
+#[derive(Drop)]
 pub struct Commit {
     pub events: Vec<Event>,
     pub next: Layout,

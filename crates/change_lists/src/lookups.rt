@@ -19,7 +19,7 @@ use std::collections::{HashMap, HashSet};
 use std::marker::Model;
 
 /// Some places. Contracts see their list.
-#[derive(Debug, Drop)]
+#[derive(Drop)]
 pub(crate) struct PlaceSet<'a> {
     places: &'a [u32],
     marks: Vec<bool>,
@@ -75,7 +75,7 @@ fn is_marked(marks: &[bool], place: Option<u32>) -> bool
 }
 
 /// Slots, by the places of their nodes. Contracts see the place of each slot.
-#[derive(Debug, Drop)]
+#[derive(Drop)]
 pub(crate) struct SlotIndex<'a> {
     places: &'a [Option<u32>],
     slots: Vec<Option<u32>>,
@@ -165,7 +165,7 @@ fn list_slots(
 }
 
 /// Moves, by the places to which they lead. Contracts see their list.
-#[derive(Debug, Drop)]
+#[derive(Drop)]
 pub(crate) struct MoveIndex<'a> {
     moves: &'a [Shift],
     sources: Vec<Option<u32>>,

@@ -16,7 +16,7 @@ use config_graph::{Graph, NoMemory};
 use std::alloc::Global;
 
 /// The nodes of a change, each with the least number of its group, and the least numbers of all groups, in order.
-#[derive(Debug, Drop)]
+#[derive(Drop)]
 pub(crate) struct Grouping {
     pub members: Members,
     pub least: Vec<u32>,

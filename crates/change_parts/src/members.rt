@@ -13,7 +13,7 @@ use std::cmp::Ordering;
 
 /// The nodes of two graphs, each once, in the order of their paths. It is told of each place of a graph which number
 /// its node has, and of each number whether its node stands in a graph.
-#[derive(Debug, Drop)]
+#[derive(Drop)]
 pub(crate) struct Members {
     pub nodes: Vec<Node>,
     pub of_old: Vec<u32>,

@@ -4,7 +4,7 @@ use change_plan::{Move, Plan};
 use config_graph::{Graph, List};
 
 /// One of the parts of a change.
-#[derive(Debug, Drop)]
+#[derive(Drop)]
 pub struct Part {
     /// The graph after it.
     pub next: Graph,

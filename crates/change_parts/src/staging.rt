@@ -12,7 +12,7 @@ use config_graph::{Graph, Link, NoMemory, Node};
 use std::alloc::Global;
 
 /// Nodes of a graph, and at which place of it each member stands that is one of them.
-#[derive(Debug, Drop)]
+#[derive(Drop)]
 struct Laid {
     nodes: Vec<Node>,
     places: Vec<u32>,

@@ -4,7 +4,7 @@ use config_graph::Text;
 use std::alloc::{AllocError, AllocFailed};
 
 /// The first move that can't be made, and in it the first fault; or else that too much would be made.
-#[derive(Debug, Drop)]
+#[derive(Drop)]
 pub enum PlanError {
     /// A move's source isn't the path of a node that is removed.
     NotRemoved(Text),

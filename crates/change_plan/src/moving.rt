@@ -18,7 +18,7 @@ use std::alloc::Global;
 
 /// The ends of moves, marked: for each node of the old graph whether its state goes on, and for each of the new one
 /// from which node its state comes.
-#[derive(Debug, Drop)]
+#[derive(Drop)]
 struct Ends {
     sources: Vec<bool>,
     targets: Vec<Option<u32>>,

@@ -3,7 +3,7 @@
 use config_graph::{Link, List, Port, Text};
 
 /// The state of a node that is removed goes to one that is created. Both are named by their paths.
-#[derive(Debug, Drop)]
+#[derive(Drop)]
 pub struct Move {
     pub from: Text,
     pub to: Text,
@@ -13,7 +13,7 @@ pub struct Move {
 pub type OldPort = Port;
 
 /// A move by the nodes' indexes, `old` in the old graph and `new` in the new one.
-#[derive(Clone, Copy, Debug, PartialEq, Eq)]
+#[derive(Clone, Copy)]
 pub struct Shift {
     pub old: u32,
     pub new: u32,
@@ -22,7 +22,7 @@ pub struct Shift {
 /// The steps from one graph to another. Indexes in `unlink`, `remove` and `freeze` are those of the old graph, in
 /// `create` and `link` those of the new one. All are in the order of paths, and the ports of a node in that of its
 /// kind.
-#[derive(Debug, Drop)]
+#[derive(Drop)]
 pub struct Plan {
     /// The ports of the old links that the new graph hasn't.
     pub unlink: List<OldPort>,

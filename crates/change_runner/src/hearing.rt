@@ -18,7 +18,7 @@ pub trait Listener {
 }
 
 /// Hears nothing.
-#[derive(Clone, Copy, Debug)]
+#[derive(Clone, Copy)]
 pub struct NoOne;
 
 impl Listener for NoOne {

@@ -22,7 +22,7 @@ pub enum LineError {
 }
 
 /// The first line at fault, by its number from 1, or what the whole text lacks.
-#[derive(Debug, Drop)]
+#[derive(Drop)]
 pub enum ScriptError {
     /// The line has none of the forms.
     BadLine(u32),

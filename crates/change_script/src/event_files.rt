@@ -16,7 +16,7 @@ use quiesce_core::Event;
 use std::alloc::Global;
 
 /// What an event file says: which component is started, with which arguments, and what happens then, in order.
-#[derive(Debug, Drop)]
+#[derive(Drop)]
 pub struct EventFile {
     pub name: Text,
     pub args: List<i32>,

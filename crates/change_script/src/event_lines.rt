@@ -24,7 +24,7 @@ pub enum EventLine {
 }
 
 /// Three numbers of a line, in order.
-#[derive(Clone, Copy, Debug, PartialEq, Eq)]
+#[derive(Clone, Copy)]
 pub struct Triple {
     pub first: u32,
     pub second: u32,

@@ -7,7 +7,7 @@ use crate::event_lines::Triple;
 use quiesce_core::{Deed, Event, Message, NodeEvent};
 
 /// A step of a transaction that the owner of its port makes: PORT SERIAL VALUE follow.
-#[derive(Clone, Copy, Debug, PartialEq, Eq)]
+#[derive(Clone, Copy)]
 pub enum OwnerStep {
     Begin,
     Call,
@@ -16,7 +16,7 @@ pub enum OwnerStep {
 }
 
 /// A step of a transaction that the target of its port makes: PORT SERIAL VALUE follow.
-#[derive(Clone, Copy, Debug, PartialEq, Eq)]
+#[derive(Clone, Copy)]
 pub enum TargetStep {
     Take,
     More,
@@ -25,7 +25,7 @@ pub enum TargetStep {
 }
 
 /// An event of one port or slot.
-#[derive(Clone, Copy, Debug, PartialEq, Eq)]
+#[derive(Clone, Copy)]
 pub enum Single {
     Miss,
     Close,
@@ -34,7 +34,7 @@ pub enum Single {
     Remove,
 }
 
-#[derive(Clone, Copy, Debug, PartialEq, Eq)]
+#[derive(Clone, Copy)]
 pub enum EventVerb {
     Start,
     Owner(OwnerStep),

@@ -4,7 +4,7 @@ use change_plan::{Move, Plan};
 use config_graph::{Graph, List, Text};
 
 /// How a run begins: the component and its arguments, and its graph.
-#[derive(Debug, Drop)]
+#[derive(Drop)]
 pub struct Start {
     pub name: Text,
     pub args: List<i32>,
@@ -12,7 +12,7 @@ pub struct Start {
 }
 
 /// A change to another component: its arguments and graph, and the plan from the graph that was named before it.
-#[derive(Debug, Drop)]
+#[derive(Drop)]
 pub struct Replacement {
     pub name: Text,
     pub args: List<i32>,
@@ -25,7 +25,7 @@ pub struct Replacement {
 }
 
 /// A statement behind the start.
-#[derive(Debug, Drop)]
+#[derive(Drop)]
 pub enum Step {
     /// Scans until so many transactions ended.
     Run { k: u32 },

@@ -10,7 +10,7 @@ use elaborator::ElabError;
 use std::alloc::AllocError;
 
 /// Why a description can't be used.
-#[derive(Debug, Drop)]
+#[derive(Drop)]
 pub enum DescriptionFault {
     NoMemory,
     Lex(LexError),

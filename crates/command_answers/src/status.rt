@@ -5,7 +5,7 @@ ghost use Rattle.command_answers.specs.Answers.{roll_status, run_status};
 ghost use Rattle.command_answers.specs.Statuses.{status_number};
 
 /// How a run ends.
-#[derive(Clone, Copy, Debug, PartialEq, Eq)]
+#[derive(Clone, Copy, PartialEq, Eq)]
 pub enum Status {
     Ok,
     /// The words have none of the forms.

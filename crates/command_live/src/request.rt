@@ -12,7 +12,7 @@ use config_graph::NoMemory;
 use std::alloc::Global;
 
 /// With how many threads a script is to be run.
-#[derive(Clone, Copy, Debug, PartialEq, Eq)]
+#[derive(Clone, Copy)]
 pub struct Request {
     /// Those that give the nodes their turns.
     pub workers: u32,

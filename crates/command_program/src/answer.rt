@@ -9,14 +9,14 @@ use config_graph::NoMemory;
 use std::alloc::{AllocError, Global};
 
 /// A text, and the status with which the run ends where the text is written.
-#[derive(Debug, Drop)]
+#[derive(Drop)]
 pub struct Answer {
     pub status: Status,
     pub text: Vec<u8>,
 }
 
 /// Why there is nothing to go on with.
-#[derive(Debug, Drop)]
+#[derive(Drop)]
 pub enum Stop {
     /// A file is refused, and this is the answer.
     Refused(Answer),

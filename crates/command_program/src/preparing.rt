@@ -17,7 +17,7 @@ use report_types::Script;
 use std::alloc::Global;
 
 /// What a script asks for. Each step has its plan, from the graph that was named before it.
-#[derive(Debug, Drop)]
+#[derive(Drop)]
 pub struct Prepared {
     pub start: Start,
     pub steps: Vec<Step>,

@@ -14,7 +14,7 @@ use darwin_types::Checked;
 use std::alloc::Global;
 
 /// How far the lines of a script came.
-#[derive(Debug, Drop)]
+#[derive(Drop)]
 pub struct Way {
     /// The name of the file that was used last.
     pub file: String,

@@ -3,7 +3,7 @@
 use config_graph::List;
 
 /// What a fetch gave.
-#[derive(Debug, Drop)]
+#[derive(Drop)]
 pub enum Fetched {
     Held(List<u8>),
     /// The file has more bytes than were wanted at most.

@@ -4,7 +4,7 @@ use change_script::EventFile;
 use command_words::TopCall;
 
 /// How a change is made.
-#[derive(Debug, Drop)]
+#[derive(Drop)]
 pub enum Cut {
     /// By one plan, which is told.
     Whole,
@@ -16,7 +16,7 @@ pub enum Cut {
 }
 
 /// What is wanted of a description.
-#[derive(Debug, Drop)]
+#[derive(Drop)]
 pub enum Query<'a> {
     Graph(TopCall<'a>),
     /// The change from the first component to the second.

@@ -9,7 +9,7 @@ use std::alloc::Global;
 use std::marker::Model;
 
 /// The script has its name, and the description any other: so no fetch fails. Contracts see the bytes of the script.
-#[derive(Debug, Drop)]
+#[derive(Drop)]
 pub struct MadeFiles {
     alloc: Global,
     script: Vec<u8>,

@@ -23,7 +23,7 @@ pub const USUAL_WORKERS: u32 = 4;
 pub const MAX_OBSERVERS: u32 = 4;
 
 /// A word of the command line, which contracts see as its bytes.
-#[derive(Debug, Drop)]
+#[derive(Drop)]
 pub struct Word<'a> {
     text: &'a str,
 }
@@ -51,28 +51,28 @@ impl<'a> Word<'a> {
 }
 
 /// A component, and its arguments.
-#[derive(Debug, Drop)]
+#[derive(Drop)]
 pub struct TopCall<'a> {
     pub top: Word<'a>,
     pub args: List<i32>,
 }
 
 /// A component with arguments, and the one to which a change leads.
-#[derive(Debug, Drop)]
+#[derive(Drop)]
 struct Change<'a> {
     call: TopCall<'a>,
     target: TopCall<'a>,
 }
 
 /// How many threads of each sort a run has.
-#[derive(Clone, Copy, Debug, PartialEq, Eq)]
+#[derive(Clone, Copy)]
 struct ThreadCounts {
     workers: u32,
     observers: u32,
 }
 
 /// What words may ask for.
-#[derive(Debug, Drop)]
+#[derive(Drop)]
 pub enum Command<'a> {
     Help,
     Version,

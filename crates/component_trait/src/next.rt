@@ -4,7 +4,7 @@ ghost use Rattle.std.specs.Prelude.{◌≡◌};
 ghost use Rattle.component_trait.specs.declared.next.Next.TheVariants as next;
 
 /// A request: the place of a requirement among those of its kind, from 0 on, and a value below 2^24.
-#[derive(Clone, Copy, Debug, PartialEq, Eq)]
+#[derive(Clone, Copy, PartialEq, Eq)]
 pub struct Ask {
     pub require: u32,
     pub value: u32,
@@ -12,7 +12,7 @@ pub struct Ask {
 
 /// What a service does next: it asks at a requirement, sends an intermediate reply of a value, or gives its answer.
 /// Values are below 2^24.
-#[derive(Clone, Copy, Debug, PartialEq, Eq)]
+#[derive(Clone, Copy)]
 pub enum Next {
     Ask(Ask),
     More(u32),

@@ -15,7 +15,7 @@ pub const MAX_ANSWERS: usize = 4;
 
 /// A service: the value taken up, the reply where serving decided on it, the answers and further messages since, and
 /// whether it waits for a further message. Contracts see all of these.
-#[derive(Debug, Drop)]
+#[derive(Drop)]
 pub struct Serving {
     value: u32,
     reply: u32,

@@ -15,7 +15,7 @@ use std::marker::Model;
 /// A graph. Contracts see its nodes, in the order of their paths, and its links, in the order of their ports.
 ///
 /// All look-ups but `index_of` take constant time; `index_of` halves the list of nodes. None takes memory.
-#[derive(Debug, Drop)]
+#[derive(Drop)]
 pub struct Graph {
     nodes: Numbering,
     links: Vec<Link>,

@@ -6,7 +6,7 @@ ghost use Rattle.config_graph.specs.Kinds.{Provision};
 ghost use Rattle.config_graph.specs.declared.kind.Kind.{Kind};
 
 /// What a node does. The work of each kind is built in.
-#[derive(Clone, Copy, Debug, PartialEq, Eq)]
+#[derive(Clone, Copy, PartialEq, Eq)]
 pub enum Kind {
     Philosopher,
     Place,

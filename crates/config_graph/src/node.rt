@@ -3,7 +3,7 @@
 use crate::{Kind, Text};
 
 /// A node: its path in the system of components, its kind, and its argument where the kind has one.
-#[derive(Debug, Drop, PartialEq, Eq)]
+#[derive(Drop, PartialEq, Eq)]
 pub struct Node {
     pub path: Text,
     pub kind: Kind,
@@ -11,21 +11,21 @@ pub struct Node {
 }
 
 /// A required service of a node, by their indexes.
-#[derive(Clone, Copy, Debug, PartialEq, Eq)]
+#[derive(Clone, Copy, PartialEq, Eq)]
 pub struct Port {
     pub node: u32,
     pub require: u32,
 }
 
 /// A provided service of a node, by their indexes.
-#[derive(Clone, Copy, Debug, PartialEq, Eq)]
+#[derive(Clone, Copy, PartialEq, Eq)]
 pub struct Target {
     pub node: u32,
     pub provide: u32,
 }
 
 /// A directed connection: the requirement of the node `from` is bound to the provision of the node `to`.
-#[derive(Clone, Copy, Debug, PartialEq, Eq)]
+#[derive(Clone, Copy, PartialEq, Eq)]
 pub struct Link {
     pub from: u32,
     pub require: u32,
@@ -34,7 +34,7 @@ pub struct Link {
 }
 
 /// How many nodes and how many ports were made.
-#[derive(Clone, Copy, Debug, PartialEq, Eq)]
+#[derive(Clone, Copy, PartialEq, Eq)]
 pub struct Made {
     pub nodes: u32,
     pub ports: u32,

@@ -9,14 +9,14 @@ use std::alloc::Global;
 use std::marker::Model;
 
 /// The numbers of a node's first port and of its first provision.
-#[derive(Clone, Copy, Debug)]
+#[derive(Clone, Copy)]
 struct Start {
     port: u32,
     provision: u32,
 }
 
 /// A list of nodes. Contracts see the nodes alone, and not what is kept to number their ports and provisions.
-#[derive(Debug, Drop)]
+#[derive(Drop)]
 pub(crate) struct Numbering {
     nodes: Vec<Node>,
     /// One for each node, and last the totals.

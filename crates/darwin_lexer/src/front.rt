@@ -18,7 +18,7 @@ pub const MAX_NAME: usize = 64;
 pub const MAX_NUMBER: u32 = 2_147_483_647;
 
 /// What is wrong at the front of a text.
-#[derive(Clone, Copy, Debug, PartialEq, Eq)]
+#[derive(Clone, Copy, PartialEq, Eq)]
 pub enum LexicalFault {
     BadByte,
     OpenComment,
@@ -44,7 +44,7 @@ impl LexicalFault {
 }
 
 /// What stands at the front of a text, and how many bytes it has.
-#[derive(Clone, Copy, Debug, PartialEq, Eq)]
+#[derive(Clone, Copy, PartialEq, Eq)]
 pub enum Front {
     /// The text is at its end.
     End,

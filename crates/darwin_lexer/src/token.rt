@@ -3,14 +3,14 @@
 use std::alloc::{AllocError, AllocFailed};
 
 /// A place in a text. Lines and columns count from 1, columns in bytes; only a line feed ends a line.
-#[derive(Clone, Copy, Debug, PartialEq, Eq)]
+#[derive(Clone, Copy, PartialEq, Eq)]
 pub struct At {
     pub line: u32,
     pub column: u32,
 }
 
 /// A word that is no name.
-#[derive(Clone, Copy, Debug, PartialEq, Eq)]
+#[derive(Clone, Copy, PartialEq, Eq)]
 pub enum Keyword {
     Component,
     Provide,
@@ -26,7 +26,7 @@ pub enum Keyword {
 }
 
 /// A sign of one or two bytes.
-#[derive(Clone, Copy, Debug, PartialEq, Eq)]
+#[derive(Clone, Copy, PartialEq, Eq)]
 pub enum Sign {
     OpenBrace,
     CloseBrace,
@@ -54,7 +54,7 @@ pub enum Sign {
 }
 
 /// What a token is. The bytes of a name are those of its span.
-#[derive(Clone, Copy, Debug, PartialEq, Eq)]
+#[derive(Clone, Copy, PartialEq, Eq)]
 pub enum TokenKind {
     Name,
     Number(u32),
@@ -63,7 +63,7 @@ pub enum TokenKind {
 }
 
 /// A token, with its span in bytes, `start..end`, and the place of its first byte.
-#[derive(Clone, Copy, Debug, PartialEq, Eq)]
+#[derive(Clone, Copy, PartialEq, Eq)]
 pub struct Token {
     pub kind: TokenKind,
     pub start: u32,
@@ -72,7 +72,7 @@ pub struct Token {
 }
 
 /// Why a text can't be parted into tokens: its first fault, with its place.
-#[derive(Debug, Drop)]
+#[derive(Drop)]
 pub enum LexError {
     /// No token begins with this byte.
     BadByte(At),

@@ -5,7 +5,7 @@ ghost use Rattle.std.specs.Prelude.{◌≡◌};
 use std::alloc::{AllocError, AllocFailed};
 
 /// Why tokens are no unit of the grammar. Each number is that of a token, from 0.
-#[derive(Debug, Drop)]
+#[derive(Drop)]
 pub enum ParseError {
     /// The first token with which no unit begins that begins with the tokens before it, or the
     /// count of tokens where the text ends too soon.

@@ -4,13 +4,13 @@ use base::Text;
 use darwin_lexer::At;
 
 /// A whole description.
-#[derive(Debug, Drop)]
+#[derive(Drop)]
 pub struct Unit {
     pub components: Vec<Component>,
 }
 
 /// A component: its parameters, ports and arrays, and the statements of its body.
-#[derive(Debug, Drop)]
+#[derive(Drop)]
 pub struct Component {
     pub name: Text,
     pub at: At,
@@ -21,7 +21,7 @@ pub struct Component {
 }
 
 /// Whether a port is a service that the component provides or one that it requires.
-#[derive(Clone, Copy, Debug, PartialEq, Eq)]
+#[derive(Clone, Copy)]
 pub enum Side {
     Provide,
     Require,
@@ -29,7 +29,7 @@ pub enum Side {
 
 /// A port, or an array of ports where it has a size. Its place is that of the word `provide` or
 /// `require`. A note is a list of token texts.
-#[derive(Debug, Drop)]
+#[derive(Drop)]
 pub struct PortDecl {
     pub side: Side,
     pub name: Text,
@@ -39,7 +39,7 @@ pub struct PortDecl {
 }
 
 /// An array of instances. The arguments are those of each element that has none of its own.
-#[derive(Debug, Drop)]
+#[derive(Drop)]
 pub struct ArrayDecl {
     pub name: Text,
     pub size: Expr,
@@ -49,7 +49,7 @@ pub struct ArrayDecl {
 }
 
 /// A statement. A list after `inst` or `bind` is one statement an entry.
-#[derive(Debug, Drop)]
+#[derive(Drop)]
 pub enum Stmt {
     Inst(InstEntry),
     Bind(BindEntry),
@@ -68,7 +68,7 @@ pub enum Stmt {
 }
 
 /// An instance: a single one, or an element of an array.
-#[derive(Debug, Drop)]
+#[derive(Drop)]
 pub enum InstEntry {
     Single {
         name: Text,
@@ -85,7 +85,7 @@ pub enum InstEntry {
 }
 
 /// A binding of two ends, in either order.
-#[derive(Debug, Drop)]
+#[derive(Drop)]
 pub struct BindEntry {
     pub left: PortRef,
     pub right: PortRef,
@@ -93,7 +93,7 @@ pub struct BindEntry {
 }
 
 /// An end of a binding: a port of an instance, or of the component itself where no instance stands.
-#[derive(Debug, Drop)]
+#[derive(Drop)]
 pub struct PortRef {
     pub inst: Option<Text>,
     pub inst_index: Option<Expr>,
@@ -102,7 +102,6 @@ pub struct PortRef {
 }
 
 /// An expression over integers.
-#[derive(Debug)]
 pub enum Expr {
     Num(u32),
     Var(Text),
@@ -131,7 +130,7 @@ impl Drop for Expr {
 }
 
 /// An operation on two sides.
-#[derive(Clone, Copy, Debug, PartialEq, Eq)]
+#[derive(Clone, Copy)]
 pub enum Op {
     Or,
     And,

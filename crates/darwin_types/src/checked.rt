@@ -11,7 +11,7 @@ use darwin_parser::Unit;
 
 /// A description without a fault, with its components by name, and of each its ports by name and whether it is
 /// primitive.
-#[derive(Debug, Drop)]
+#[derive(Drop)]
 pub struct Checked {
     pub(crate) unit: Unit,
     pub(crate) names: Names,

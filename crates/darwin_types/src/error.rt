@@ -7,7 +7,7 @@ use std::alloc::{AllocError, AllocFailed};
 
 /// A fault of a description. But for `TwoComponents`, the first name is that of the component in
 /// which the fault stands. A number above 4,294,967,295 is carried as that.
-#[derive(Debug, Drop)]
+#[derive(Drop)]
 pub enum TypeError {
     /// Two components have the name.
     TwoComponents(Text),

@@ -17,7 +17,7 @@ const FEW_NAMES: usize = 8;
 
 /// Names that differ, in the order in which they were added. They are copies, since those of components are
 /// kept beside their description. Contracts see the list of them.
-#[derive(Debug, Drop)]
+#[derive(Drop)]
 pub struct Names {
     set: IndexSet<Vec<u8>>,
 }

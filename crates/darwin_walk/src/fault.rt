@@ -6,7 +6,7 @@ use darwin_lexer::At;
 use std::alloc::{AllocError, AllocFailed};
 
 /// A fault that an instance shows, with the place of the statement or declaration in which it stands.
-#[derive(Clone, Copy, Debug, PartialEq, Eq)]
+#[derive(Clone, Copy)]
 pub enum Fault {
     /// The exact result of an operation is no integer of the language.
     OutOfRange(At),
@@ -17,7 +17,7 @@ pub enum Fault {
 }
 
 /// Why an instance can't be walked.
-#[derive(Clone, Copy, Debug)]
+#[derive(Clone, Copy)]
 pub enum WalkError {
     /// The instance shows this fault.
     Fault(Fault),

@@ -20,7 +20,7 @@ pub struct Variable<'a> {
 }
 
 /// Why an expression has no value.
-#[derive(Clone, Copy, Debug)]
+#[derive(Clone, Copy)]
 pub enum ValueError {
     /// The exact result of an operation isn't from -2,147,483,648 to 2,147,483,647.
     OutOfRange,

@@ -10,7 +10,7 @@ use std::alloc::{AllocError, AllocFailed};
 /// stands, and the place is that of the statement or declaration; in `NoTop` and `TopIsKind` it is the
 /// component's name; in `TwoInstances` and `TooDeep` the path is that of the instance, in `DependsCycle`
 /// that of the node. A number above 4,294,967,295 is carried as that.
-#[derive(Debug, Drop)]
+#[derive(Drop)]
 pub enum ElabError {
     /// No component has the name.
     NoTop(Text),

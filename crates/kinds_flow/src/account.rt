@@ -13,7 +13,7 @@ ghost use Rattle.component_trait.specs.declared.next.Next.TheVariants as next;
 use component_trait::{Next, Serving, reply};
 
 /// An account: its argument, with which a new one opens; its balance; and its service.
-#[derive(Debug, Drop)]
+#[derive(Drop)]
 pub struct Account {
     b: u32,
     balance: u64,

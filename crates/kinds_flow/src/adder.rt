@@ -12,7 +12,7 @@ ghost use Rattle.component_trait.specs.declared.next.Next.TheVariants as next;
 use component_trait::{Next, Serving, VALUE_LIMIT, hand, services_are_bounded, wait, waits};
 
 /// An adder: its service.
-#[derive(Debug, Drop)]
+#[derive(Drop)]
 pub struct Adder {
     service: Option<Serving>,
 }

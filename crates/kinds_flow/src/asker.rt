@@ -11,7 +11,7 @@ ghost use Rattle.config_graph.specs.declared.TheConstants.{VALUE_LIMIT};
 use component_trait::{Ask, VALUE_LIMIT};
 
 /// An asker: how many sums it asks for, how many it has, and their total modulo the limit of values.
-#[derive(Debug, Drop)]
+#[derive(Drop)]
 pub struct Asker {
     n: u32,
     sums: u32,

@@ -14,7 +14,7 @@ ghost use Rattle.component_trait.specs.declared.next.Next.TheVariants as next;
 use component_trait::{AMOUNT_LIMIT, Next, Serving, hand, services_are_bounded};
 
 /// A branch: its service.
-#[derive(Debug, Drop)]
+#[derive(Drop)]
 pub struct Branch {
     service: Option<Serving>,
     ghost goes_on: { WaitsForNoMore service },

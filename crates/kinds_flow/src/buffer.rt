@@ -16,7 +16,7 @@ use std::collections::VecDeque;
 
 /// A buffer: how many values it keeps at most at a time, those that it has, the first to be passed on in front, and its
 /// service.
-#[derive(Debug, Drop)]
+#[derive(Drop)]
 pub struct Buffer {
     cap: u32,
     items: VecDeque<u32>,

@@ -14,7 +14,7 @@ ghost use Rattle.component_trait.specs.declared.next.Next.TheVariants as next;
 use component_trait::{Next, Serving, VALUE_LIMIT, hand, services_are_bounded};
 
 /// A map: the number that it adds, and its service.
-#[derive(Debug, Drop)]
+#[derive(Drop)]
 pub struct Map {
     k: u32,
     service: Option<Serving>,

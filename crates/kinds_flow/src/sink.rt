@@ -14,7 +14,7 @@ use config_graph::NoMemory;
 use std::alloc::Global;
 
 /// A sink: the values that it was given, the first in front, and its service.
-#[derive(Debug, Drop)]
+#[derive(Drop)]
 pub struct Sink {
     items: Vec<u32>,
     service: Option<Serving>,

@@ -10,7 +10,7 @@ ghost use Rattle.config_graph.specs.declared.TheConstants.{VALUE_LIMIT};
 use component_trait::Ask;
 
 /// A source: the last number that it sends, and how many were accepted.
-#[derive(Debug, Drop)]
+#[derive(Drop)]
 pub struct Source {
     n: u32,
     accepted: u32,

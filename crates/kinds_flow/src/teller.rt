@@ -10,7 +10,7 @@ ghost use Rattle.config_graph.specs.declared.TheConstants.{VALUE_LIMIT};
 use component_trait::Ask;
 
 /// A teller: the last number that it sends, and how many it sent.
-#[derive(Debug, Drop)]
+#[derive(Drop)]
 pub struct Teller {
     n: u32,
     sent: u32,

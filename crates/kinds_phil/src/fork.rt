@@ -13,7 +13,7 @@ ghost use Rattle.component_trait.specs.declared.next.Next.TheVariants as next;
 use component_trait::{Next, Serving, reply};
 
 /// A fork: whether it is held, and its service.
-#[derive(Debug, Drop)]
+#[derive(Drop)]
 pub struct Fork {
     held: bool,
     service: Option<Serving>,

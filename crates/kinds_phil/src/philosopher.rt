@@ -10,7 +10,7 @@ ghost use Rattle.config_graph.specs.declared.TheConstants.{VALUE_LIMIT};
 use component_trait::Ask;
 
 /// A philosopher: the number of meals that it wants, and how many it ate.
-#[derive(Debug, Drop)]
+#[derive(Drop)]
 pub struct Philosopher {
     meals: u32,
     eaten: u32,

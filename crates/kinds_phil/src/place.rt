@@ -14,7 +14,7 @@ ghost use Rattle.component_trait.specs.declared.next.Next.TheVariants as next;
 use component_trait::{Next, Serving, hand, services_are_bounded};
 
 /// A place: which fork it takes first, the left one where this is 0, and its service.
-#[derive(Debug, Drop)]
+#[derive(Drop)]
 pub struct Place {
     first: u32,
     service: Option<Serving>,

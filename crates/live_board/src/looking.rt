@@ -15,7 +15,7 @@ use txn_gate::{ChangeSeat, Gates};
 use txn_records::Look;
 
 /// What looks at ports found.
-#[derive(Clone, Copy, Debug, PartialEq, Eq)]
+#[derive(Clone, Copy)]
 pub struct PortsSeen {
     /// Whether each port of a live node was idle.
     pub idle: bool,
@@ -24,7 +24,7 @@ pub struct PortsSeen {
 }
 
 /// What a look shows of a port.
-#[derive(Clone, Copy, Debug, PartialEq, Eq)]
+#[derive(Clone, Copy)]
 struct Shown {
     idle: bool,
     ended: u32,

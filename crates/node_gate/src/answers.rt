@@ -1,7 +1,7 @@
 //! What gates answer. Words are those of ports, in the one form that they have everywhere.
 
 /// The answer to a request to begin a transaction of the node's own.
-#[derive(Clone, Copy, Debug, PartialEq, Eq)]
+#[derive(Clone, Copy, PartialEq, Eq)]
 pub enum BeginAnswer {
     /// It was begun, with this serial, at the node in the target's slot.
     Begun { serial: u32, target: u32 },
@@ -16,7 +16,7 @@ pub enum BeginAnswer {
 }
 
 /// The answer to a call that a service makes.
-#[derive(Clone, Copy, Debug, PartialEq, Eq)]
+#[derive(Clone, Copy, PartialEq, Eq)]
 pub enum CallAnswer {
     Called { serial: u32, target: u32 },
     /// The port leads nowhere, or has no further transaction: the call is missed.
@@ -24,7 +24,7 @@ pub enum CallAnswer {
 }
 
 /// The answer to a node that would take a request up.
-#[derive(Clone, Copy, Debug, PartialEq, Eq)]
+#[derive(Clone, Copy, PartialEq, Eq)]
 pub enum TakeAnswer {
     Taken {
         provide: u32,
@@ -38,7 +38,7 @@ pub enum TakeAnswer {
 }
 
 /// What an owner sees at its port.
-#[derive(Clone, Copy, Debug, PartialEq, Eq)]
+#[derive(Clone, Copy, PartialEq, Eq)]
 pub enum SeeAnswer {
     Answer { value: u32 },
     /// An intermediate reply.
@@ -48,7 +48,7 @@ pub enum SeeAnswer {
 }
 
 /// The answer to a service that waits for a further message.
-#[derive(Clone, Copy, Debug, PartialEq, Eq)]
+#[derive(Clone, Copy, PartialEq, Eq)]
 pub enum HearAnswer {
     Heard { value: u32 },
     /// The intermediate reply isn't answered yet.

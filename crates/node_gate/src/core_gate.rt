@@ -26,7 +26,7 @@ use quiesce_core::{Core, Event, Known, PortKnown};
 use quiesce_word::{LAST_SERIAL, Phase, Word};
 
 /// A node's seat at the core: its slot and what the node knows. It tells no events.
-#[derive(Debug, Drop)]
+#[derive(Drop)]
 pub struct CoreSeat {
     pub slot: u32,
     pub known: Known,

@@ -19,7 +19,7 @@ use port_queue::Hints;
 use quiesce_core::NodeEvent;
 
 /// What a turn did.
-#[derive(Debug, Drop, PartialEq, Eq)]
+#[derive(Drop)]
 pub enum Turn {
     Moved(NodeEvent),
     /// No move was found possible in this turn.

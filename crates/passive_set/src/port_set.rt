@@ -8,7 +8,7 @@ use std::alloc::Global;
 use std::marker::Model;
 
 /// A set of ports below a number, its room. A port is added, and found there, in constant time.
-#[derive(Debug, Drop)]
+#[derive(Drop)]
 pub(crate) struct PortSet {
     ports: Vec<u32>,
     has: Vec<bool>,

@@ -15,7 +15,7 @@ use std::marker::Model;
 /// Hints in order, each the number of a port in the fewest bytes, since the memory of all is taken at the start; the
 /// number of None and Full answers, the number of hints given, and the last one given. The counts stand still at their
 /// last value.
-#[derive(Debug, Drop)]
+#[derive(Drop)]
 pub struct Inbox {
     ports: VecDeque<u16>,
     refused: u64,

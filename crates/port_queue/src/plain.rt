@@ -11,7 +11,7 @@ use config_graph::{MAX_NODES, NoMemory};
 use std::alloc::Global;
 
 /// An inbox for each node that one run may make. It tells what they hold, so its Full and None are exact.
-#[derive(Debug, Drop)]
+#[derive(Drop)]
 pub struct PlainHints {
     inboxes: Vec<Inbox>,
     ghost each_node: { length inboxes.items ≡ MAX_NODES },

@@ -4,7 +4,7 @@ use config_graph::Node;
 
 /// An event, done by a port's owner (`Begin`, `Call`, `Miss`, `Ask`, `End`), by its target (`Take`, `Give`, `More`,
 /// `Hear`), or by the change (all others).
-#[derive(Debug, Drop, PartialEq, Eq)]
+#[derive(Drop)]
 pub enum Event {
     /// The owner begins a transaction of its own, a root, with a request of this value.
     Begin {

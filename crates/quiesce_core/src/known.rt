@@ -1,7 +1,7 @@
 //! What a node knows of itself, from its own events and from what it has seen at its ports.
 
 /// The service that a node is in, with the value of the last message that it heard.
-#[derive(Clone, Copy, Debug, PartialEq, Eq)]
+#[derive(Clone, Copy)]
 pub struct Served {
     pub port: u32,
     pub serial: u32,
@@ -12,7 +12,7 @@ pub struct Served {
 }
 
 /// How far a port of its own has come.
-#[derive(Clone, Copy, Debug, PartialEq, Eq)]
+#[derive(Clone, Copy)]
 pub struct PortKnown {
     pub idle: bool,
     pub serial: u32,
@@ -24,7 +24,7 @@ pub struct PortKnown {
 }
 
 /// What a node services, and its ports by the indexes of its requirements. No kind has more than two.
-#[derive(Clone, Copy, Debug, PartialEq, Eq)]
+#[derive(Clone, Copy)]
 pub struct Known {
     pub service: Option<Served>,
     pub ports: [PortKnown; 2],

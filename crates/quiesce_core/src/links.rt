@@ -20,7 +20,7 @@ const FRESH_GATE: Gate = Gate {
 };
 
 /// Of each slot the node made there, of each port made its gate.
-#[derive(Debug, Drop)]
+#[derive(Drop)]
 pub struct Links {
     pub slots: Vec<Slot>,
     pub gates: Vec<Gate>,

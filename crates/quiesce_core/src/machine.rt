@@ -29,7 +29,7 @@ use std::marker::Model;
 
 /// The state of a system that is changed while it runs. Contracts see the state, and for how many nodes memory is
 /// reserved. The state of each is well formed and consistent, and its nodes are named apart: `made` tells it.
-#[derive(Debug, Drop)]
+#[derive(Drop)]
 pub struct Core {
     tables: Tables,
     spare: u32,

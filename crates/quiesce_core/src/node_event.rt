@@ -7,7 +7,7 @@ use crate::event::Event;
 use std::marker::Model;
 
 /// What an event tells beside who did it.
-#[derive(Debug, Clone, Copy, PartialEq, Eq)]
+#[derive(Clone, Copy)]
 pub struct Message {
     pub port: u32,
     pub serial: u32,
@@ -15,7 +15,7 @@ pub struct Message {
 }
 
 /// What a node does.
-#[derive(Debug, Clone, Copy, PartialEq, Eq)]
+#[derive(Clone, Copy)]
 pub enum Deed {
     Begin(Message),
     Call(Message),
@@ -29,7 +29,7 @@ pub enum Deed {
 }
 
 /// An event of a node's own. Contracts see the event.
-#[derive(Debug, Clone, Copy, PartialEq, Eq)]
+#[derive(Clone, Copy)]
 pub struct NodeEvent {
     deed: Deed,
 }

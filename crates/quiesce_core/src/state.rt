@@ -5,7 +5,7 @@ use config_graph::{Node, Target};
 pub use quiesce_word::Phase;
 
 /// A node that was made, in its slot.
-#[derive(Debug, Drop, PartialEq, Eq)]
+#[derive(Drop)]
 pub struct Slot {
     pub node: Node,
     /// Its first port. Its ports are numbered in a row, in the order of its requirements.
@@ -17,7 +17,7 @@ pub struct Slot {
 }
 
 /// What the change decides of a port: whose requirement it is, whether it is closed, and to what it is linked.
-#[derive(Clone, Copy, Debug, PartialEq, Eq)]
+#[derive(Clone, Copy)]
 pub struct Gate {
     pub owner: u32,
     pub require: u32,
@@ -26,7 +26,7 @@ pub struct Gate {
 }
 
 /// What the nodes do at a port: its last transaction, with the value of the last message.
-#[derive(Clone, Copy, Debug, PartialEq, Eq)]
+#[derive(Clone, Copy)]
 pub struct Exchange {
     pub phase: Phase,
     pub serial: u32,
@@ -36,7 +36,7 @@ pub struct Exchange {
 }
 
 /// The service that a node is in.
-#[derive(Clone, Copy, Debug, PartialEq, Eq)]
+#[derive(Clone, Copy)]
 pub struct Service {
     /// The port whose transaction it serves.
     pub port: u32,
@@ -48,7 +48,7 @@ pub struct Service {
 }
 
 /// How far an open transaction has come.
-#[derive(Clone, Copy, Debug, PartialEq, Eq)]
+#[derive(Clone, Copy)]
 pub enum Stage {
     /// Its request isn't taken up.
     Waiting,
@@ -59,7 +59,7 @@ pub enum Stage {
 }
 
 /// A transaction that hasn't ended.
-#[derive(Clone, Copy, Debug, PartialEq, Eq)]
+#[derive(Clone, Copy)]
 pub struct OpenTxn {
     pub port: u32,
     pub serial: u32,

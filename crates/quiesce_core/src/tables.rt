@@ -22,7 +22,7 @@ pub const FRESH_EXCHANGE: Exchange = Exchange {
 };
 
 /// The nodes and gates made, of each slot the service of its node, of each port made its exchange.
-#[derive(Debug, Drop)]
+#[derive(Drop)]
 pub struct Tables {
     pub links: Links,
     pub services: Vec<Option<Service>>,

@@ -9,7 +9,7 @@ use quiesce_core::{Core, CoreError, Event};
 use std::alloc::AllocError;
 
 /// The first event that is denied, counted from 1, and the first of its rules that fails.
-#[derive(Clone, Copy, Debug, PartialEq, Eq)]
+#[derive(Clone, Copy)]
 pub struct Denial {
     pub number: usize,
     pub rule: u32,

@@ -14,7 +14,7 @@ use quiesce_core::{Core, Event};
 use std::alloc::Global;
 
 /// What became of events.
-#[derive(Debug, Drop)]
+#[derive(Drop)]
 pub enum Outcome {
     /// One of them is denied, and those behind it aren't looked at.
     Denied(Denial),

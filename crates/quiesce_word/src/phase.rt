@@ -5,7 +5,7 @@ ghost use Rattle.quiesce_word.specs.Phases.{is_idle, is_asked, is_answered, is_i
 ghost use Rattle.quiesce_word.specs.Words.{phase_bits, phase_of};
 
 /// How far a port's transaction has come.
-#[derive(Clone, Copy, Debug, PartialEq, Eq)]
+#[derive(Clone, Copy)]
 pub enum Phase {
     /// There is none.
     Idle,

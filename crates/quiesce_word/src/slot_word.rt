@@ -14,7 +14,7 @@ const PORTS: u64 = 1 << 16;
 const ARGUMENTS: u64 = 1 << 24;
 
 /// What a word spells of the node that was made in a slot.
-#[derive(Clone, Copy, Debug, PartialEq, Eq)]
+#[derive(Clone, Copy)]
 pub struct SlotWord {
     pub kind: Kind,
     /// Its first port. Its ports are numbered in a row, in the order of its requirements.

@@ -20,7 +20,7 @@ const PROVISIONS: u64 = 1 << 2;
 const TARGETS: u64 = 1 << 10;
 
 /// What a word spells of a port.
-#[derive(Clone, Copy, Debug, PartialEq, Eq)]
+#[derive(Clone, Copy)]
 pub struct Word {
     /// Whether no transaction may be begun at the port.
     pub closed: bool,

@@ -7,7 +7,7 @@ use config_graph::NoMemory;
 use std::alloc::Global;
 
 /// The history, or the log of the node in a slot.
-#[derive(Clone, Copy, Debug, PartialEq, Eq)]
+#[derive(Clone, Copy)]
 pub enum Chain {
     History,
     Log(usize),

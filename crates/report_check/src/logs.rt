@@ -17,7 +17,7 @@ use state_handover::AnyNode;
 use std::alloc::Global;
 
 /// The nodes led so far by slot, but those whose state went on, and the first live one of them that isn't done.
-#[derive(Debug, Drop)]
+#[derive(Drop)]
 pub(crate) struct Ledger {
     pub nodes: Vec<Option<AnyNode>>,
     pub undone: Option<u32>,

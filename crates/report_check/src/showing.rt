@@ -15,7 +15,7 @@ use report_types::HistoryLine;
 use std::alloc::Global;
 
 /// How many starts and changes were begun, and which one was the last that was committed.
-#[derive(Clone, Copy, Debug)]
+#[derive(Clone, Copy)]
 pub(crate) struct Begun {
     pub heads: usize,
     pub committed: Option<usize>,

@@ -9,7 +9,7 @@ use report_types::HistoryLine;
 use std::alloc::Global;
 
 /// A node that was made, as far as its log asks for it.
-#[derive(Clone, Copy, Debug)]
+#[derive(Clone, Copy)]
 pub(crate) struct MadeNode {
     pub kind: Kind,
     pub arg: Option<u32>,
@@ -20,7 +20,7 @@ pub(crate) struct MadeNode {
 }
 
 /// The nodes made so far, the slot to which each one's state went, and how many ports were made.
-#[derive(Debug, Drop)]
+#[derive(Drop)]
 pub(crate) struct Table {
     pub made: Vec<MadeNode>,
     pub heirs: Vec<Option<u32>>,

@@ -3,7 +3,7 @@
 use std::alloc::{AllocError, AllocFailed};
 
 /// The first line at fault, by its number from 1, or that there is none and the text ends too soon.
-#[derive(Debug, Drop)]
+#[derive(Drop)]
 pub enum ReportFault {
     /// The line has none of the forms that may stand in its place. Lines behind `show` that are no sound graph's text
     /// are a fault of the `show` line. Bytes behind the line of the status are a fault of the line that they would be.

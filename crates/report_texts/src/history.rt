@@ -19,7 +19,7 @@ use report_types::HistoryLine;
 use std::alloc::Global;
 
 /// What the last line of a history so far is, the one above the next.
-#[derive(Clone, Copy, Debug, PartialEq, Eq)]
+#[derive(Clone, Copy)]
 pub enum LineAbove {
     /// `pending`, or an `open` line behind it.
     Pending,

@@ -4,7 +4,7 @@ ghost use Rattle.std.specs.Prelude.{◌≡◌};
 ghost use Rattle.report_texts.specs.Stages.{version_in};
 
 /// A version of the text of a report.
-#[derive(Clone, Copy, Debug, PartialEq, Eq)]
+#[derive(Clone, Copy)]
 pub enum Version {
     /// The first line is `report 1`, and a log doesn't tell its node's path. Slots are below 255, ports below 1,024.
     First,

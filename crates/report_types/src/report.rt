@@ -4,7 +4,7 @@ use config_graph::{Graph, List, Node, Text};
 use quiesce_core::NodeEvent;
 
 /// A report of a run, as its text says it.
-#[derive(Debug, Drop)]
+#[derive(Drop)]
 pub struct Report {
     /// What the change did, in order.
     pub history: List<HistoryLine>,
@@ -17,7 +17,7 @@ pub struct Report {
 }
 
 /// A line of the history. Ports and slots are numbered from 0, in the order in which they were made.
-#[derive(Debug, Drop)]
+#[derive(Drop)]
 pub enum HistoryLine {
     /// A start begins: the component and its arguments.
     Start {
@@ -90,7 +90,7 @@ pub enum HistoryLine {
 }
 
 /// What the node in a slot did, in order, and what is left of it.
-#[derive(Debug, Drop)]
+#[derive(Drop)]
 pub struct NodeLog {
     pub slot: u32,
     pub events: List<NodeEvent>,
@@ -98,7 +98,7 @@ pub struct NodeLog {
 }
 
 /// The end of a node's log.
-#[derive(Debug, Drop)]
+#[derive(Drop)]
 pub enum Last {
     /// The numbers of its last state.
     State(List<u64>),

@@ -4,20 +4,20 @@ use change_plan::Move;
 use config_graph::{List, Text};
 
 /// The statements of a script, in order.
-#[derive(Debug, Drop)]
+#[derive(Drop)]
 pub struct Script {
     pub lines: List<ScriptLine>,
 }
 
 /// A statement, and the number of its line, from 1 over all lines.
-#[derive(Debug, Drop)]
+#[derive(Drop)]
 pub struct ScriptLine {
     pub number: u32,
     pub body: Body,
 }
 
 /// A statement.
-#[derive(Debug, Drop)]
+#[derive(Drop)]
 pub enum Body {
     /// `use FILE`: from now on components are looked up in this file. The name is UTF-8.
     File(Text),

@@ -195,6 +195,6 @@ fn a_file_of_a_long_name_is_read(rt: HostRuntime) -> Result<(), Fail> {
     let mut shelf = FileShelf::new(&rt, rt.alloc());
     let fetched = shelf.fetch(name, 4);
     fs::remove_file(&rt, name)?;
-    assert_eq!(rt; fetched?.as_slice(), b"long".as_slice());
+    assert!(rt; matches!(fetched, Ok(bytes) if bytes.as_slice() == b"long".as_slice()));
     Ok(())
 }

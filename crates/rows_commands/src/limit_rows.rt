@@ -43,11 +43,11 @@ fn run_many(
     let mut sink = MemSink::new(alloc, WIDE)?;
     let words = words_of(alloc, words)?;
     let status = still(alloc, words.as_slice(), &mut shelf, &mut sink);
-    assert_eq!(rt; status, Status::Ok);
+    assert!(rt; status == Status::Ok);
     let text = sink.bytes();
     assert!(rt; text.starts_with(front) && text.ends_with(end));
-    assert_eq!(rt; text.len(), bytes);
-    assert_eq!(rt; count_of_lines(text), lines);
+    assert!(rt; text.len() == bytes);
+    assert!(rt; count_of_lines(text) == lines);
     Ok(())
 }
 

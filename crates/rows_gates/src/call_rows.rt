@@ -23,18 +23,18 @@ fn call_on(rt: &impl Abort, gates: &Gates, m: &mut Seated, s: &mut Seated) -> Re
         serial: 1,
         target: 0,
     };
-    assert_eq!(rt; s.begin(gates, 1, 1)?, begun);
+    assert!(rt; s.begin(gates, 1, 1)? == begun);
     let taken = TakeAnswer::Taken {
         provide: 0,
         serial: 1,
         value: 1,
     };
-    assert_eq!(rt; m.take(gates, 1)?, taken);
+    assert!(rt; m.take(gates, 1)? == taken);
     let called = CallAnswer::Called {
         serial: 1,
         target: 2,
     };
-    assert_eq!(rt; m.call(gates, 0, 11)?, called);
+    assert!(rt; m.call(gates, 0, 11)? == called);
     Ok(())
 }
 
@@ -55,13 +55,13 @@ fn answer_back(
         serial: 1,
         value: 11,
     };
-    assert_eq!(rt; t.take(gates, 0)?, taken);
+    assert!(rt; t.take(gates, 0)? == taken);
     t.give(gates, 0, 7)?;
     let answer = SeeAnswer::Answer { value: 7 };
-    assert_eq!(rt; m.see(gates, 0)?, answer);
+    assert!(rt; m.see(gates, 0)? == answer);
     m.end(gates, 0)?;
     m.give(gates, 1, 7)?;
-    assert_eq!(rt; s.see(gates, 1)?, answer);
+    assert!(rt; s.see(gates, 1)? == answer);
     s.end(gates, 1)
 }
 
@@ -78,12 +78,12 @@ fn consequent_drained(rt: HostRuntime) -> Result<(), Fail> {
     call_on(&rt, &gates, &mut m, &mut s)?;
     close(&gates, &mut change, 0)?;
     close(&gates, &mut change, 1)?;
-    assert_eq!(rt; look(&gates, &mut change, 0)?, drained(false));
+    assert!(rt; look(&gates, &mut change, 0)? == drained(false));
     let open = look(&gates, &mut change, 1)?;
     assert!(rt; matches!(open, Look::Busy { .. }));
     assert!(rt; !change.settled(0));
     answer_back(&rt, &gates, &mut m, &mut s, &mut t)?;
-    assert_eq!(rt; look(&gates, &mut change, 1)?, drained(true));
+    assert!(rt; look(&gates, &mut change, 1)? == drained(true));
     assert!(rt; change.settled(0) && change.settled(1) && change.settled(2));
     Ok(())
 }
@@ -98,6 +98,6 @@ fn missed_call(rt: HostRuntime) -> Result<(), Fail> {
     let missed = CallAnswer::Missed {
         word: 0x8000_0000_0000_0000,
     };
-    assert_eq!(rt; m.call(&gates, 0, 11)?, missed);
+    assert!(rt; m.call(&gates, 0, 11)? == missed);
     Ok(())
 }

@@ -13,7 +13,7 @@ use std::thread;
 use txn_gate::Gates;
 
 /// How many transactions a node was in, and the sum of the values that it got in them.
-#[derive(Clone, Copy, Debug, PartialEq, Eq)]
+#[derive(Clone, Copy, PartialEq, Eq)]
 pub struct Tally {
     pub count: u32,
     pub sum: u64,

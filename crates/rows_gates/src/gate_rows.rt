@@ -22,12 +22,9 @@ fn unlinked_source(rt: HostRuntime) -> Result<(), Fail> {
     let (gates, mut change) = Gates::new(rt.alloc())?;
     gates.reserve(&mut change, 2)?;
     let (mut s, _) = apart(rt.alloc(), &gates, &mut change)?;
-    assert_eq!(rt;
-        s.begin(&gates, 0, 5)?,
-        BeginAnswer::Closed { word: CLOSED }
-    );
+    assert!(rt; s.begin(&gates, 0, 5)? == BeginAnswer::Closed { word: CLOSED });
     reopen(&gates, &mut change, 0)?;
-    assert_eq!(rt; s.begin(&gates, 0, 5)?, BeginAnswer::Unlinked { word: 0 });
+    assert!(rt; s.begin(&gates, 0, 5)? == BeginAnswer::Unlinked { word: 0 });
     Ok(())
 }
 
@@ -37,38 +34,38 @@ fn exchange(rt: &impl Abort, gates: &Gates, s: &mut Seated, t: &mut Seated) -> R
     requires sink { IsSeatOf t.old.seat gates.now }
 {
     let begun = s.begin(gates, 0, 5)?;
-    assert_eq!(rt;
-        begun,
-        BeginAnswer::Begun {
-            serial: 1,
-            target: 1
-        }
+    assert!(rt;
+        begun
+            == BeginAnswer::Begun {
+                serial: 1,
+                target: 1
+            }
     );
     let asked = SeeAnswer::NotYet {
         word: 0x2008_0000_0100_0005,
     };
-    assert_eq!(rt; s.see(gates, 0)?, asked);
+    assert!(rt; s.see(gates, 0)? == asked);
     let taken = t.take(gates, 0)?;
-    assert_eq!(rt;
-        taken,
-        TakeAnswer::Taken {
-            provide: 0,
-            serial: 1,
-            value: 5
-        }
+    assert!(rt;
+        taken
+            == TakeAnswer::Taken {
+                provide: 0,
+                serial: 1,
+                value: 5
+            }
     );
-    assert_eq!(rt; s.see(gates, 0)?, asked);
+    assert!(rt; s.see(gates, 0)? == asked);
     t.give(gates, 0, 1)?;
-    assert_eq!(rt; s.see(gates, 0)?, SeeAnswer::Answer { value: 1 });
+    assert!(rt; s.see(gates, 0)? == SeeAnswer::Answer { value: 1 });
     let stale = TakeAnswer::Stale {
         word: 0x4008_0000_0100_0001,
     };
-    assert_eq!(rt; t.take(gates, 0)?, stale);
+    assert!(rt; t.take(gates, 0)? == stale);
     s.end(gates, 0)?;
     let stale = TakeAnswer::Stale {
         word: 0x0008_0000_0100_0000,
     };
-    assert_eq!(rt; t.take(gates, 0)?, stale);
+    assert!(rt; t.take(gates, 0)? == stale);
     Ok(())
 }
 
@@ -83,10 +80,7 @@ fn two_seats(rt: HostRuntime) -> Result<(), Fail> {
     let (mut s, mut t) = open_two(&gates, &mut change, &source, &sink)?;
     exchange(&rt, &gates, &mut s, &mut t)?;
     let mut u = make_later(&gates, &mut change, &source, &sink, &later)?;
-    assert_eq!(rt;
-        u.begin(&gates, 1, 5)?,
-        BeginAnswer::Closed { word: CLOSED }
-    );
+    assert!(rt; u.begin(&gates, 1, 5)? == BeginAnswer::Closed { word: CLOSED });
     Ok(())
 }
 
@@ -100,7 +94,7 @@ fn busy_then_drained(rt: HostRuntime) -> Result<(), Fail> {
     let busy = Look::Busy {
         word: 0xa008_0000_0100_0005,
     };
-    assert_eq!(rt; look(&gates, &mut change, 0)?, busy);
+    assert!(rt; look(&gates, &mut change, 0)? == busy);
     assert!(rt; !change.settled(0) && !change.settled(1));
     t.take(&gates, 0)?;
     t.give(&gates, 0, 1)?;
@@ -110,11 +104,11 @@ fn busy_then_drained(rt: HostRuntime) -> Result<(), Fail> {
         serial: 1,
         idle: true,
     };
-    assert_eq!(rt; look(&gates, &mut change, 0)?, drained);
+    assert!(rt; look(&gates, &mut change, 0)? == drained);
     let closed = BeginAnswer::Closed {
         word: 0x8008_0000_0100_0000,
     };
-    assert_eq!(rt; s.begin(&gates, 0, 5)?, closed);
+    assert!(rt; s.begin(&gates, 0, 5)? == closed);
     assert!(rt; change.settled(0) && change.settled(1));
     reopen(&gates, &mut change, 0)?;
     assert!(rt; !change.settled(0) && !change.settled(1));
@@ -134,7 +128,7 @@ fn seen_on_the_way(rt: HostRuntime) -> Result<(), Fail> {
     gates.sight_in(&mut change, &mut t.seat);
     gates.learn(&mut change);
     t.give(&gates, 0, 1)?;
-    assert_eq!(rt; s.see(&gates, 0)?, SeeAnswer::Answer { value: 1 });
+    assert!(rt; s.see(&gates, 0)? == SeeAnswer::Answer { value: 1 });
     s.end(&gates, 0)?;
     gates.mark(&mut change, false, false);
     assert!(rt; !change.is_noted(0));
@@ -143,7 +137,7 @@ fn seen_on_the_way(rt: HostRuntime) -> Result<(), Fail> {
         serial: 1,
         idle: true,
     };
-    assert_eq!(rt; look(&gates, &mut change, 0)?, drained);
+    assert!(rt; look(&gates, &mut change, 0)? == drained);
     gates.mark(&mut change, false, false);
     gates.sight_in(&mut change, &mut s.seat);
     assert!(rt; change.settled(0) && change.settled(1));

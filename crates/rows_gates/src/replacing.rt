@@ -66,9 +66,9 @@ fn remove_second(
         node: 1,
         provide: 0,
     };
-    assert_eq!(rt; change.target(0), Some(led));
+    assert!(rt; change.target(0) == Some(led));
     gates.unlink(change, 0);
-    assert_eq!(rt; change.target(0), None);
+    assert!(rt; change.target(0) == None);
     assert!(rt; change.settled(1));
     gates.remove(change, 1);
     assert!(rt; change.is_live(0) && !change.is_live(1));
@@ -149,13 +149,13 @@ fn exchange(rt: &impl Abort, gates: &Gates, s: &mut Seated, u: &mut Seated) -> R
         serial: 1,
         target: 2,
     };
-    assert_eq!(rt; s.begin(gates, 0, 5)?, begun);
+    assert!(rt; s.begin(gates, 0, 5)? == begun);
     let taken = TakeAnswer::Taken {
         provide: 0,
         serial: 1,
         value: 5,
     };
-    assert_eq!(rt; u.take(gates, 0)?, taken);
+    assert!(rt; u.take(gates, 0)? == taken);
     u.give(gates, 0, 1)?;
     s.see(gates, 0)?;
     s.end(gates, 0)

@@ -129,16 +129,15 @@ fn three_threads(rt: HostRuntime) -> Result<(), Fail> {
     let ((source, got), (sink, took), (mut change, times)) = all_at_once(
         &rt, &gates, source, sink, change,
     );
-    assert_eq!(rt;
-        took?,
-        Tally {
-            count: TIMES,
-            sum: 4_999_950_000
-        }
+    assert!(rt;
+        took?
+            == Tally {
+                count: TIMES,
+                sum: 4_999_950_000
+            }
     );
-    assert_eq!(rt;
-        got?,
-        Tally {
+    assert!(rt;
+        got? == Tally {
             count: TIMES,
             sum: 5_000_050_000
         }
@@ -149,7 +148,7 @@ fn three_threads(rt: HostRuntime) -> Result<(), Fail> {
         serial: TIMES,
         idle: true,
     };
-    assert_eq!(rt; look(&gates, &mut change, 0)?, drained);
+    assert!(rt; look(&gates, &mut change, 0)? == drained);
     finish_two(&gates, &mut change, source, sink)?;
     Ok(())
 }

@@ -13,7 +13,7 @@ use config_graph::{Kind, NoMemory};
 use live_hall::turn_at_gates;
 use node_host::{HostNode, Turn};
 use port_queue::PlainHints;
-use quiesce_core::Event;
+use quiesce_core::{Deed, NodeEvent};
 use state_handover::{AnyNode, make};
 use std::alloc::Global;
 use std::process::Abort;
@@ -30,7 +30,7 @@ fn hosted(rt: &impl Abort, alloc: Global, seated: Seated, arg: Option<u32>) -> H
         (⟦<AnyNode as Component>⟧.state result.inner) }
 {
     let Seated { kind, seat } = seated;
-    assert_eq!(rt; arg.is_some(), kind.has_arg());
+    assert!(rt; arg.is_some() == kind.has_arg());
     assert!(rt; arg.is_none_or(|arg| arg < VALUE_LIMIT));
     let (slot, first_port) = (seat.slot, seat.first_port);
     let inner = make(alloc, kind, arg);
@@ -85,61 +85,41 @@ fn rounds(
     Ok(later + 1)
 }
 
-/// The source has sent the numbers 1 and 2, each in a transaction that was accepted.
-fn sent_is_so(rt: &impl Abort, log: &[Event]) {
-    let (port, value) = (0, 1);
-    let sent = [
-        Event::Begin {
-            port,
-            serial: 1,
-            value: 1,
-        },
-        Event::End {
-            port,
-            serial: 1,
-            value,
-        },
-        Event::Begin {
-            port,
-            serial: 2,
-            value: 2,
-        },
-        Event::End {
-            port,
-            serial: 2,
-            value,
-        },
-    ];
-    assert!(rt; log == sent.as_slice());
+/// What a node did, at which port, with which serial number and value.
+type Told = (&'static str, u32, u32, u32);
+
+fn told(event: &NodeEvent) -> Told {
+    match event.deed() {
+        Deed::Begin(it) => ("begin", it.port, it.serial, it.value),
+        Deed::End(it) => ("end", it.port, it.serial, it.value),
+        Deed::Take(it) => ("take", it.port, it.serial, it.value),
+        Deed::Give(it) => ("give", it.port, it.serial, it.value),
+        _ => ("", 0, 0, 0),
+    }
 }
 
-/// The sink has got them.
-fn got_is_so(rt: &impl Abort, log: &[Event]) {
-    let (port, value) = (0, 1);
-    let got = [
-        Event::Take {
-            port,
-            serial: 1,
-            value: 1,
-        },
-        Event::Give {
-            port,
-            serial: 1,
-            value,
-        },
-        Event::Take {
-            port,
-            serial: 2,
-            value: 2,
-        },
-        Event::Give {
-            port,
-            serial: 2,
-            value,
-        },
-    ];
-    assert!(rt; log == got.as_slice());
+fn assert_log(rt: &impl Abort, log: &[NodeEvent], wanted: &[Told]) {
+    assert!(rt; log.len() == wanted.len());
+    for (event, wanted) in log.iter().zip(wanted) {
+        assert!(rt; told(event) == *wanted);
+    }
 }
+
+/// The source has sent the numbers 1 and 2, each in a transaction that was accepted.
+static SENT: [Told; 4] = [
+    ("begin", 0, 1, 1),
+    ("end", 0, 1, 1),
+    ("begin", 0, 2, 2),
+    ("end", 0, 2, 1),
+];
+
+/// The sink has got them.
+static GOT: [Told; 4] = [
+    ("take", 0, 1, 1),
+    ("give", 0, 1, 1),
+    ("take", 0, 2, 2),
+    ("give", 0, 2, 1),
+];
 
 #[test]
 fn nodes_take_turns_to_rest(rt: HostRuntime) -> Result<(), Fail> {
@@ -153,9 +133,9 @@ fn nodes_take_turns_to_rest(rt: HostRuntime) -> Result<(), Fail> {
     let mut source = hosted(&rt, alloc, source, Some(2));
     let mut sink = hosted(&rt, alloc, sink, None);
     let moved = rounds(&gates, &mut hints, &mut source, &mut sink, 64)?;
-    assert_eq!(rt; moved, 6);
+    assert!(rt; moved == 6);
     assert!(rt; source.done() && sink.done());
-    sent_is_so(&rt, source.log());
-    got_is_so(&rt, sink.log());
+    assert_log(&rt, source.log(), &SENT);
+    assert_log(&rt, sink.log(), &GOT);
     Ok(())
 }

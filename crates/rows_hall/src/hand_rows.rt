@@ -113,7 +113,7 @@ fn two_hands(rt: HostRuntime) -> Result<(), Fail> {
         return Err(Fail::new("three hands"));
     };
     let all = at_once(&rt, alloc, one, two, reader)?;
-    assert_eq!(rt; all.len(), 2_000);
+    assert!(rt; all.len() == 2_000);
     assert!(rt; is_in_order(&all, 0) && is_in_order(&all, HINTS));
     Ok(())
 }
@@ -129,12 +129,12 @@ fn full_for_all_hands(rt: HostRuntime) -> Result<(), Fail> {
     for port in 0..ROOM {
         assert!(rt; one.post(NODE, port).is_ok());
     }
-    assert_eq!(rt; two.post(NODE, 5), Err(Full));
+    assert!(rt; two.post(NODE, 5) == Err(Full));
     assert!(rt; two.post(NODE + 1, 5).is_ok());
-    assert_eq!(rt; two.next(NODE), Some(0));
+    assert!(rt; two.next(NODE) == Some(0));
     assert!(rt; two.post(NODE, 5).is_ok());
-    assert_eq!(rt; one.next(NODE), Some(1));
-    assert_eq!(rt; one.next(NODE + 1), Some(5));
+    assert!(rt; one.next(NODE) == Some(1));
+    assert!(rt; one.next(NODE + 1) == Some(5));
     assert!(rt; one.next(NODE + 1).is_none());
     Ok(())
 }

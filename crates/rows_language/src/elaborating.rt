@@ -1,6 +1,6 @@
 //! How a description is elaborated: a text, its top with arguments, and the text of its graph or the fault.
 
-use crate::reading::{unit_of, word};
+use crate::reading::{checked_of, word};
 use base::Text;
 use config_graph::{Graph, graph_text};
 use darwin_lexer::At;
@@ -88,11 +88,10 @@ fn assert_outcome(
     (pieces, top, args, wanted): &Elaborated,
 ) -> Result<(), Fail> {
     let text = joined(alloc, pieces)?;
-    let unit = unit_of(rt, alloc, text.as_bytes())?;
-    let checked = check(alloc, unit)?;
+    let checked = checked_of(rt, alloc, text.as_bytes());
     let answer = elaborate(alloc, &checked, top.as_bytes(), args);
     let found = said(alloc, &answer)?;
-    assert_eq!(rt; found.as_str(), *wanted, "{}", text.as_str());
+    assert!(rt; found.as_str() == *wanted, "{}", text.as_str());
     Ok(())
 }
 

@@ -2,6 +2,7 @@
 
 ghost use Rattle.std.specs.Prelude.{◌≤◌, length};
 
+use crate::reading::tokens_of;
 use darwin_lexer::{At, Keyword, LexError, MAX_TEXT, Sign, Token, TokenKind, is_name, lex};
 use std::alloc::Global;
 use std::process::Abort;
@@ -115,32 +116,24 @@ fn are_kinds_of(tokens: &[Token], kinds: &[TokenKind]) -> bool {
             .all(|(token, kind)| token.kind == *kind)
 }
 
-fn assert_kinds(
-    rt: &impl Abort,
-    alloc: Global,
-    text: &[u8],
-    wanted: &[TokenKind],
-) -> Result<(), Fail> {
-    assert!(rt; text.len() <= MAX_TEXT);
-    let tokens = lex(alloc, text)?;
+fn assert_kinds(rt: &impl Abort, alloc: Global, text: &[u8], wanted: &[TokenKind]) {
+    let tokens = tokens_of(rt, alloc, text);
     assert!(rt; are_kinds_of(tokens.as_slice(), wanted));
-    Ok(())
 }
 
 #[test]
-fn every_keyword_and_sign(rt: HostRuntime) -> Result<(), Fail> {
+fn every_keyword_and_sign(rt: HostRuntime) {
     let words = b"component provide require inst array bind forall when int and or";
-    assert_kinds(&rt, rt.alloc(), words, &KEYWORDS)?;
+    assert_kinds(&rt, rt.alloc(), words, &KEYWORDS);
     let signs = b"{}()[];:, . ..--< ><=>===!=+ -*/%";
-    assert_kinds(&rt, rt.alloc(), signs, &SIGNS)
+    assert_kinds(&rt, rt.alloc(), signs, &SIGNS);
 }
 
 #[test]
-fn the_longest_token_is_taken(rt: HostRuntime) -> Result<(), Fail> {
+fn the_longest_token_is_taken(rt: HostRuntime) {
     for (text, wanted) in &LONGEST {
-        assert_kinds(&rt, rt.alloc(), text, wanted)?;
+        assert_kinds(&rt, rt.alloc(), text, wanted);
     }
-    Ok(())
 }
 
 static PLACED: [Token; 3] = [
@@ -165,10 +158,9 @@ static PLACED: [Token; 3] = [
 ];
 
 #[test]
-fn spans_and_places(rt: HostRuntime) -> Result<(), Fail> {
-    let tokens = lex(rt.alloc(), b"\tX\r\n\n  /* \n */ .. 17")?;
-    assert_eq!(rt; tokens.as_slice(), PLACED.as_slice());
-    Ok(())
+fn spans_and_places(rt: HostRuntime) {
+    let tokens = tokens_of(&rt, rt.alloc(), b"\tX\r\n\n  /* \n */ .. 17");
+    assert!(rt; tokens.as_slice() == PLACED.as_slice());
 }
 
 /// The name of a text's first fault, with its line and column.
@@ -201,9 +193,9 @@ static FAULTS: [Faulty; 7] = [
 fn assert_fault(rt: &impl Abort, alloc: Global, (text, name, line, column): &Faulty) {
     assert!(rt; text.len() <= MAX_TEXT);
     let found = fault(alloc, text);
-    assert_eq!(rt; found.0, *name);
-    assert_eq!(rt; found.1, *line);
-    assert_eq!(rt; found.2, *column);
+    assert!(rt; found.0 == *name);
+    assert!(rt; found.1 == *line);
+    assert!(rt; found.2 == *column);
 }
 
 #[test]
@@ -224,6 +216,6 @@ static NAMES: [(&[u8], bool); 5] = [
 #[test]
 fn a_name_stands_by_itself(rt: HostRuntime) {
     for (text, is_one) in &NAMES {
-        assert_eq!(rt; is_name(text), *is_one);
+        assert!(rt; is_name(text) == *is_one);
     }
 }

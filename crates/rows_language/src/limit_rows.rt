@@ -1,8 +1,6 @@
 //! Rows of descriptions as large as they may be: what the limits allow is answered with ample memory.
 
-use crate::reading::unit_of;
-use config_graph::Graph;
-use darwin_types::check;
+use crate::reading::checked_of;
 use elaborator::{ElabError, elaborate};
 use std::alloc::Global;
 use std::process::Abort;
@@ -21,38 +19,25 @@ const OPERATIONS: usize = 500_000;
 /// How many components a description has, each with a sink of its own.
 const COMPONENTS: usize = 20_000;
 
-/// The graph of a description, or the fault of its elaboration.
-fn elaborated(
-    rt: &impl Abort,
-    alloc: Global,
-    text: &[u8],
-    top: &str,
-    args: &[i32],
-) -> Result<Result<Graph, ElabError>, Fail> {
-    let unit = unit_of(rt, alloc, text)?;
-    let checked = check(alloc, unit)?;
-    Ok(elaborate(alloc, &checked, top.as_bytes(), args))
-}
-
 /// Stops the test where a description hasn't a graph of so many nodes, the last of which has this path.
 fn assert_drawn(
     rt: &impl Abort,
     alloc: Global,
     (text, top, args): (&[u8], &str, &[i32]),
     (nodes, last): (usize, &[u8]),
-) -> Result<(), Fail> {
-    match elaborated(rt, alloc, text, top, args)? {
+) {
+    let checked = checked_of(rt, alloc, text);
+    match elaborate(alloc, &checked, top.as_bytes(), args) {
         Ok(graph) => {
-            assert_eq!(rt; graph.nodes().len(), nodes);
+            assert!(rt; graph.nodes().len() == nodes);
             assert!(rt; graph.index_of(last).is_some());
         }
-        Err(error) => panic!(rt; "{error:?}"),
+        Err(_) => panic!(rt; "there is no graph"),
     }
-    Ok(())
 }
 
 #[test]
-fn the_most_instances_are_made(rt: HostRuntime) -> Result<(), Fail> {
+fn the_most_instances_are_made(rt: HostRuntime) {
     let text = MANY.as_bytes();
     let alloc = rt.alloc();
     assert_drawn(
@@ -60,10 +45,10 @@ fn the_most_instances_are_made(rt: HostRuntime) -> Result<(), Fail> {
         alloc,
         (text, "Many", &[MOST_INSTANCES]),
         (32_768, b"A[32767]"),
-    )?;
-    let answer = elaborated(&rt, alloc, text, "Many", &[MOST_INSTANCES + 1])?;
+    );
+    let checked = checked_of(&rt, alloc, text);
+    let answer = elaborate(alloc, &checked, b"Many", &[MOST_INSTANCES + 1]);
     assert!(rt; matches!(answer, Err(ElabError::TooMany)));
-    Ok(())
 }
 
 #[test]
@@ -78,7 +63,8 @@ fn a_million_tokens_are_read(rt: HostRuntime) -> Result<(), Fail> {
     }
     text.push_str("]:sink; inst t:sink; }")?;
     let text = text.as_str().as_bytes();
-    assert_drawn(&rt, alloc, (text, "T", &[]), (1, b"t"))
+    assert_drawn(&rt, alloc, (text, "T", &[]), (1, b"t"));
+    Ok(())
 }
 
 #[test]
@@ -90,5 +76,6 @@ fn many_components_are_checked(rt: HostRuntime) -> Result<(), Fail> {
         text.push_str(component.as_str())?;
     }
     let text = text.as_str().as_bytes();
-    assert_drawn(&rt, alloc, (text, "C19999", &[]), (1, b"t19999"))
+    assert_drawn(&rt, alloc, (text, "C19999", &[]), (1, b"t19999"));
+    Ok(())
 }

@@ -1,6 +1,6 @@
 //! Rows of `parse`: the first token that can't stand, how deep levels may nest, and long chains.
 
-use darwin_lexer::{MAX_TEXT, lex};
+use crate::reading::tokens_of;
 use darwin_parser::{ParseError, parse};
 use std::alloc::Global;
 use std::process::Abort;
@@ -79,7 +79,7 @@ static IN_BINDINGS_AND_BLOCKS: [Refused; 15] = [
 ];
 
 /// What a parse answers: how many components there are, or the refusal.
-#[derive(Clone, Copy, Debug, PartialEq, Eq)]
+#[derive(Clone, Copy, PartialEq, Eq)]
 enum Answer {
     Parsed(usize),
     Expected(u32),
@@ -87,44 +87,42 @@ enum Answer {
     NoMemory,
 }
 
-fn answer_to(rt: &impl Abort, alloc: Global, text: &str) -> Result<Answer, Fail> {
+fn answer_to(rt: &impl Abort, alloc: Global, text: &str) -> Answer {
     let bytes = text.as_bytes();
-    assert!(rt; bytes.len() <= MAX_TEXT);
-    let tokens = lex(alloc, bytes)?;
-    Ok(match parse(alloc, bytes, tokens.as_slice()) {
+    let tokens = tokens_of(rt, alloc, bytes);
+    match parse(alloc, bytes, tokens.as_slice()) {
         Ok(unit) => Answer::Parsed(unit.components.len()),
         Err(ParseError::Expected(n)) => Answer::Expected(n),
         Err(ParseError::TooNested(n)) => Answer::TooNested(n),
         Err(ParseError::NoMemory) => Answer::NoMemory,
-    })
-}
-
-fn assert_refused(rt: &impl Abort, alloc: Global, rows: &[Refused]) -> Result<(), Fail> {
-    for (text, token) in rows {
-        let found = answer_to(rt, alloc, text)?;
-        assert_eq!(rt; found, Answer::Expected(*token), "{text}");
     }
-    Ok(())
+}
+
+fn assert_refused(rt: &impl Abort, alloc: Global, rows: &[Refused]) {
+    for (text, token) in rows {
+        let found = answer_to(rt, alloc, text);
+        assert!(rt; found == Answer::Expected(*token), "{text}");
+    }
 }
 
 #[test]
-fn tokens_that_cant_stand_in_components(rt: HostRuntime) -> Result<(), Fail> {
-    assert_refused(&rt, rt.alloc(), &IN_COMPONENTS)
+fn tokens_that_cant_stand_in_components(rt: HostRuntime) {
+    assert_refused(&rt, rt.alloc(), &IN_COMPONENTS);
 }
 
 #[test]
-fn tokens_that_cant_stand_in_ports(rt: HostRuntime) -> Result<(), Fail> {
-    assert_refused(&rt, rt.alloc(), &IN_PORTS)
+fn tokens_that_cant_stand_in_ports(rt: HostRuntime) {
+    assert_refused(&rt, rt.alloc(), &IN_PORTS);
 }
 
 #[test]
-fn tokens_that_cant_stand_in_arrays_and_instances(rt: HostRuntime) -> Result<(), Fail> {
-    assert_refused(&rt, rt.alloc(), &IN_ARRAYS_AND_INSTANCES)
+fn tokens_that_cant_stand_in_arrays_and_instances(rt: HostRuntime) {
+    assert_refused(&rt, rt.alloc(), &IN_ARRAYS_AND_INSTANCES);
 }
 
 #[test]
-fn tokens_that_cant_stand_in_bindings_and_blocks(rt: HostRuntime) -> Result<(), Fail> {
-    assert_refused(&rt, rt.alloc(), &IN_BINDINGS_AND_BLOCKS)
+fn tokens_that_cant_stand_in_bindings_and_blocks(rt: HostRuntime) {
+    assert_refused(&rt, rt.alloc(), &IN_BINDINGS_AND_BLOCKS);
 }
 
 /// A text that begins so, goes on with a piece so many times, and ends so, and what it is answered.
@@ -210,8 +208,8 @@ fn assert_nested(
     (front, piece, times, end, wanted): &Nested,
 ) -> Result<(), Fail> {
     let text = repeated(alloc, front, piece, *times, end)?;
-    let found = answer_to(rt, alloc, text.as_str())?;
-    assert_eq!(rt; found, *wanted, "{}", text.as_str());
+    let found = answer_to(rt, alloc, text.as_str());
+    assert!(rt; found == *wanted, "{}", text.as_str());
     Ok(())
 }
 

@@ -148,8 +148,8 @@ fn run_both<R: Wait + Abort + Copy>(rt: R, alloc: Global, script: &str) -> Resul
     };
     let report = report_on_gates(rt, alloc, asked)?;
     let text = report_text(alloc, &report)?;
-    assert_eq!(rt; status.number(), 0);
-    assert_eq!(rt; report.status, 0);
+    assert!(rt; status.number() == 0);
+    assert!(rt; report.status == 0);
     assert!(rt; same_lines(text.as_slice(), sink.bytes()).is_some());
     Ok(())
 }

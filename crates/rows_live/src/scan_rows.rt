@@ -74,7 +74,7 @@ fn moves<R: Wait>(
     ensures slot { guest.new.node.slot ≡ guest.old.node.slot }
 {
     let turn = guest.turn(gates, hand, true)?;
-    Ok(turn != Turn::Still)
+    Ok(!matches!(turn, Turn::Still))
 }
 
 /// An item goes from the source to the buffer, beside the board: one begins, the other takes and answers, the first ends.
@@ -130,12 +130,12 @@ fn seen_apart<J: Named, R: Wait + Copy + Abort, B: Board + Drop>(
     ensures idle { OnOk result ((t : List Item) × IsIdle B.Board engine.new t) }
 {
     let mut source = door.take(SOURCE).expect(&rt, "the source");
-    assert_eq!(rt; finish(engine, 1)?, 1);
+    assert!(rt; finish(engine, 1)? == 1);
     let mut buffer = door.take(BUFFER).expect(&rt, "the buffer");
     assert!(rt; fills(gates, hand, &mut source, &mut buffer)?);
     assert!(rt; source.guest().node.done() && !buffer.guest().node.done());
     door.put(source);
-    assert_eq!(rt; finish(engine, 1)?, 1);
+    assert!(rt; finish(engine, 1)? == 1);
     door.put(buffer);
     Ok(())
 }
@@ -168,12 +168,12 @@ fn empty_then_full<J: Named, R: Wait + Copy + Abort>(
     let board = LiveBoard::new(rt, alloc, gates, seat, door, hand, &stile, &signs);
     let mut engine = started(alloc, board, start)?;
     seen_apart(rt, gates, &mut engine, &mut other, &mut theirs)?;
-    assert_eq!(rt; finish(&mut engine, 100)?, 3);
-    assert_eq!(rt; finish(&mut engine, 100)?, 0);
-    assert_eq!(rt; stile.turns.load(Ordering::SeqCst), TURNS);
+    assert!(rt; finish(&mut engine, 100)? == 3);
+    assert!(rt; finish(&mut engine, 100)? == 0);
+    assert!(rt; stile.turns.load(Ordering::SeqCst) == TURNS);
     let (report, board) = engine.stop()?;
     let _seat = board.into_seat();
-    assert_eq!(rt; report.status, 0);
+    assert!(rt; report.status == 0);
     Ok(())
 }
 

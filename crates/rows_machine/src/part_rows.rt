@@ -161,7 +161,7 @@ fn assert_between(
         ports: *ports,
     };
     let found = outcome(alloc, old, new, &moves, made)?;
-    assert_eq!(rt; found.as_str(), *wanted);
+    assert!(rt; found.as_str() == *wanted);
     Ok(())
 }
 
@@ -236,7 +236,7 @@ fn assert_count(
     };
     match parts(alloc, old, new, &[], made) {
         Ok(parts) => {
-            assert_eq!(rt; parts.items().len(), count as usize);
+            assert!(rt; parts.items().len() == count as usize);
             match parts.items().last() {
                 Some(part) => assert!(rt; same(&part.next, new)),
                 None => assert!(rt; count == 0),

@@ -3,7 +3,7 @@
 ghost use Rattle.std.specs.Prelude.{IfOk};
 ghost use Rattle.config_graph.specs.Sound.{Sound};
 
-use change_script::{EventFile, ScriptError, parse_events};
+use change_script::{EventFile, parse_events};
 use config_graph::{Graph, NoMemory};
 use darwin_lexer::MAX_TEXT;
 use quiesce_core::{Core, Event};
@@ -56,9 +56,12 @@ fn push_all(text: &mut String, pieces: &[&str], last: &str) -> Result<(), AllocE
 }
 
 /// The events of an event file with this text.
-fn events_in(rt: &impl Abort, alloc: Global, text: &[u8]) -> Result<EventFile, ScriptError> {
+fn events_in(rt: &impl Abort, alloc: Global, text: &[u8]) -> EventFile {
     assert!(rt; text.len() <= MAX_TEXT);
-    parse_events(alloc, text)
+    match parse_events(alloc, text) {
+        Ok(file) => file,
+        Err(_) => panic!(rt; "the events aren't read"),
+    }
 }
 
 /// The events of an event file, in pieces and a last one, behind its start.
@@ -70,14 +73,14 @@ pub fn events_of(
 ) -> Result<EventFile, Fail> {
     let mut text = String::from_str(alloc, "start X()\n")?;
     push_all(&mut text, pieces, last)?;
-    Ok(events_in(rt, alloc, text.as_str().as_bytes())?)
+    Ok(events_in(rt, alloc, text.as_str().as_bytes()))
 }
 
 /// A copy of each event happens.
 fn happen(rt: &impl Abort, core: &mut Core, events: &[Event]) -> Result<(), NoMemory> {
     for event in events {
         let copy = event.try_clone()?;
-        assert_eq!(rt; core.apply(&copy), Ok(()));
+        assert!(rt; core.apply(&copy) == Ok(()));
     }
     Ok(())
 }

@@ -149,17 +149,17 @@ const BEGINNING: &[Moved] = &[
 /// The node is handed over with what it has, and goes on by its new argument.
 fn goes_over(rt: &impl Abort, alloc: Global, row: &Moved) -> Result<(), Fail> {
     let mut node = node_of(rt, alloc, row.kind, Some(row.arg));
-    assert_eq!(rt; lead(rt, &mut node, row.before)?, row.before.len());
+    assert!(rt; lead(rt, &mut node, row.before)? == row.before.len());
     assert!(rt; !node.in_service());
     assert!(rt; node.kind().has_arg());
     assert!(rt; row.new_arg < VALUE_LIMIT);
     let mut moved = import(node, Some(row.new_arg));
-    assert_eq!(rt; moved.kind(), row.kind);
-    assert_eq!(rt; moved.arg(), Some(row.new_arg));
+    assert!(rt; moved.kind() == row.kind);
+    assert!(rt; moved.arg() == Some(row.new_arg));
     shows(rt, &moved, row.numbers);
-    assert_eq!(rt; moved.done(), row.done);
-    assert_eq!(rt; moved.wants(), row.wants);
-    assert_eq!(rt; lead(rt, &mut moved, row.after)?, row.after.len());
+    assert!(rt; moved.done() == row.done);
+    assert!(rt; moved.wants() == row.wants);
+    assert!(rt; lead(rt, &mut moved, row.after)? == row.after.len());
     Ok(())
 }
 

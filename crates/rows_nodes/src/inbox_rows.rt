@@ -10,18 +10,18 @@ const ROOM: u32 = 1_024;
 #[test]
 fn inboxes_are_lists(rt: HostRuntime) -> Result<(), Fail> {
     let mut hints = PlainHints::new(rt.alloc())?;
-    assert_eq!(rt; hints.next(1_022), None);
+    assert!(rt; hints.next(1_022) == None);
     for port in 0..ROOM {
-        assert_eq!(rt; hints.post(5, port), Ok(()), "port {port}");
+        assert!(rt; hints.post(5, port) == Ok(()), "port {port}");
     }
-    assert_eq!(rt; hints.post(5, 9), Err(Full));
-    assert_eq!(rt; hints.post(1_022, 4_095), Ok(()));
+    assert!(rt; hints.post(5, 9) == Err(Full));
+    assert!(rt; hints.post(1_022, 4_095) == Ok(()));
     for port in 0..ROOM {
-        assert_eq!(rt; hints.next(5), Some(port));
+        assert!(rt; hints.next(5) == Some(port));
     }
-    assert_eq!(rt; hints.next(5), None);
-    assert_eq!(rt; hints.next(1_022), Some(4_095));
-    assert_eq!(rt; hints.post(5, 9), Ok(()));
-    assert_eq!(rt; hints.next(5), Some(9));
+    assert!(rt; hints.next(5) == None);
+    assert!(rt; hints.next(1_022) == Some(4_095));
+    assert!(rt; hints.post(5, 9) == Ok(()));
+    assert!(rt; hints.next(5) == Some(9));
     Ok(())
 }

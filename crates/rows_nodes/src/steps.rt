@@ -15,7 +15,7 @@ use std::test::Fail;
 pub const FIRST_PORT: u32 = 7;
 
 /// A node's event.
-#[derive(Clone, Copy, Debug)]
+#[derive(Clone, Copy)]
 pub enum Does {
     Begin,
     Call,
@@ -98,7 +98,7 @@ fn asking_event_of(does: Does, port: u32, value: u32) -> Event
 
 /// A node of this kind, with its argument where its kind has one.
 pub fn node_of(rt: &impl Abort, alloc: Global, kind: Kind, arg: Option<u32>) -> AnyNode {
-    assert_eq!(rt; arg.is_some(), kind.has_arg());
+    assert!(rt; arg.is_some() == kind.has_arg());
     assert!(rt; arg.is_none_or(|arg| arg < VALUE_LIMIT));
     make(alloc, kind, arg)
 }
@@ -116,10 +116,10 @@ pub fn lead(rt: &impl Abort, node: &mut AnyNode, steps: &[Step]) -> Result<usize
 
 /// The node's state has these numbers.
 pub fn shows(rt: &impl Abort, node: &AnyNode, numbers: &[u64]) {
-    assert_eq!(rt; node.state_len(), numbers.len());
+    assert!(rt; node.state_len() == numbers.len());
     for (index, number) in numbers.iter().enumerate() {
         assert!(rt; index < node.state_len());
-        assert_eq!(rt; node.state_word(index), *number);
+        assert!(rt; node.state_word(index) == *number);
     }
 }
 
@@ -130,12 +130,12 @@ pub fn all_hold(rt: &impl Abort, alloc: Global, rows: &[Row]) -> Result<(), Fail
         let done = lead(rt, &mut node, steps)?;
         match numbers {
             Some(numbers) => {
-                assert_eq!(rt; done, steps.len());
+                assert!(rt; done == steps.len());
                 shows(rt, &node, numbers);
             }
             None => {
                 assert!(rt; done < steps.len());
-                assert_eq!(rt; done, steps.len() - 1);
+                assert!(rt; done == steps.len() - 1);
             }
         }
     }

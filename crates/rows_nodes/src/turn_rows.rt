@@ -32,7 +32,7 @@ fn happens(rt: &impl Abort, core: &mut Core, event: &Event)
     ensures step { Step core.old.state event.now core.new.state }
 {
     let _ = core.made();
-    assert_eq!(rt; core.apply(event), Ok(()));
+    assert!(rt; core.apply(event) == Ok(()));
 }
 
 /// An event happens that no node does: seats of nodes that are live go on fitting.
@@ -64,7 +64,7 @@ fn make_node(rt: &impl Abort, core: &mut Core, slot: u32, node: Node)
 fn lives(rt: &impl Abort, core: &Core, slot: u32)
     ensures { is_live core.now.state.config slot ≡ true }
 {
-    assert_eq!(rt; core.is_live(slot), true);
+    assert!(rt; core.is_live(slot) == true);
 }
 
 /// An event of the change happens, after which the two nodes are live: their seats, at which they did nothing, still
@@ -142,7 +142,7 @@ fn hosted(
         (⟦<AnyNode as Component>⟧.state result.inner) }
     ensures slot { (result.slot ≡ slot) × (result.seat.slot ≡ slot) }
 {
-    assert_eq!(rt; arg.is_some(), kind.has_arg());
+    assert!(rt; arg.is_some() == kind.has_arg());
     assert!(rt; arg.is_none_or(|arg| arg < VALUE_LIMIT));
     let made = gate.core().slot(slot);
     assert!(rt; made.is_some_and(|made| made.node.kind == kind));
@@ -220,11 +220,11 @@ fn nodes_take_turns_to_rest(rt: HostRuntime) -> Result<(), Fail> {
     let mut source = hosted(&rt, alloc, &gate, 0, Kind::Source, Some(2));
     let mut sink = hosted(&rt, alloc, &gate, 1, Kind::Sink, None);
     let moved = rounds(&mut gate, &mut hints, &mut source, &mut sink, 64)?;
-    assert_eq!(rt; moved, 6);
+    assert!(rt; moved == 6);
     assert!(rt; source.done());
     assert!(rt; sink.done());
-    assert_eq!(rt; source.log().len(), 4);
-    assert_eq!(rt; sink.log().len(), 4);
+    assert!(rt; source.log().len() == 4);
+    assert!(rt; sink.log().len() == 4);
     shows(&rt, sink.inner(), &[1, 2]);
     Ok(())
 }

@@ -90,9 +90,8 @@ fn try_rows(
 {
     for (old, new, wanted) in rows {
         let row = report.replace(alloc, old, new)?;
-        assert_eq!(rt;
-            can_be(rt, alloc, asked, row.as_str())?,
-            *wanted,
+        assert!(rt;
+            can_be(rt, alloc, asked, row.as_str())? == *wanted,
             "{old} {new}"
         );
     }

@@ -69,7 +69,7 @@ fn a_line_drains_with_its_last_serial(rt: HostRuntime) -> Result<(), Fail> {
     let alloc = rt.alloc();
     for (last, wanted) in &LAST {
         let row = format!(in alloc; "{}{last}{}", LINE.0, LINE.1)?;
-        assert_eq!(rt; is_merge(&rt, alloc, &row)?, *wanted, "{last}");
+        assert!(rt; is_merge(&rt, alloc, &row)? == *wanted, "{last}");
     }
     Ok(())
 }
@@ -81,7 +81,7 @@ fn serials_tell_on_which_side_of_a_close_a_root_began(rt: HostRuntime) -> Result
         let made = "report 2|make 0 s source(1)|make 1 t sink()|link 0 1 0|reopen 0|";
         let other = "log 1 t|take 0 1 1|give 0 1 1|state 1|status 0|";
         let row = format!(in alloc; "{made}{history}log 0 s|{log}state 1|{other}")?;
-        assert_eq!(rt; is_merge(&rt, alloc, &row)?, *wanted, "{history} {log}");
+        assert!(rt; is_merge(&rt, alloc, &row)? == *wanted, "{history} {log}");
     }
     Ok(())
 }

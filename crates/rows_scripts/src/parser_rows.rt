@@ -117,7 +117,7 @@ fn assert_faults(rt: &impl Abort, alloc: Global, rows: &[Row]) -> Result<(), Fai
         let text = row.replace(alloc, "|", "\n")?;
         let bytes = text.as_bytes();
         assert!(rt; bytes.len() <= MAX_REPORT);
-        assert_eq!(rt; fault(alloc, bytes), (*wanted, *line), "{row}");
+        assert!(rt; fault(alloc, bytes) == (*wanted, *line), "{row}");
     }
     Ok(())
 }

@@ -4,7 +4,7 @@ ghost use Rattle.std.specs.Prelude.{IfOk};
 ghost use Rattle.report_writing.specs.Reports.{LogsAreMade};
 
 use config_graph::{Graph, Kind, List, Node, Text};
-use quiesce_core::{Core, Event};
+use quiesce_core::{Core, Deed, Event, Message, NodeEvent};
 use report_types::{HistoryLine, Last, NodeLog, Report};
 use report_writing::report_text;
 use std::alloc::Global;
@@ -153,7 +153,7 @@ fn graphs_are_written(rt: HostRuntime) -> Result<(), Fail> {
 fn one_log(
     alloc: Global,
     node: Node,
-    events: Vec<Event>,
+    events: Vec<NodeEvent>,
     last: Last,
     unfinished: Option<u32>,
     status: u8,
@@ -180,30 +180,26 @@ fn one_log(
     })
 }
 
-/// An event at port 1 with serial 2 and value 3.
-macro_rules! event {
-    ($kind:ident) => {
-        Event::$kind {
-            port: 1,
-            serial: 2,
-            value: 3,
-        }
-    };
-}
+/// What is done at port 1 with serial 2 and value 3.
+const MESSAGE: Message = Message {
+    port: 1,
+    serial: 2,
+    value: 3,
+};
 
 #[test]
 fn logs_are_written(rt: HostRuntime) -> Result<(), Fail> {
     let alloc = rt.alloc();
     let mut events = Vec::new(alloc);
-    events.push(event!(Begin))?;
-    events.push(event!(Call))?;
-    events.push(event!(Take))?;
-    events.push(event!(More))?;
-    events.push(event!(Ask))?;
-    events.push(event!(Hear))?;
-    events.push(event!(Give))?;
-    events.push(event!(End))?;
-    events.push(Event::Miss { port: 4 })?;
+    events.push(NodeEvent::of(Deed::Begin(MESSAGE)))?;
+    events.push(NodeEvent::of(Deed::Call(MESSAGE)))?;
+    events.push(NodeEvent::of(Deed::Take(MESSAGE)))?;
+    events.push(NodeEvent::of(Deed::More(MESSAGE)))?;
+    events.push(NodeEvent::of(Deed::Ask(MESSAGE)))?;
+    events.push(NodeEvent::of(Deed::Hear(MESSAGE)))?;
+    events.push(NodeEvent::of(Deed::Give(MESSAGE)))?;
+    events.push(NodeEvent::of(Deed::End(MESSAGE)))?;
+    events.push(NodeEvent::of(Deed::Miss { port: 4 }))?;
     let last = Last::State(List::of([11, 18446744073709551615].to_vec(alloc)?));
     let node = node(alloc, b"t", Kind::Sink, None)?;
     let report = one_log(alloc, node, events, last, None, 7)?;

@@ -69,10 +69,10 @@ fn run_long(rt: &impl Abort, alloc: Global, row: &Long) -> Result<(), Fail> {
     let mut sink = MemSink::new(alloc, WIDE)?;
     let words = words_of(alloc, &STEP)?;
     let status = still(alloc, words.as_slice(), &mut shelf, &mut sink);
-    assert_eq!(rt; status, Status::Ok, "{}", row.script);
+    assert!(rt; status == Status::Ok, "{}", row.script);
     let text = sink.bytes();
-    assert_eq!(rt; text.len(), row.bytes, "{}", row.script);
-    assert_eq!(rt; count_of_lines(text), row.lines, "{}", row.script);
+    assert!(rt; text.len() == row.bytes, "{}", row.script);
+    assert!(rt; count_of_lines(text) == row.lines, "{}", row.script);
     let ends = text.ends_with(row.end.as_bytes());
     assert!(rt; ends && has_lines(text, row.some), "{}", row.script);
     Ok(())

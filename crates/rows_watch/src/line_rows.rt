@@ -43,6 +43,6 @@ fn two_observers(rt: HostRuntime) -> Result<(), Fail> {
     let mut text = Vec::new(alloc);
     push_watch_text(&mut text, &observers)?;
     let wanted = b"seen 0 0 0 0\nseen 0 1 1 0\nseen 0 2 1 0\nseen 1 2 1 0\n";
-    assert_eq!(rt; text.as_slice(), wanted.as_slice());
+    assert!(rt; text.as_slice() == wanted.as_slice());
     Ok(())
 }

@@ -109,9 +109,9 @@ fn one_observer(rt: HostRuntime) -> Result<(), Fail> {
         [first, behind @ ..] if *first == NOTHING => behind,
         lines => lines,
     };
-    assert_eq!(rt; lines.len(), COMMITS as usize);
+    assert!(rt; lines.len() == COMMITS as usize);
     for (line, commits) in lines.iter().zip(1..) {
-        assert_eq!(rt; *line, one_node(commits));
+        assert!(rt; *line == one_node(commits));
     }
     Ok(())
 }
@@ -124,9 +124,9 @@ fn all_observers(rt: HostRuntime) -> Result<(), Fail> {
         let observers = Observers::new(count);
         let (noted, lines) = beside_commits(rt, alloc, &observers, &one_sink(alloc)?, 2)?;
         assert!(rt; noted);
-        assert_eq!(rt; lines.len(), count as usize);
+        assert!(rt; lines.len() == count as usize);
         for lines in &lines {
-            assert_eq!(rt; lines.items().last().copied(), Some(one_node(2)));
+            assert!(rt; lines.items().last().copied() == Some(one_node(2)));
         }
     }
     Ok(())

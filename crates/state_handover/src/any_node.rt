@@ -13,7 +13,7 @@ use kinds_phil::{Fork, Philosopher, Place};
 /// A node, by its kind. Each call is that of the node's own type. One that its type lacks is answered here where the
 /// answer is the same for all nodes of the kind (a fork is always done); else its condition is one that no node of the
 /// kind meets, and its arm can't be reached.
-#[derive(Debug, Drop)]
+#[derive(Drop)]
 pub enum AnyNode {
     Philosopher(Philosopher),
     Place(Place),

@@ -1,7 +1,7 @@
 //! A node whose state was handed over.
 
 /// Where the log of a node lies whose state was handed over.
-#[derive(Clone, Copy, Debug, PartialEq, Eq)]
+#[derive(Clone, Copy)]
 pub struct Handed {
     /// The slot of the first node of its line.
     pub line: u32,

@@ -66,7 +66,7 @@ pub fn rests<N: Nodes>(nodes: &N, idle: bool) -> bool
 }
 
 /// What looks at ports found.
-#[derive(Clone, Copy, Debug, PartialEq, Eq)]
+#[derive(Clone, Copy)]
 pub struct PortsSeen {
     /// Whether each port of a live node was idle.
     pub idle: bool,

@@ -20,7 +20,7 @@ use config_graph::{List, NoMemory, Text};
 use std::alloc::{AllocError, Global};
 
 /// Why the rest of the parts wasn't carried out.
-#[derive(Debug, Drop)]
+#[derive(Drop)]
 pub enum RollError {
     /// After all rounds this part, counted from 1, had these roots left.
     Pending { part: u32, left: List<LeftRoot> },

@@ -25,7 +25,7 @@ use std::alloc::{AllocError, Global};
 use step_board::{Nodes, StepBoard};
 
 /// What is asked of a roll.
-#[derive(Debug, Drop)]
+#[derive(Drop)]
 pub struct Roll {
     /// The system that is started.
     pub start: Start,
@@ -41,7 +41,7 @@ pub struct Roll {
 }
 
 /// What a roll comes to.
-#[derive(Debug, Drop)]
+#[derive(Drop)]
 pub struct RollEnd {
     /// The part that was given up, counted from 1. None where all were carried out.
     pub given_up: Option<u32>,

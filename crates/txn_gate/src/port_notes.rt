@@ -7,7 +7,7 @@ use config_graph::NoMemory;
 use std::alloc::Global;
 
 /// Whether the port was ever reopened, and whether a look found it drained since it was last closed or reopened.
-#[derive(Clone, Copy, Debug, PartialEq, Eq)]
+#[derive(Clone, Copy)]
 pub struct PortNote {
     pub reopened: bool,
     pub found: bool,

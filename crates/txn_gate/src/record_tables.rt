@@ -30,7 +30,7 @@ use std::ops::Range;
 
 /// The nodes and ports that a record makes, where its ports lead, and which it notes as drained. Contracts see a
 /// configuration and notes, and of which records they are (`IsTableOf`).
-#[derive(Debug, Drop)]
+#[derive(Drop)]
 pub struct RecordTables {
     links: Links,
     notes: Vec<PortNote>,

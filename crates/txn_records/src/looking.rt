@@ -6,7 +6,7 @@ ghost use Rattle.txn_records.specs.Looks.{look_of};
 use quiesce_word::Word;
 
 /// What a look at a port finds.
-#[derive(Clone, Copy, Debug, PartialEq, Eq)]
+#[derive(Clone, Copy, PartialEq, Eq)]
 pub enum Look {
     /// The port is closed, and idle or in a consequent transaction; `serial` is that of its last one.
     Drained { serial: u32, idle: bool },

@@ -19,7 +19,7 @@ const BEFORE_ALL: Sighting = Sighting {
 };
 
 /// Of each number of commits of a run, from 0, how many nodes and links there are. Contracts see these in order.
-#[derive(Debug, Drop)]
+#[derive(Drop)]
 pub struct Counts {
     sightings: Vec<Sighting>,
 }

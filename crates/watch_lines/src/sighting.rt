@@ -6,7 +6,7 @@ ghost use Rattle.watch_lines.specs.Sightings.{CountsOf};
 use config_graph::Graph;
 
 /// A number of commits, and how many nodes and links the graph has that stands behind the last of them.
-#[derive(Clone, Copy, Debug, PartialEq, Eq)]
+#[derive(Clone, Copy, PartialEq, Eq)]
 pub struct Sighting {
     pub commits: u32,
     pub nodes: u32,

@@ -7,7 +7,7 @@ use left_right::Absorb;
 use std::alloc::AllocError;
 
 /// How many graphs were published, and the last of them; where there is none, 0 and the empty graph.
-#[derive(Debug, Drop)]
+#[derive(Drop)]
 pub struct Seen {
     pub commits: u32,
     pub graph: Graph,

@@ -46,7 +46,7 @@ impl<R: Wait + Copy> Drop for ViewWriter<R> {
 }
 
 /// What the writer tells its viewers: how many graphs it had published.
-#[derive(Clone, Copy, Debug)]
+#[derive(Clone, Copy)]
 pub struct Note {
     pub commits: u32,
 }
