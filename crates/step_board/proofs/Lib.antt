@@ -11,7 +11,6 @@ mod Keeping
 mod ChangeLemmas
 mod MakeLemmas
 mod Showing
-pub mod LogLaws
 mod Hinting
 mod NodeTurnLemmas
 mod FitProps

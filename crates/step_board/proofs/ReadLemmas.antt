@@ -21,7 +21,7 @@ use Rattle.step_board.specs.declared.handed.Handed.{Handed}
 use Rattle.step_board.specs.declared.held.Held.{Held}
 use Rattle.step_board.proofs.ChangeLemmas.{here_same, not_both}
 use Rattle.step_board.proofs.Heirs.{not_taken}
-use Rattle.step_board.proofs.LogLaws.{log_is}
+use Rattle.step_board.specs.LogFacts.{log_is}
 use Rattle.step_board.proofs.NodeTableLemmas.{at_slot}
 
 module _ (S : AnyNode → NodeState) (s : State) (xs : List Held) (ends : List ℕ) (tells : ℕ → Option (List ℕ)) (n : ℕ) (h : Held) (x : SlotEntry) (at : slice_get xs n ≡ Some h) (is : seen S h ≡ x) where

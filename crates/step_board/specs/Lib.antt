@@ -14,3 +14,4 @@ pub mod Rooms
 pub mod Seen
 pub mod Table
 pub mod Worlds
+pub mod LogFacts

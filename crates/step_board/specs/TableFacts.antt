@@ -5,7 +5,7 @@ use Rattle.std.specs.List.{range_with_len}
 use Rattle.component_trait.specs.States.{NodeState}
 use Rattle.node_host.specs.declared.turning.Turn.{Turn}
 use Rattle.node_host.specs.declared.turning.Turn.TheVariants.{Moved, Still}
-use Rattle.step_board.proofs.LogLaws as of_logs
+use Rattle.step_board.specs.LogFacts as of_logs
 use Rattle.step_board.specs.Table.{ShowsWorld, entries, logs, machine}
 use Rattle.step_board.specs.declared.table.NodeTable.{NodeTable}
 use Rattle.port_queue.specs.declared.plain.PlainHints.{PlainHints}

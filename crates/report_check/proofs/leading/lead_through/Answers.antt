@@ -8,4 +8,4 @@ pub returns-then-not-branch : goal.returns-then-not-branch
 returns-then-not-branch g c =
     stops_here (led_by c.args.first_port) (Some (g.C.Component.state c.args.node.now)) c.args.log.now c.loop-event.event-index c.event-item.result (g.C.Component.state c.loop-event.node)
     c.loop-event-test.true c.event-item.is c.loop-event.invariant
-    (not_led (led_by c.args.first_port (g.C.Component.state c.loop-event.node) c.event-item.result) (g.C.Component.state c.lead.new.node) c.in_ok-lead.field-0 c.in_ok-lead.ensures c.if-not-branch.true)
+    (not_led (led_by c.args.first_port (g.C.Component.state c.loop-event.node) c.event-item.result) (g.C.Component.state c.lead.new.node) c.in_ok-lead.field-0 (rw c.event.ensures at c.in_ok-lead.ensures) c.if-not-branch.true)

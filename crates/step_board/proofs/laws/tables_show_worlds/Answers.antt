@@ -1,4 +1,4 @@
-use Rattle.step_board.proofs.LogLaws.{logs_shown}
+use Rattle.step_board.specs.LogFacts.{logs_shown}
 use Rattle.step_board.proofs.laws.tables_show_worlds.Goals as goal
 
 pub returns-clause-run : goal.returns-clause-run

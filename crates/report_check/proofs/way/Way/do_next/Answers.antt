@@ -1,5 +1,5 @@
 use Rattle.std.proofs.Common.{◌≡◌, ◌∙◌, ◌+◌, ℕ, List, length, set, refl, sym, ap, ap₂}
-use Rattle.std.specs.Prelude.{slice_get}
+use Rattle.std.specs.Prelude.{Some, slice_get}
 use Rattle.std.proofs.lemmas.Bool.{ltb-false, ltb-true}
 use Rattle.std.proofs.lemmas.Option.{slice_get_past, slice_get_read}
 use Rattle.quiesce_core.specs.declared.event.Event.{Event}
@@ -22,9 +22,9 @@ returns-then-not-may_do-clause-tried c =
     let log = c.log_at-log.result.now in
     let place = c.place_of-place.result in
     let found = c.in-Some.ensures.lookup in
-    not_done c.args.self.now c.args.history.now c.args.logs.now c.args.node c.in-Some.event.now c.requires
+    not_done c.args.self.now c.args.history.now c.args.logs.now c.args.node c.event-event.result c.requires
     (same_place _ log _ place c.log_at-log.ensures c.place_of-place.ensures
-    ∙ slice_get_read log (length log) place c.in-Some.event.now refl (ltb-true place (length log) (sym found.0)) found.1) (sym c.if-not-may_do.ensures)
+    ∙ slice_get_read log (length log) place c.in-Some.event.now refl (ltb-true place (length log) (sym found.0)) found.1 ∙ ap Some (sym c.event-event.ensures)) (sym c.if-not-may_do.ensures)
 
 pub returns-clause-tried : goal.returns-clause-tried
 returns-clause-tried c =
@@ -32,7 +32,7 @@ returns-clause-tried c =
     let place = c.place_of-place.result in
     let found = c.in-Some.ensures.lookup in
     let places = c.args.self.now.places.items in
-    done c.args.self.now c.args.history.now c.args.logs.now c.args.node c.in-Some.event.now c.perform.new.self.state _ c.requires
+    done c.args.self.now c.args.history.now c.args.logs.now c.args.node c.event-event.result c.perform.new.self.state _ c.requires
     (same_place _ log _ place c.log_at-log.ensures c.place_of-place.ensures
-    ∙ slice_get_read log (length log) place c.in-Some.event.now refl (ltb-true place (length log) (sym found.0)) found.1) (sym c.if-not-may_do.ensures)
+    ∙ slice_get_read log (length log) place c.in-Some.event.now refl (ltb-true place (length log) (sym found.0)) found.1 ∙ ap Some (sym c.event-event.ensures)) (sym c.if-not-may_do.ensures)
     c.perform.ensures.step.changed (ap (λ (k : ℕ). set places c.args.node (k + 1)) c.place_of-place.ensures)

@@ -1,5 +1,5 @@
 -- The logs of a table are what the nodes made did in the run.
-use Rattle.std.proofs.Common.{◌≡◌, ◌∙◌, ℕ, ◌+◌, ◌<◌, List, [], length, map, Option, Some, refl, ap, subst, sym, ⊎_elim, arith}
+use Rattle.std.proofs.Common.{◌≡◌, ◌∙◌, ℕ, ◌<◌, List, [], length, map, Option, Some, refl, ap, subst, sym, ⊎_elim, zero-add}
 use Rattle.std.specs.Prelude.{slice_get}
 use Rattle.std.specs.List.{range_with_len}
 use Rattle.std.specs.Option.{option_map_or}
@@ -35,11 +35,8 @@ log_is s nodes ends es h n (gone y) at =
 pub logs_are : (s : State) (nodes : List SlotEntry) (ends : List ℕ) (es : List Event) → HoldsIn s nodes ends es
     → map (log_in nodes ends) nodes ≡ map (λ n. done_by n es) (range_with_len 0 (length (state_after es).config.slots))
 logs_are s nodes ends es h =
-    mapped_from (log_in nodes ends) (λ n. done_by n es) nodes 0 (λ i x is. log_is s nodes ends es h i x is ∙ ap (λ j. done_by j es) (zero_plus i))
+    mapped_from (log_in nodes ends) (λ n. done_by n es) nodes 0 (λ i x is. log_is s nodes ends es h i x is ∙ ap (λ j. done_by j es) (sym (zero-add i)))
     ∙ ap (λ k. map (λ n. done_by n es) (range_with_len 0 k)) h.made
-  where
-    zero_plus : (a : ℕ) → a ≡ 0 + a
-    zero_plus a = omega arith
 
 pub logs_shown : (s : State) (nodes : List SlotEntry) (ends : List ℕ) (tells : ℕ → Option (List ℕ)) (w : World) → ShowsIn s nodes ends tells w
     → map (log_in nodes ends) nodes ≡ map (λ n. done_by n w.events) (range_with_len 0 (length w.machine.config.slots))
