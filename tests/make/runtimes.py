@@ -336,3 +336,25 @@ class Runtime:
             self.heard(self.talk.end())
         else:
             self.heard(self.talk.say(b"round\n" * self.rng.choice([1, 3, 50])))
+
+
+WORDS = [b"busy", b"closed", b"idle", b"round", b"stop", b"go"]
+
+
+def edited(rng, said):
+    """What was said in a session, but for a few lines that are others, doubled, left out, or stand elsewhere."""
+    lines = said.split(b"\n")
+    for _ in range(rng.choice([1, 1, 2, 5])):
+        at, to, pick = rng.randrange(len(lines)), rng.randrange(len(lines)), rng.random()
+        words = lines[at].split(b" ")
+        if pick < 0.25:
+            lines[at], lines[to] = lines[to], lines[at]
+        elif pick < 0.4:
+            lines.insert(to, lines[at])
+        elif pick < 0.55 and len(lines) > 1:
+            del lines[at]
+        elif pick < 0.75:
+            lines[at] = b" ".join([rng.choice(WORDS)] + words[1:])
+        else:
+            lines[at] = b"%s %d" % (words[0], rng.randrange(9))
+    return b"\n".join(lines)
