@@ -43,10 +43,11 @@ def measured(program, folder, words, files, status):
     return min(seconds for seconds, _, _ in runs), runs[-1][2]
 
 
-def ran(program, folder, words, status):
-    """The processor time and the wall time of a run in seconds, and its peak resident bytes."""
+def ran(program, folder, words, status, said=os.devnull):
+    """The processor time and the wall time of a run in seconds, and its peak resident bytes. Its input is a file."""
     start = time.monotonic()
-    child = subprocess.Popen([program] + words, cwd=folder, stdout=subprocess.DEVNULL)
+    with open(said, "rb") as source:
+        child = subprocess.Popen([program] + words, cwd=folder, stdin=source, stdout=subprocess.DEVNULL)
     _, ended, usage = os.wait4(child.pid, 0)
     child.returncode = os.waitstatus_to_exitcode(ended)
     wall = time.monotonic() - start

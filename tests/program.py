@@ -83,14 +83,14 @@ def write(folder, files):
             file.write(text if isinstance(text, bytes) else text.encode("utf-8", "surrogateescape"))
 
 
-def ran(program, folder, words, files=None, stdout=subprocess.PIPE, environment=None, before=None):
-    """A run in a folder, in which these files alone are left first where some are given. `before` is called in the run's own process."""
+def ran(program, folder, words, files=None, stdout=subprocess.PIPE, environment=None, before=None, said=None, stdin=subprocess.DEVNULL):
+    """A run in a folder, in which these files alone are left first where some are given. `before` is called in the run's own process. Its
+    input is what is said, where something is."""
     if files is not None:
         write(folder, files)
+    source = {"stdin": stdin} if said is None else {"input": said}
     try:
-        done = subprocess.run(
-            [program] + words, cwd=folder, env=environment, stdin=subprocess.DEVNULL, stdout=stdout, stderr=subprocess.PIPE, timeout=SECONDS, preexec_fn=before
-        )
+        done = subprocess.run([program] + words, cwd=folder, env=environment, stdout=stdout, stderr=subprocess.PIPE, timeout=SECONDS, preexec_fn=before, **source)
     except subprocess.TimeoutExpired:
         return Ran(None, b"", b"")
     return Ran(done.returncode, done.stdout, done.stderr)

@@ -14,6 +14,7 @@ import reports
 import runs
 import scattered
 import scripts
+import sessions
 import threads
 import watched
 from language import GREATEST, LEAST, Description
@@ -140,6 +141,21 @@ def roll(words, files):
     last, pending = runs.rolled(first, count, within, parts.parts(first, second))
     end = b"done\n" if pending is None else b"pending %d\n" % pending
     return 0 if pending is None else 7, parts.parts_text(first, second) + end + graphs.graph_text(last)
+
+
+def session_of(words, files):
+    """The session that words of `apply` begin, or their refusal."""
+    usage(len(words) >= 6 and scripts.is_number(words[1]) and words[2])
+    within = scripts.integer(words[1])
+    usage(within <= scripts.NUMBER_LIMIT)
+    old, new = two_called(words[3:])
+    first, second, plan = change_of(words[2], files, old, new)
+    return sessions.Session(within, (call_text(*old), first), (call_text(*new), second), plan)
+
+
+def apply(words, files):
+    """`apply N FILE NAME INT* -- NAME INT*`, where nothing comes"""
+    return sessions.written(session_of(words, files), b"")
 
 
 def replay(words, files):
@@ -312,7 +328,7 @@ def check(words, files):
     return CONSISTENT if is_one else UNLAWFUL
 
 
-COMMANDS = {b"flat": flat, b"plan": plan, b"parts": parts_of, b"roll": roll, b"replay": replay, b"step": step, b"live": live, b"big": big, b"upgrade": upgrade, b"check": check}
+COMMANDS = {b"flat": flat, b"plan": plan, b"parts": parts_of, b"roll": roll, b"apply": apply, b"replay": replay, b"step": step, b"live": live, b"big": big, b"upgrade": upgrade, b"check": check}
 
 
 def is_text(word):

@@ -83,6 +83,13 @@ FREEZE = re.compile(
 PARTS = rb"(?:part [1-9]\d*\n%s)*" % FREEZE.pattern
 ROLLED = re.compile(rb"%s(done|pending [1-9]\d*)\n((?:(?:node|port) [^\n]*\n)*)" % PARTS)
 PARTS = re.compile(PARTS)
+KIND = rb"[a-z]+\(\d*\)"
+CALL = rb"%s\((?:-?\d+(?:,-?\d+)*)?\)" % NAME
+# a session in which nothing is said
+UNTOLD = re.compile(
+    rb"start %s\n(?:make \d+ %s %s\n)*(?:link \d+ \d+ 0\n)*(?:reopen \d+\n)*commit\nchange %s\n(?:close \d+\n)*wait \d+\n(?:ready\n)?pending \d+\n(?:open \d+ 0\n)*"
+    rb"(?:reopen \d+\n)*abandon\n" % (CALL, PATH, KIND, CALL)
+)
 
 
 class Bad(Exception):
@@ -100,7 +107,7 @@ def fault_of(status, text):
 def fault_names(commands):
     """All faults that the texts of these commands can have."""
     names = set(DESCRIPTION) if set(commands) - {"big", "upgrade", "check"} else set()
-    names -= set() if {"plan", "parts", "roll", "replay"} & set(commands) else {b"NodesFull", b"PortsFull"}
+    names -= set() if {"plan", "parts", "roll", "apply", "replay"} & set(commands) else {b"NodesFull", b"PortsFull"}
     names |= set(EVENTS) if "replay" in commands else set()
     names |= set(REPORTS) if "upgrade" in commands else set()
     rules = ["rule %02d" % rule for rule in RULES] if "replay" in commands else []
@@ -158,7 +165,7 @@ def judge(words, files, status, written):
     """Raises Bad where what was written hasn't the form of the status."""
     words = [os.fsencode(word) for word in words]
     command = words[0].decode("utf-8", "replace") if words else ""
-    file = words[1] if len(words) > 1 else b""
+    file = (words + [b"", b""])[2 if command == "apply" else 1]
     if command == "step" and len(words) == 2:
         want(status in (0, 2, 3, 4, 7, 8), "a status that shouldn't come here")
     elif command == "live" and len(words) in (2, 4, 6):
@@ -178,6 +185,8 @@ def judge(words, files, status, written):
         found = ROLLED.fullmatch(written)
         want(found and (found[1] == b"done") == (status == 0), "no text of a roll, or of another status")
         graph(found[2])
+    elif status == 7 and command == "apply":
+        want(UNTOLD.fullmatch(written), "no text of a session that was given up")
     elif status == 0 and command == "replay":
         want(REPLAY.fullmatch(written), "no text of a replay")
     elif status == 0 and command == "upgrade":
