@@ -10,7 +10,7 @@ from program import TOP
 TOOLS = os.path.join(TOP, "tools")
 FOLDER = os.path.join(TOP, "crates", "darwin_run")
 EXAMPLES = "../../examples/"
-SECONDS, BYTES = 60, 1 << 20
+SECONDS, BYTES = 300, 1 << 20
 LINE = "component source(int n) { require out; }\ncomponent buffer(int cap) { provide in; require next; }\ncomponent sink { provide in; }\n"
 # a fork is taken from a table while meals are under way
 TABLE = "use ../../examples/table.dar\nstart Table(3,4,9)\nrun 5\nchange to Table(3,4,0) within 50\nfinish within 500\nend\n"
