@@ -98,8 +98,8 @@ class Browser:
     def press(self, key, shift=False):
         code = KEYS.get(key, ord(key.upper()[0]))
         words = {"key": key, "windowsVirtualKeyCode": code, "modifiers": 8 if shift else 0}
-        if key not in KEYS:
-            words["text"] = key
+        if key not in KEYS or key == "Enter":
+            words["text"] = "\r" if key == "Enter" else key
         self.call("Input.dispatchKeyEvent", type="keyDown", **words)
         self.call("Input.dispatchKeyEvent", type="keyUp", key=key, windowsVirtualKeyCode=code)
 

@@ -29,6 +29,8 @@ class Course {
   constructor(data) {
     this.data = data;
     this.nodes = data.nodes;
+    // in a session the program asks for closed gates, and the runtime says when they are
+    this.closing = data.what === "session" ? ["closed", "drained"] : ["close"];
     this.length = data.moments[0].length;
     this.verbs = data.moments[0].map((code) => data.verbs[code]);
     [, this.a, this.b, this.c] = data.moments;
@@ -95,7 +97,7 @@ class Course {
   apply(state, moment) {
     const verb = this.verbs[moment], number = this.a[moment];
     if (verb in AFTER) this.turnPhase(state, number, verb, moment);
-    else if (verb === "close" || verb === "reopen") this.turnGate(state, number, verb === "reopen");
+    else if (verb === "reopen" || this.closing.includes(verb)) this.turnGate(state, number, verb === "reopen");
     else if (verb === "freeze" || verb === "thaw") for (const port of this.portsOf(number)) this.turnGate(state, port, verb === "thaw");
     else if (verb === "make") this.make(state, number);
     else if (verb === "remove") this.remove(state, number);

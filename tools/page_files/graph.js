@@ -38,6 +38,8 @@ class Graph {
     const frames = boxes.filter((box) => box.isFrame && box.isOpen), others = boxes.filter((box) => !box.isFrame || !box.isOpen);
     this.layer.replaceChildren(...frames.map((box) => this.frame(box)), ...this.edges.map((edge) => edge.path), ...others.map((box) => this.box(box)));
     this.order = boxes;
+    if (boxes.length) this.drawn.get(boxes[0].key).g.setAttribute("tabindex", 0);
+    if (!this.isMoved) this.fit();
   }
 
   frame(box) {
@@ -158,7 +160,9 @@ class Graph {
     this.svg.setAttribute("viewBox", `${x} ${y} ${width} ${height}`);
   }
 
+  // All of it; it stays so until somebody moves what is seen.
   fit() {
+    this.isMoved = false;
     const { width, height } = this.tree.root, { clientWidth, clientHeight } = this.svg;
     const scale = Math.min(clientWidth / (width + 40), clientHeight / (height + 40), 1.4);
     const [across, down] = [clientWidth / scale, clientHeight / scale];
@@ -167,10 +171,12 @@ class Graph {
 
   zoom(factor, x = this.at.x + this.at.width / 2, y = this.at.y + this.at.height / 2) {
     const { at } = this;
+    this.isMoved = true;
     this.view(x - (x - at.x) * factor, y - (y - at.y) * factor, at.width * factor, at.height * factor);
   }
 
   centre(box) {
+    this.isMoved = true;
     const width = Math.min(this.at.width, Math.max(700, box.width * 1.5)), height = (width * this.svg.clientHeight) / this.svg.clientWidth;
     this.view(box.x + box.width / 2 - width / 2, box.y + box.height / 2 - height / 2, width, height);
   }
@@ -197,6 +203,7 @@ class Graph {
     const move = (event) => {
       const [x, y] = [event.clientX - down.clientX, event.clientY - down.clientY];
       this.isDragged = this.isDragged || Math.hypot(x, y) > 4;
+      this.isMoved = this.isMoved || this.isDragged;
       if (this.isDragged) this.view(at.x - x * scale, at.y - y * scale, at.width, at.height);
     };
     const up = () => {
@@ -209,9 +216,10 @@ class Graph {
 
   // A box that holds others opens or folds; a node is chosen.
   press(key) {
-    const box = this.tree.boxes.get(key);
+    const box = this.tree.boxes.get(key), { x, y } = box;
     if (box.isFrame) box.isOpen = !box.isOpen;
     this.choose(box, box.isFrame);
+    if (this.isMoved) this.view(this.at.x + box.x - x, this.at.y + box.y - y, this.at.width, this.at.height);
     this.focus(key);
   }
 

@@ -17,7 +17,6 @@ class Page {
     this.writeLegend();
     this.listen();
     this.graph.draw();
-    this.graph.fit();
     this.follow();
   }
 
@@ -57,7 +56,7 @@ class Page {
 
   // `#change-2` is the first moment of the second change, `#at=12&node=a.b` the twelfth moment with a node.
   follow() {
-    const hash = decodeURIComponent(location.hash.slice(1)), found = new URLSearchParams(hash);
+    const hash = location.hash.slice(1), found = new URLSearchParams(hash);
     const section = this.course.sections.find((one) => anchor(this.course, one) === hash);
     if (section) this.goTo(section);
     else if (Number(found.get("at")) >= 1) this.moment = Math.min(this.course.length, Number(found.get("at"))) - 1;
@@ -101,8 +100,8 @@ class Page {
 
   openAll(isOpen) {
     this.tree.openAll(isOpen);
+    this.graph.isMoved = false;
     this.graph.draw();
-    this.graph.fit();
     this.show();
   }
 

@@ -28,6 +28,8 @@ class Tables {
   }
 
   show(moment, state) {
+    if (this.kind === "changes" && this.shown === "changes") return;
+    this.shown = this.kind;
     const made = { changes: () => this.changes(), nodes: () => this.nodes(moment, state), open: () => this.open(state), lines: () => this.lines(moment) }[this.kind]();
     this.place.replaceChildren(made);
     this.place.setAttribute("aria-labelledby", `tab-${this.kind}`);

@@ -178,7 +178,7 @@ class Timeline {
       this.isHeld = true;
       this.go(this.momentAt(event.offsetX));
     });
-    canvas.addEventListener("pointermove", (event) => this.isHeld && this.go(this.momentAt(event.offsetX)));
+    canvas.addEventListener("pointermove", (event) => this.isHeld && this.goSoon(this.momentAt(event.offsetX)));
     canvas.addEventListener("pointerup", () => (this.isHeld = false));
     canvas.addEventListener("keydown", (event) => {
       if (event.key === "+" || event.key === "=") this.zoom(0.5);
@@ -187,6 +187,17 @@ class Timeline {
       event.stopPropagation();
       event.preventDefault();
     });
+  }
+
+  // Goes to the last of the moments that come between two pictures.
+  goSoon(moment) {
+    if (this.soon === undefined) {
+      requestAnimationFrame(() => {
+        this.go(this.soon);
+        this.soon = undefined;
+      });
+    }
+    this.soon = moment;
   }
 
   slide(by) {

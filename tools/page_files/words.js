@@ -45,7 +45,7 @@ function meaning(course, moment, state) {
     give: `${to} answers ${owner}`,
     end: `${owner} has its answer: the transaction has ended`,
     miss: `${owner} has nobody to call there, which counts as answered`,
-    close: `from here on ${owner} begins no transaction there`,
+    close: course.data.what === "session" ? "the program asks that the gate is closed" : `from here on ${owner} begins no transaction there`,
     reopen: `${owner} may begin transactions there`,
     drained: `found closed, and nothing is under way there that ${owner} began by itself`,
     open: `transaction ${serial} was still under way at the last look`,
