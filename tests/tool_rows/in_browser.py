@@ -49,6 +49,7 @@ def try_opening(hand):
     """A page opens at its first change, and tells what it does by signs, and not by colours alone."""
     hand.open("grows")
     hand.same("the moment", "change Line(3)", hand.text("#moment"))
+    hand.same("what it means", "committed, 2 frozen, 1 removed, 1 made, 1 moved, it waited for 1 round", hand.text("#told"))
     hand.same("what is told", "Report · 54 moments · 4 nodes · 1 change · status 0", hand.text("#about"))
     hand.same("the course", ["start Line(2) committed", "run 2 2 2 transactions ended", "change Line(3) committed: 2 frozen, 1 removed, 1 made, 1 moved", "finish 100 8 8 rounds", "stop"], hand.texts("#course a"))
     hand.same("marks of s", "frozen busy", hand.marks("s"))

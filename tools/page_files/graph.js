@@ -120,6 +120,7 @@ class Graph {
   tint(box, slots, marks, state) {
     const least = box.isFrame ? slots.length : 1;
     const found = ["frozen", "removed", "made", "lost"].filter((mark) => slots.length && marks[mark] >= least);
+    if (box.isFrame && Object.keys(marks).some((mark) => mark !== "busy" && marks[mark])) found.push("touched");
     if (slots.length && slots.filter((slot) => this.course.isClosed(state, slot)).length >= least) found.push("closed");
     return found;
   }

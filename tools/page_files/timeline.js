@@ -87,7 +87,7 @@ class Timeline {
       pen.fillRect(x, 0, Math.max(1, end - x), ROWS.ticks[1]);
       pen.fillStyle = this.colour("edge");
       pen.fillRect(x, 0, 1, ROWS.ticks[1]);
-      const words = section.words, left = Math.max(x, 0) + 4;
+      const words = section.isChange ? `${section.end === "commit" ? "✓" : "✗"} ${section.words}` : section.words, left = Math.max(x, 0) + 4;
       if (left < free || end - left < 14) continue;
       pen.fillStyle = this.colour("text");
       pen.save();

@@ -71,7 +71,13 @@ function meaning(course, moment, state) {
     denied: "what the runtime told may not happen: line and rule",
     bad: "the runtime's line has no form",
   };
-  return told[verb] || "";
+  return told[verb] || (course.section(moment).first === moment ? summary(course.section(moment)) : "");
+}
+
+// What a section's change came to, in a line.
+function summary(section) {
+  const waited = section.waited ? `it waited for ${plural(section.waited, "round")}` : "";
+  return [ending(section), section.isChange ? counted(section) : "", waited].filter(Boolean).join(", ");
 }
 
 function ending(section) {
