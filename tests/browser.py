@@ -111,10 +111,16 @@ class Browser:
             self.call("Input.dispatchMouseEvent", type=kind, x=x, y=y, button="left", clickCount=1)
 
     def click(self, selector):
-        """Clicks in the middle of what a selector finds."""
+        """Clicks in the middle of what a selector finds, once what was asked before is drawn, and until what comes of it is."""
+        self.settle()
         self.ask("document.querySelector(%s).scrollIntoView({block: 'nearest'})" % json.dumps(selector))
         box = self.ask("(() => { const it = document.querySelector(%s).getBoundingClientRect(); return [it.left + it.width / 2, it.top + it.height / 2]; })()" % json.dumps(selector))
         self.click_at(*box)
+        self.settle()
+
+    def settle(self):
+        """Waits until two pictures were drawn."""
+        self.ask("new Promise((go) => requestAnimationFrame(() => requestAnimationFrame(() => setTimeout(go, 0))))")
 
     def wheel(self, x, y, down):
         self.call("Input.dispatchMouseEvent", type="mouseWheel", x=x, y=y, deltaX=0, deltaY=down)

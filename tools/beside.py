@@ -42,7 +42,7 @@ class Rounds(runs.System):
 
     def __init__(self):
         super().__init__()
-        self.rounds, self.waits = 0, []
+        self.rounds, self.last, self.waits = 0, 0, []
 
     def round(self, begins):
         self.rounds += 1
@@ -97,7 +97,7 @@ MOST_EVENTS = 100000
 
 def waits(report, sections):
     """Of each change of a report how many rounds it waited, and in which its last port was drained; None where the report isn't that of
-    turns in rounds, as one of threads mostly isn't."""
+    turns in rounds. One of threads mostly isn't; where it is the same, it is taken for one of rounds."""
     if sum(len(log.events) for log in report.logs.values()) > MOST_EVENTS:
         return None
     system, told = Rounds(), []

@@ -113,7 +113,7 @@ def of_report(report, title):
     data.seen, data.status, data.unfinished = report.seen, report.status, report.unfinished
     data.note = "A report leaves open in which order nodes did what. Of the orders that it allows, this is one."
     if run.left():
-        data.note += " %d events of its logs fit nowhere, and aren't shown: `explain_report` says why." % run.left()
+        data.note += " Some events of its logs fit nowhere, and aren't shown (%d): `explain_report` says why." % run.left()
     return data
 
 

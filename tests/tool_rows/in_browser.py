@@ -60,6 +60,12 @@ def try_opening(hand):
     hand.open("loses")
     hand.same("a state that is lost", "frozen removed made lost busy", hand.marks("b"))
     hand.same("the loss is told", "Report · 50 moments · 4 nodes · 1 change · status 0 · the state of 1 node went nowhere", hand.text("#about"))
+    for name in ("empty", "mixed", "stuck"):
+        hand.open(name)
+        hand.browser.press("End")
+        hand.browser.click("#unfold")
+        hand.same("the page of %s, boxes" % name, {"empty": [], "mixed": ["p.x", "t"], "stuck": ["b", "s", "t"]}[name], hand.boxes())
+        hand.same("the page of %s at its end" % name, [], hand.browser.faults())
     hand.open("hostile")
     hand.browser.press("End")
     hand.same("a path that is no markup", ["</script><img/src=x/onerror=alert(1)>", 'a"b&c'], hand.boxes())

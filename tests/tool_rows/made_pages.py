@@ -3,13 +3,21 @@ are refused."""
 import html.parser
 import json
 import os
+import random
 import re
 import sys
 
 import answers
 import graphs
+import judged
 import machine
-from tries import EXAMPLES, TABLE, TOOLS, Came
+import runs
+import scattered
+from tries import EMPTY, EXAMPLES, TOOLS, Came
+
+EVENTS = ("begin", "call", "take", "more", "ask", "hear", "give", "end", "miss")
+# how many random scripts are made
+RANDOM = 40
 
 # a session as the program and a runtime have it, which is told behind `>`
 SESSION = """start Line(2)
@@ -125,6 +133,9 @@ def try_made(tries, pages):
     pages.make("roll", text=tries.run([tries.program, "flat", *fan]).text + rolled)
     pages.make("session", text=SESSION + GIVEN_UP)
     pages.make("hostile", text=HOSTILE)
+    pages.make("empty", text=EMPTY)
+    pages.make("mixed", text="freeze p\nremove p\ncreate p.x source(1)\ncreate t sink()\nlink p.x.out t.in\n")
+    pages.make("stuck", text=tries.report(EXAMPLES + "line-grows.txt").replace("give 2 1 1\n", "give 2 1 1\ngive 2 1 1\n"))
     big = {"big": SCRIPT, "big.dar": DESCRIPTION}
     pages.make("big", text=answers.step([b"step", b"big"], big)[1].decode())
     for name, file in pages.files.items():
@@ -153,30 +164,86 @@ def event_of(data, moment):
         source = None if node["source"] < 0 else node["source"]
         return "make", numbers[0], node["path"].encode(), kind, argument.encode(), source
     counts = {"remove": 1, "link": 3, "unlink": 1, "close": 1, "reopen": 1, "miss": 1}
-    counts.update(dict.fromkeys(("begin", "call", "take", "more", "ask", "hear", "give", "end"), 3))
+    counts.update(dict.fromkeys(EVENTS[:-1], 3))
     return (verb, *numbers[: counts[verb]]) if verb in counts else None
 
 
+def unlawful(data, is_asked=lambda event: True):
+    """The moments that are no run of the machine of the plain statements: events that it denies where they stand, and `drained` lines that
+    tell what isn't there."""
+    system, wrong = machine.Machine(graphs.EMPTY), []
+    for number, moment in enumerate(moments_of(data)):
+        event = event_of(data, moment)
+        if event:
+            rule = system.denial(event) if is_asked(event) else None
+            wrong += [(number, moment, rule)] if rule is not None else []
+            system.apply(event)
+        elif moment[0] == "drained":
+            port = system.ports[moment[1]]
+            if port.is_open or port.serial != moment[2] or port.phase != "idle" and port.within is None:
+                wrong.append((number, moment, "not drained"))
+    return wrong
+
+
 def try_runs(tries, pages):
-    """The moments of a report are a run of the machine of the plain statements: each event is allowed where it stands, and each `drained`
-    line tells what is there."""
+    """The moments of a report are a run of the machine, and each event has one."""
     for name in ("grows", "loses", "fan", "big"):
-        data, system, wrong = pages.data[name], machine.Machine(graphs.EMPTY), []
-        for number, moment in enumerate(moments_of(data)):
-            event = event_of(data, moment)
-            if event:
-                rule = system.denial(event) if name != "big" or moment[0] not in ("remove", "unlink", "link") else None
-                wrong += [(number, moment, rule)] if rule is not None else []
-                system.apply(event)
-            elif moment[0] == "drained":
-                port = system.ports[moment[1]]
-                if port.is_open or port.serial != moment[2] or port.phase != "idle" and port.within is None:
-                    wrong.append((number, moment, "not drained"))
-        tries.same("the moments of %s are a run" % name, [], wrong[:3])
+        data = pages.data[name]
+        # in a thousand nodes the search for what reaches one takes too long
+        is_asked = (lambda event: event[0] not in ("remove", "unlink", "link")) if name == "big" else (lambda event: True)
+        tries.same("the moments of %s are a run" % name, [], unlawful(data, is_asked)[:3])
         with open(os.path.join(pages.folder, name)) as file:
-            events = re.findall(r"^(?:begin|call|take|more|ask|hear|give|end|miss) ", file.read(), re.M)
-        told = sum(1 for moment in moments_of(data) if moment[0] in ("begin", "call", "take", "more", "ask", "hear", "give", "end", "miss"))
-        tries.same("each event of %s has its moment" % name, len(events), told)
+            events = re.findall(r"^(?:%s) " % "|".join(EVENTS), file.read(), re.M)
+        tries.same("each event of %s has its moment" % name, len(events), sum(moment[0] in EVENTS for moment in moments_of(data)))
+
+
+class Counted(runs.System):
+    """A system that counts the rounds which each change waits."""
+
+    def __init__(self):
+        super().__init__()
+        self.waits = []
+
+    def passivate(self, ports, within):
+        self.waits.append(0)
+        return super().passivate(ports, within)
+
+    def round(self, begins):
+        if not begins:
+            self.waits[-1] += 1
+        return super().round(begins)
+
+
+def random_reports(number):
+    """The report of random statements in rounds, with how many rounds each change waited, and one by turns in any order; where there is one."""
+    files = dict(zip(("a.dar", "s.txt", "r.txt"), judged.case(random.Random("page %d" % number))))
+    try:
+        statements = answers.script_of(b"s.txt", files)
+        system = Counted()
+        yield runs.report(statements, system)[1].decode(), system.waits
+        yield scattered.report(statements, random.Random(number))[1].decode(), None
+    except (answers.Refusal, scattered.Endless):
+        return
+
+
+def try_random(tries, pages):
+    """Of random reports of rounds and of threads too the moments are a run in which each event has its place, and waits are told right."""
+    sys.path.append(TOOLS)
+    import beside
+    import page_data
+    import texts
+
+    tried = 0
+    for number in range(RANDOM):
+        for text, waits in random_reports(number):
+            report, tried = texts.read_report(texts.lines_of(text)), tried + 1
+            data = page_data.of_report(report, "random").plain()
+            tries.same("random report %d, its moments are a run" % number, ([], False), (unlawful(data)[:3], "fit nowhere" in data["note"]))
+            if waits is not None:
+                found = [rounds for rounds, _ in beside.waits(report, texts.sections(report))]
+                changes = text.split("\nstop\n")[0].count("\nchange ") - text.count("\nskipped\n")
+                tries.same("random report %d, its waits" % number, waits[:changes], found[:changes])
+    tries.want("some random reports were tried", tried > RANDOM, tried)
 
 
 def try_sections(tries, pages):
@@ -189,6 +256,7 @@ def try_sections(tries, pages):
     ]
     for name, words in rows:
         tries.same("the sections of %s" % name, words, [section["words"] for section in pages.data[name]["sections"]])
+    tries.want("what fits nowhere is told", "fit nowhere" in pages.data["stuck"]["note"] and "fit nowhere" not in pages.data["grows"]["note"], pages.data["stuck"]["note"])
     waited = [section.get("waited") for section in pages.data["fan"]["sections"] if section["name"] == "change"]
     tries.same("the waits of fan", [2, 0, 5, 1], waited)
     tries.same("observers of grows", [[0, 2, 3, 2], [1, 1, 3, 2], [1, 2, 3, 2]], pages.data["grows"]["seen"])
@@ -222,4 +290,4 @@ def try_refused(tries, pages):
     tries.same("--parts of a text", Came(2, "", "page: a text or --between is wanted, and --parts with --between alone\n"), came)
 
 
-TRIED = (try_made, try_runs, try_sections, try_refused)
+TRIED = (try_made, try_runs, try_random, try_sections, try_refused)

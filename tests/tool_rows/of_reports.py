@@ -103,6 +103,13 @@ def try_explain_report(tries):
             came = tries.tool("explain_report", WAITS, report)
             told = came.text.replace(report + ":", "").rstrip("\n").replace("\n", "|")
             tries.same("explain_report of %r" % new, (0, "", "the report can be one of the script") if wanted is None else (1, "", wanted), (came.status, came.errors, told))
+        seen = "seen 0 1 3 2\n"
+        for lines, wanted in ((seen, None), ("seen 0 1 3 1\n", "58: seen 0 1 3 1|  the graph behind no commit of this number is so large"), ("seen 0 0 0 0\n", "58: seen 0 0 0 0|  observer 0 doesn't see ever more commits, and all of them at last: [0]")):
+            with open(report, "w") as file:
+                file.write(tries.report(WAITS) + lines)
+            came = tries.tool("explain_report", WAITS, report)
+            told = came.text.replace(report + ":", "").rstrip("\n").replace("\n", "|")
+            tries.same("explain_report of %r" % lines, (0, "", "the report can be one of the script") if wanted is None else (1, "", wanted), (came.status, came.errors, told))
         came = tries.tool("explain_report", WAITS, WAITS)
         tries.same("explain_report of no report", Came(2, "", "explain_report: script %s: BadLine 1\n" % WAITS), came)
         judged_reports(tries, folder)

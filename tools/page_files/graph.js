@@ -247,7 +247,7 @@ class Graph {
   // The focus goes to the next box in this direction.
   step(from, [x, y]) {
     const middle = (box) => (box.isOpen && box.isFrame ? [box.x + 20, box.y + 10] : [box.x + box.width / 2, box.y + box.height / 2]);
-    if (!from) return this.focus(this.order[0].key);
+    if (!from) return this.order.length ? this.focus(this.order[0].key) : undefined;
     const [fromX, fromY] = middle(from);
     let best = null;
     for (const box of this.order) {

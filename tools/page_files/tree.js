@@ -132,9 +132,9 @@ class Tree {
     for (let one = box.above; one; one = one.above) one.isOpen = true;
   }
 
-  // The box that stands for one: itself, or the outermost around it that is folded.
+  // The box that stands for one: the outermost around it that is folded, or itself. (A path may be a node first, and hold others later.)
   shown(box) {
-    return box.lineage().find((one) => !one.isOpen || !one.isFrame);
+    return box.lineage().find((one) => !one.isOpen || !one.isFrame) || box;
   }
 
   // Places the boxes that are shown: x, y, width and height of each, in the order in which they are drawn.
