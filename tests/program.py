@@ -14,10 +14,10 @@ SHOWN = 300
 MOST = 4
 
 
-def share_modules():
+def share_modules(*folders):
     """Lets a script import what folders below this one hold, and leaves no compiled files there."""
     sys.dont_write_bytecode = True
-    sys.path[1:1] = [os.path.join(HERE, folder) for folder in ("oracle", "make")]
+    sys.path[1:1] = [os.path.join(HERE, folder) for folder in ("oracle", "make", *folders)]
 
 
 def parser(document):

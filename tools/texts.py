@@ -2,6 +2,7 @@
 
 A text that is none is refused with its first bad line.
 """
+import argparse
 import os
 import re
 import shutil
@@ -9,6 +10,7 @@ import subprocess
 import sys
 from typing import NamedTuple, Optional
 
+import beside
 from pages import Bad, kinds
 
 # the events of nodes that have a serial and a value
@@ -25,10 +27,13 @@ HISTORY = [
 ]
 LOGS = [["log", "NODE"], ["log", "NODE", "WORD"], ["moved", "NODE"], ["unfinished", "NODE"], ["status", "NUMBER"], ["miss", "PORT"]]
 LOGS += [[name, "PORT", "NUMBER", "NUMBER"] for name in EVENTS]
+# what an observer of `live` saw, behind a report
+SEEN = ["seen", "NUMBER", "NUMBER", "NUMBER", "NUMBER"]
 # no number of a report has more digits
 DIGITS = 20
-# what builds the program beside the tools
-BUILT = " (`rt run -- --version` in crates/darwin_run builds it)"
+# a line by which the program refuses, in the place of what was wanted
+REFUSAL = re.compile(r"usage|no memory|unlawful|read fault .*|denied \d+ \d+|(?:description|script) .*: [A-Z][A-Za-z]*(?: \S+)*")
+TOP = os.path.dirname(os.path.dirname(os.path.abspath(__file__)))
 
 
 def by_name(forms):
@@ -66,6 +71,14 @@ def standard_input():
     return lines_of(sys.stdin.buffer.read().decode("utf-8", "replace"))
 
 
+def report_lines(document):
+    """The lines of the report that a tool is given: a file's, or those of standard input."""
+    made = argparse.ArgumentParser(description=document, formatter_class=argparse.RawDescriptionHelpFormatter)
+    made.add_argument("report", nargs="?", metavar="REPORT", help="standard input, where it is left out")
+    given = made.parse_args()
+    return standard_input() if given.report is None else lines_of(content(given.report).decode("utf-8", "replace"))
+
+
 def content(name):
     """The bytes of a file."""
     try:
@@ -75,32 +88,56 @@ def content(name):
         raise Bad("%s can't be read: %s" % (name, error.strerror))
 
 
-def built():
-    """Where the program is left when it is built beside the tools."""
-    top = os.path.dirname(os.path.dirname(os.path.abspath(__file__)))
-    return os.path.join(top, "crates", "darwin_run", "out", "darwin_run")
+def save(name, text):
+    """Leaves these bytes in a file."""
+    try:
+        with open(name, "wb") as file:
+            file.write(text)
+    except OSError as error:
+        raise Bad("%s can't be written: %s" % (name, error.strerror))
 
 
 def program():
-    """The program that the shell finds, or else the one that is built beside the tools."""
-    return shutil.which("darwin_run") or built()
+    """The program that the shell finds, else the one that is built beside the tools, else the plain statements of it."""
+    built = os.path.join(TOP, "crates", "darwin_run", "out", "darwin_run")
+    return shutil.which("darwin_run") or (built if os.access(built, os.X_OK) else os.path.join(TOP, "tests", "plain"))
+
+
+def options(document):
+    """A parser of the words of a tool that runs the program."""
+    made = argparse.ArgumentParser(description=document, formatter_class=argparse.RawDescriptionHelpFormatter)
+    made.add_argument("--program", default=program(), help="else darwin_run where the shell finds it, or the one in crates/darwin_run/out, or tests/plain")
+    return made
+
+
+def came(program, *words, **options):
+    """A run of the program: its status, and the bytes that it writes."""
+    try:
+        run = subprocess.run([program, *words], stdout=subprocess.PIPE, **options)
+    except OSError as error:
+        raise Bad("the program %s can't be run: %s" % (program, error.strerror))
+    return run.returncode, run.stdout
+
+
+def ran(program, *words):
+    """The same, without standard input, and with what it writes as a text."""
+    status, written = came(program, *words, stdin=subprocess.DEVNULL)
+    return status, written.decode("utf-8", "replace")
 
 
 def written(program, *words):
     """The lines that a run of the program writes; a refusal is passed on."""
-    try:
-        run = subprocess.run([program, *words], stdin=subprocess.DEVNULL, stdout=subprocess.PIPE)
-    except OSError as error:
-        raise Bad("the program %s can't be run: %s%s" % (program, error.strerror, BUILT if program == built() else ""))
-    text = run.stdout.decode("utf-8", "replace")
-    if run.returncode:
-        raise Bad("%s ends with status %d: %s" % (" ".join([program, *words]), run.returncode, text.strip()))
+    status, text = ran(program, *words)
+    if status:
+        raise Bad("%s ends with status %d: %s" % (" ".join([program, *words]), status, text.strip()))
     return lines_of(text)
 
 
 def bad_line(number, line, what):
     """That a line is none of a text, with the front of it, since it may be long or no text at all."""
     shown = "".join(it if it.isprintable() else ascii(it)[1:-1] for it in line[:60])
+    if number == 1 and REFUSAL.fullmatch(line):
+        return Bad("no %s came, but a refusal: %s" % (what, shown))
     return Bad("line %d is none of a %s: %s%s" % (number, what, shown, " .." if len(line) > 60 else ""))
 
 
@@ -142,10 +179,10 @@ def port_of(word):
     return path, name
 
 
-def read_graph(lines):
-    """The graph of which these lines are the text."""
+def read_graph(lines, first=1):
+    """The graph of which these lines are the text, from the line of this number on."""
     graph = Graph()
-    for number, line in enumerate(lines, 1):
+    for number, line in enumerate(lines, first):
         words = line.split(" ")
         node = node_of(words[1], words[2]) if len(words) == 3 and words[0] == "node" else None
         if node:
@@ -161,6 +198,17 @@ def read_graph(lines):
     return graph
 
 
+def graph_lines(graph):
+    """The text of a graph: nodes in the order of their paths' bytes."""
+    lines = []
+    for path, node in sorted(graph.nodes.items(), key=lambda item: item[0].encode()):
+        lines.append("node %s %s" % (path, node.shown()))
+        for name in KINDS[node.kind].requires:
+            target = graph.links[path, name]
+            lines.append("port %s.%s %s" % (path, name, ".".join(target) if target else "-"))
+    return lines
+
+
 class Plan:
     """What a plan freezes, unlinks, removes, creates and links: paths, and ports as (path, name)."""
 
@@ -168,10 +216,10 @@ class Plan:
         self.frozen, self.unlinked, self.removed, self.created, self.linked = [], [], [], [], []
 
 
-def read_plan(lines):
-    """The plan of which these lines are the text."""
+def read_plan(lines, first=1):
+    """The plan of which these lines are the text, from the line of this number on."""
     plan = Plan()
-    for number, line in enumerate(lines, 1):
+    for number, line in enumerate(lines, first):
         name, *words = line.split(" ")
         if name in ("freeze", "remove") and len(words) == 1:
             (plan.frozen if name == "freeze" else plan.removed).append(words[0])
@@ -186,12 +234,12 @@ def read_plan(lines):
     return plan
 
 
-def read_parts(lines):
-    """The plans of which these lines are the text, each behind a line `part I`."""
+def read_parts(lines, first=1):
+    """The plans of which these lines are the text, each behind a line `part I`, from the line of this number on."""
     starts = [at for at, line in enumerate(lines) if line.split(" ")[0] == "part"]
     if lines and starts[:1] != [0]:
-        raise bad_line(1, lines[0], "change in parts")
-    return [read_plan(lines[start + 1 : end]) for start, end in zip(starts, starts[1:] + [len(lines)])]
+        raise bad_line(first, lines[0], "change in parts")
+    return [read_plan(lines[start + 1 : end], first + start + 1) for start, end in zip(starts, starts[1:] + [len(lines)])]
 
 
 def carried_out(graph, plan):
@@ -205,26 +253,44 @@ def carried_out(graph, plan):
     return after
 
 
-def two_components(words):
-    """The words of a component and of another, which `--` parts."""
-    if words.count("--") != 1 or words[0] == "--" or words[-1] == "--":
-        raise Bad("between the two components, each with its arguments, one `--` is wanted")
+def two_systems(words):
+    """The words of a system and of another, which `--` parts: each a file and a component with its arguments. Behind `--` the file may be
+    left out, where it is the same: the second word there is no number then."""
+    if words.count("--") != 1 or len(words[: words.index("--")]) < 2 or words[-1] == "--":
+        raise Bad("between the two systems, each a component with its arguments behind a file, one `--` is wanted")
     cut = words.index("--")
-    return words[:cut], words[cut + 1 :]
+    old, new = words[:cut], words[cut + 1 :]
+    has_file = len(new) > 1 and not re.fullmatch(r"-?[0-9]+", new[1])
+    return old, new if has_file else [old[0], *new]
 
 
-def planned(program, file, words):
-    """The graphs of two components, and the plan from the one to the other, as the program tells them."""
-    old, new = two_components(words)
-    graphs = [read_graph(written(program, "flat", file, *component)) for component in (old, new)]
-    return (*graphs, read_plan(written(program, "plan", file, *words)))
+def graph_of(program, system):
+    """The graph of a system, as the program tells it."""
+    return read_graph(written(program, "flat", *system))
 
 
-def parted(program, file, words):
-    """The plan of each part of the change between two components, with the graphs before and behind it, as the program tells them."""
-    old, _ = two_components(words)
-    before, found = read_graph(written(program, "flat", file, *old)), []
-    for plan in read_parts(written(program, "parts", file, *words)):
+def change_between(program, command, words):
+    """The graph of the first of two systems, and the lines that `plan` or `parts` writes of the change to the second. Between two files,
+    which the program doesn't know, the plain statements of tests/oracle tell them."""
+    old, new = two_systems(words)
+    if old[0] == new[0]:
+        return graph_of(program, old), written(program, command, *old, "--", *new[1:])
+    graphs = graph_of(program, old), graph_of(program, new)
+    return graphs[0], beside.change_text(command, *graphs)
+
+
+def planned(program, words):
+    """The graphs of two systems, and the plan from the one to the other."""
+    old, lines = change_between(program, "plan", words)
+    plan = read_plan(lines)
+    return old, carried_out(old, plan), plan
+
+
+def parted(program, words):
+    """The plan of each part of the change between two systems, with the graphs before and behind it."""
+    before, lines = change_between(program, "parts", words)
+    found = []
+    for plan in read_parts(lines):
         found.append((before, carried_out(before, plan), plan))
         before = found[-1][1]
     return found
@@ -264,6 +330,8 @@ class Report:
     def __init__(self):
         self.history, self.made, self.owners, self.logs = [], [], [], {}
         self.unfinished, self.status = None, None
+        # what observers saw: who, the number of a commit, and how many nodes and links
+        self.seen = []
 
     def requirement(self, port):
         """A port as `PATH.REQUIREMENT`."""
@@ -301,7 +369,7 @@ class Reader:
     def may_stand(self, words):
         """Whether a line is one of a history, or, from the first log on, one of the logs and what is behind them."""
         if self.report.status is not None:
-            return False
+            return len(words) == len(SEEN) and all(map(self.says, words, SEEN))
         if self.log is not None and words[0] == "state":
             return all(self.says(word, "NUMBER") for word in words[1:])
         is_behind = self.log is not None or words[0] in ("log", "unfinished", "status")
@@ -320,6 +388,8 @@ class Reader:
             report.unfinished = int(words[1])
         elif name == "status":
             report.status = int(words[1])
+        elif name == "seen":
+            report.seen.append(tuple(map(int, words[1:])))
         elif self.log is not None:
             self.log.events.append(words)
         else:
