@@ -40,7 +40,7 @@ class Change:
         self.told = Told()
         self.asked: List[int] = []  # the ports that are to be closed
         self.held: List[Key] = []  # the gates among them
-        self.closed_at = self.ready_at = 0.0
+        self.closed_at = self.ready_at = self.opened_at = 0.0
 
     # ---- up to `wait`
 
@@ -163,6 +163,7 @@ class Change:
         opened.update((key, None) for key in self.new.graph.links if key[0] in self.made and self.new.graph.is_root(key))
         for site, paths in self.new.by_site(dict.fromkeys(path for path, _ in opened)):
             await site.reopen([key for key in opened if key[0] in paths])
+        self.opened_at = time.monotonic()
         for site in sites:
             await site.finish([path for path in self.made if self.new.sites[path] is site], self.moving)
 
@@ -188,9 +189,9 @@ class Change:
 
     def changed(self, began: float) -> Changed:
         """What is to be said of it."""
-        ended = time.monotonic()
         held = ["%s.%s" % key for key in self.held]
-        return Changed(held, ended - self.closed_at, self.ready_at - self.closed_at, ended - began, self.session.lines)
+        seconds = self.opened_at - self.closed_at, self.ready_at - self.closed_at, time.monotonic() - began
+        return Changed(held, *seconds, self.session.lines)
 
 
 def lost(gone: Mapping[str, Type[Component]], moving: Mapping[str, str]) -> List[str]:
