@@ -21,7 +21,7 @@ def classes(said: str) -> List[Type[Component]]:
     sys.path.insert(0, os.getcwd())
     module = importlib.import_module(name)
     found = [getattr(module, member) for member in members.split(",")]
-    if len(found) == 1 and not isinstance(found[0], type):
+    if len(found) == 1 and isinstance(found[0], (list, tuple)):
         found = list(found[0])
     for cls in found:
         if not (isinstance(cls, type) and issubclass(cls, Component)):

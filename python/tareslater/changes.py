@@ -6,7 +6,7 @@ from typing import Any, Dict, List, Mapping, NoReturn, Tuple, Type
 from .components import Component
 from .darwin import Graph, Key
 from .outcomes import Changed, GivenUp, ManagerDied, NotQuiescent, Refused
-from .session import ENDINGS, GRACE, Session, Told
+from .session import ENDINGS, Session, Told
 from .sites import Site, Switch
 
 ROUNDS = 20  # so many turns of the clock are told in the time that a change may take
@@ -49,9 +49,8 @@ class Change:
         words = await self.session.read()
         if words[0] != "start":
             raise Refused(" ".join(words))
-        while words[0] != "change":
+        while (words := await self.session.read())[0] != "change":
             self.told.take(words)
-            words = await self.session.read()
         if not self.told.is_graph(self.old.graph):
             raise ManagerDied("it starts with another system than that which stands")
         words = await self.session.read()
@@ -72,9 +71,11 @@ class Change:
             await self.close()
             words = [""]
             while words[0] != "ready":
-                words = await self.session.read(within + GRACE)
+                words = await self.session.read(within)
                 if words[0] in ENDINGS:
                     await self.given_up()
+                if words[0] not in ("drained", "ready"):
+                    raise ManagerDied("it says %r while gates are drained" % " ".join(words))
         finally:
             ticks.cancel()
         self.ready_at = time.monotonic()

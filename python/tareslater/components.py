@@ -177,6 +177,7 @@ class Calls(Handle):
         root = may_call(self.owner, self.base, self)
         target = self.where()
         if target.is_plain:
+            root.must_be_open()
             return target.handler(*args, **words)
         return await target.serve(root, args, words)
 

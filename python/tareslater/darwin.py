@@ -141,19 +141,24 @@ def port_lists(cls: Type[Component]) -> List[str]:
     )
 
 
+def argument_of(number: int, version: Sequence[str]) -> str:
+    """The argument of the nodes of a class. Of a version that is none it is -1, which is refused, and no other class's."""
+    if not version:
+        return str(number * VERSIONS)
+    return "(0 <= {0} and {0} < {1}) * ({0} % {1} + {2}) - 1".format(version[0], VERSIONS, number * VERSIONS + 1)
+
+
 def declaration(cls: Type[Component], number: int) -> str:
     """A class as a component: around its nodes an instance for each integer but the first."""
     made = shape(cls)
-    first = list(cls.integers[:1])
     inner = "_".join([made.name, *cls.integers[1:]])
     parameters = "(%s)" % ", ".join("int " + name for name in cls.integers)
     lines: List[str] = []
     for at, integer in enumerate(cls.integers[1:], 1):
         lines += wrapping(made, integer, "_".join([made.name, *cls.integers[1:at]]), "_".join([made.name, *cls.integers[1 : at + 1]]), parameters)
-    version = " + %s / (0 <= %s and %s < %d)" % (first[0], first[0], first[0], VERSIONS) if first else ""
+    argument = "(%s)" % argument_of(number, cls.integers[:1])
     lines += ["component %s%s {" % (inner, parameters)] + port_lists(cls)
     for name, (kind, size) in made.nodes.items():
-        argument = "(%d%s)" % (number * VERSIONS, version)
         if size is None:
             lines.append("  inst %s:%s%s;" % (name, kind, argument))
         else:

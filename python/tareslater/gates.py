@@ -128,9 +128,13 @@ class Root:
     def hold(self) -> None:
         """Keeps the root open for a service."""
         with self.lock:
-            if self.open == 0:
-                raise Misuse("a call comes after the end of the root to which it belongs: a task that outlives its service has to be spawned")
+            self.must_be_open()
             self.open += 1
+
+    def must_be_open(self) -> None:
+        """Refuses a call for a root that has ended."""
+        if self.open == 0:
+            raise Misuse("a call comes after the end of the root to which it belongs: a task that outlives its service has to be spawned")
 
     def release(self) -> None:
         """Lets go of what `hold`, or the root's begin, kept open."""

@@ -10,6 +10,7 @@ from .outcomes import ManagerDied, Refused
 PIPE = asyncio.subprocess.PIPE
 GRACE = 5.0  # so many seconds the manager may be silent
 ENDINGS = ("pending", "denied", "bad")
+GATES = ("reopen", "commit")  # lines of the history that say nothing of the graph
 
 
 async def started(command: Sequence[str]) -> asyncio.subprocess.Process:
@@ -79,8 +80,9 @@ class Session:
         if self.log and not self.log.closed:
             self.log.write("%.3f %s\n" % ((time.monotonic() - self.start) * 1e3, line))
 
-    async def read(self, seconds: float = GRACE) -> List[str]:
-        """The words of the next line."""
+    async def read(self, longer: float = 0.0) -> List[str]:
+        """The words of the next line, for which it waits so much longer than usual."""
+        seconds = GRACE + longer
         try:
             line = await asyncio.wait_for(self.output.readline(), seconds)
         except asyncio.TimeoutError:
@@ -117,16 +119,18 @@ class Told:
         self.links: Dict[int, int] = {}
 
     def take(self, words: List[str]) -> None:
-        """Takes in a line of the history, of those that make or change the graph."""
+        """Takes in a line that makes or changes the system."""
         try:
             if words[0] == "make":
                 self.make(words[2], words[3])
             elif words[0] == "remove":
                 self.live.remove(int(words[1]))
             elif words[0] == "link":
-                self.links[int(words[1])] = int(words[2])
+                self.link(int(words[1]), int(words[2]))
             elif words[0] == "unlink":
                 del self.links[int(words[1])]
+            elif words[0] not in GATES:
+                raise ValueError
         except (IndexError, KeyError, ValueError):
             raise ManagerDied("it says %r, which can't be" % " ".join(words))
 
@@ -137,6 +141,12 @@ class Told:
         self.nodes.append((path, node))
         self.ports += ["%s.%s" % (path, name) for name in names]
         self.owners += [slot] * len(names)
+
+    def link(self, port: int, slot: int) -> None:
+        """Lets a port that was made lead to a node that was."""
+        if not (0 <= port < len(self.ports) and 0 <= slot < len(self.nodes)):
+            raise IndexError
+        self.links[port] = slot
 
     def port(self, number: str) -> str:
         """The path of a port, by its number."""
