@@ -26,7 +26,9 @@ BATCHES = {"stock": "stock", "mail": "mail"}
 
 def manager(program=None):
     """The command of the manager."""
-    return [os.path.abspath(program or (BUILT if os.path.exists(BUILT) else PLAIN))]
+    if program or os.path.exists(BUILT):
+        return [os.path.abspath(program or BUILT)]
+    return [sys.executable, PLAIN]
 
 
 def wiring():
@@ -105,7 +107,7 @@ async def changes(system, seconds):
 
 async def trial(connections, seconds, does=changes, command=None, start="Shop(1)", log=None):
     """Runs the shop under load while `does` changes it. What was lost is told."""
-    system = System(wiring(), shop.COMPONENTS, command or manager(), log=log)
+    system = System(wiring(), shop.COMPONENTS, command or manager(), log=log, grace=60)
     with tempfile.TemporaryDirectory() as folder:
         before = os.getcwd()
         os.chdir(folder)

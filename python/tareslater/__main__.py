@@ -3,30 +3,15 @@
 FILE wires the components. CLASSES is a list of classes in the module, as `shop:COMPONENTS`, or their names, as `shop:Front,Stock`. A note
 in the text that comes names it; a FILE with such a note needs no CLASSES, and what stands behind the note is written anew.
 """
-import importlib
+import asyncio
 import os
 import re
 import sys
-from typing import List, Type
 
-from .components import Component
 from .darwin import NOTE, Undescribable, description
+from .remote import named, serve
 
 SAID = re.compile(r"(?m)^%s (\S+)$" % re.escape(NOTE))
-
-
-def classes(said: str) -> List[Type[Component]]:
-    """The classes that `MODULE:CLASSES` names."""
-    name, _, members = said.partition(":")
-    sys.path.insert(0, os.getcwd())
-    module = importlib.import_module(name)
-    found = [getattr(module, member) for member in members.split(",")]
-    if len(found) == 1 and isinstance(found[0], (list, tuple)):
-        found = list(found[0])
-    for cls in found:
-        if not (isinstance(cls, type) and issubclass(cls, Component)):
-            raise TypeError("%r is no class of a component" % (cls,))
-    return found
 
 
 def described(file: str, said: str) -> str:
@@ -37,13 +22,17 @@ def described(file: str, said: str) -> str:
     if not said and not noted:
         raise ValueError("%s has no note of its components: name them behind it, as shop:COMPONENTS" % file)
     said = said or (noted[1] if noted else "")
-    return description(text, classes(said)).replace(NOTE, "%s %s" % (NOTE, said), 1)
+    sys.path.insert(0, os.getcwd())
+    return description(text, named(said)).replace(NOTE, "%s %s" % (NOTE, said), 1)
 
 
 def main() -> int:
     words = sys.argv[1:]
     if words in (["--help"], ["-h"]):
         print(__doc__.strip())
+        return 0
+    if len(words) == 4 and words[0] == "serve":  # a process of remote.Spread
+        asyncio.run(serve(words[1], words[2], int(words[3])))
         return 0
     if len(words) not in (2, 3) or words[0] != "describe":
         print("usage: python -m tareslater describe FILE [MODULE:CLASSES]", file=sys.stderr)

@@ -7,7 +7,7 @@ from .components import Component
 from .darwin import Graph, Key
 from .outcomes import Changed, GivenUp, ManagerDied, NotQuiescent, Refused
 from .session import ENDINGS, Session, Told
-from .sites import Site, Switch
+from .sites import AnySite, Switch
 
 ROUNDS = 20  # so many turns of the clock are told in the time that a change may take
 
@@ -15,12 +15,12 @@ ROUNDS = 20  # so many turns of the clock are told in the time that a change may
 class Placed:
     """A system with the sites of its components."""
 
-    def __init__(self, graph: Graph, sites: Mapping[str, Site]) -> None:
+    def __init__(self, graph: Graph, sites: Mapping[str, AnySite]) -> None:
         self.graph, self.sites = graph, sites
 
-    def by_site(self, paths: Any) -> List[Tuple[Site, List[str]]]:
+    def by_site(self, paths: Any) -> List[Tuple[AnySite, List[str]]]:
         """These paths, each with its site."""
-        found: Dict[int, Tuple[Site, List[str]]] = {}
+        found: Dict[int, Tuple[AnySite, List[str]]] = {}
         for path in paths:
             site = self.sites[path]
             found.setdefault(id(site), (site, []))[1].append(path)
@@ -155,7 +155,7 @@ class Change:
 
     async def switch(self) -> None:
         """Makes the new system the one that stands: at all sites first, then gates are opened."""
-        addresses = {path: getattr(site, "address", "") for path, site in self.new.sites.items()}
+        addresses = {path: site.address for path, site in self.new.sites.items()}
         switch = Switch(self.gone, self.made, self.moving, self.new.graph.links, addresses)
         sites = self.sites()
         for site in sites:
@@ -168,14 +168,14 @@ class Change:
         for site in sites:
             await site.finish([path for path in self.made if self.new.sites[path] is site], self.moving)
 
-    def part(self, switch: Switch, site: Site) -> Switch:
+    def part(self, switch: Switch, site: AnySite) -> Switch:
         """What of a switch is done at a site."""
         gone = [path for path in switch.gone if self.old.sites[path] is site]
         made = [path for path in switch.made if self.new.sites[path] is site]
         links = {key: end for key, end in switch.links.items() if self.new.sites[key[0]] is site}
         return switch._replace(gone=gone, made=made, links=links)
 
-    def sites(self) -> List[Site]:
+    def sites(self) -> List[AnySite]:
         """All sites that have a component before or after."""
         found = {id(site): site for placed in (self.old, self.new) for site in placed.sites.values()}
         return list(found.values())

@@ -8,7 +8,7 @@ from .darwin import PORTS, Graph
 from .outcomes import ManagerDied, Refused
 
 PIPE = asyncio.subprocess.PIPE
-GRACE = 5.0  # so many seconds the manager may be silent
+GRACE = 10.0  # so many seconds the manager may be silent, where nothing else is said
 ENDINGS = ("pending", "denied", "bad")
 GATES = ("reopen", "commit")  # lines of the history that say nothing of the graph
 
@@ -21,14 +21,14 @@ async def started(command: Sequence[str]) -> asyncio.subprocess.Process:
         raise ManagerDied("%s can't be started: %s" % (command[0], fault.strerror))
 
 
-async def answer(command: Sequence[str]) -> str:
+async def answer(command: Sequence[str], grace: float) -> str:
     """What the manager writes, for a question without a dialogue."""
     process = await started(command)
     try:
-        text, _ = await asyncio.wait_for(process.communicate(), GRACE)
+        text, _ = await asyncio.wait_for(process.communicate(), grace)
     except asyncio.TimeoutError:
         await ended(process, 0)
-        raise ManagerDied("silent for %g seconds" % GRACE)
+        raise ManagerDied("silent for %g seconds" % grace)
     if process.returncode:
         raise Refused(text.decode().strip() or "%s ends with status %d" % (command[0], process.returncode))
     return text.decode()
@@ -50,8 +50,8 @@ class Session:
     input: asyncio.StreamWriter
     output: asyncio.StreamReader
 
-    def __init__(self, command: Sequence[str], log: Optional[str] = None) -> None:
-        self.command, self.log_name = command, log
+    def __init__(self, command: Sequence[str], grace: float, log: Optional[str]) -> None:
+        self.command, self.grace, self.log_name = command, grace, log
         self.lines: List[str] = []
         self.log: Optional[TextIO] = None
         self.loop, self.start = asyncio.get_running_loop(), time.monotonic()
@@ -82,7 +82,7 @@ class Session:
 
     async def read(self, longer: float = 0.0) -> List[str]:
         """The words of the next line, for which it waits so much longer than usual."""
-        seconds = GRACE + longer
+        seconds = self.grace + longer
         try:
             line = await asyncio.wait_for(self.output.readline(), seconds)
         except asyncio.TimeoutError:

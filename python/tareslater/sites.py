@@ -1,4 +1,5 @@
 """A site: the components of one process, and what a change does to them. `remote` has a site of another process behind the same calls."""
+import abc
 import asyncio
 import functools
 import logging
@@ -23,7 +24,64 @@ class Switch(NamedTuple):
     addresses: Dict[str, str]  # where the sites of components are, by their paths; for one process none is needed
 
 
-class Site:
+class AnySite(abc.ABC):
+    """What a change asks of a site, whether it is of this process or another."""
+
+    address = ""
+
+    @abc.abstractmethod
+    async def make(self, instances: Mapping[str, Instance]) -> None:
+        """Makes components and opens them, for a change that may yet fail."""
+
+    @abc.abstractmethod
+    async def close_gates(self, gates: Mapping[int, Key], tell: Callable[[str], None]) -> None:
+        """Closes gates, and tells of each by its number whether it is busy, that it is closed, and when it becomes idle."""
+
+    @abc.abstractmethod
+    async def engaged(self, paths: Sequence[str], keys: Iterable[Key]) -> List[str]:
+        """Which of these components serve, and which of these gates are open or busy, by the site's own counts."""
+
+    @abc.abstractmethod
+    async def halt(self, paths: Sequence[str], seconds: float) -> None:
+        """Ends what components do by themselves. They are quiescent, so they hold nothing in their hands."""
+
+    @abc.abstractmethod
+    async def states(self, paths: Sequence[str]) -> Dict[str, Any]:
+        """The states of components, which keep them."""
+
+    @abc.abstractmethod
+    async def take(self, states: Mapping[str, Any]) -> None:
+        """Gives states to components that were made."""
+
+    @abc.abstractmethod
+    async def switch(self, switch: Switch) -> None:
+        """Makes the new system the one that stands, with its gates as they are."""
+
+    @abc.abstractmethod
+    async def reopen(self, keys: Iterable[Key]) -> None:
+        """Opens gates of components that stand."""
+
+    @abc.abstractmethod
+    async def finish(self, made: Sequence[str], moved: Iterable[str]) -> None:
+        """Lets new components run, and closes old ones by and by."""
+
+    @abc.abstractmethod
+    async def undo(self) -> None:
+        """Goes on as before a change that failed; its gates are open again."""
+
+    @abc.abstractmethod
+    async def rest(self) -> None:
+        """Closes all gates, and waits until what is under way has ended."""
+
+    @abc.abstractmethod
+    async def stop(self, seconds: float) -> None:
+        """Ends all components, and with them what their tasks do."""
+
+    async def over(self, address: str) -> None:
+        """Ends the roots of calls to a process that has gone."""
+
+
+class Site(AnySite):
     """The components of this process."""
 
     def __init__(self, classes: Sequence[Type[Component]], threads: int = THREADS) -> None:
@@ -39,7 +97,6 @@ class Site:
     # ---- making and ending
 
     async def make(self, instances: Mapping[str, Instance]) -> None:
-        """Makes components and opens them, for a change that may yet fail."""
         for path, instance in instances.items():
             component = self.classes[instance.number](*instance.integers)
             component.path, component.loop, component.threads = path, asyncio.get_running_loop(), self.threads
@@ -74,7 +131,6 @@ class Site:
         component.spawn(run())
 
     async def halt(self, paths: Sequence[str], seconds: float) -> None:
-        """Ends what components do by themselves. They are quiescent, so they hold nothing in their hands."""
         for path in paths:
             component = self.components[path]
             self.halted.append(component)
@@ -94,7 +150,6 @@ class Site:
         return handle
 
     async def close_gates(self, gates: Mapping[int, Key], tell: Callable[[str], None]) -> None:
-        """Closes gates, and tells of each by its number whether it is busy, that it is closed, and when it becomes idle."""
         for number, key in gates.items():
             self.close_gate(self.roots(key), number, tell)
 
@@ -105,12 +160,10 @@ class Site:
         tell("closed %d" % number)
 
     async def reopen(self, keys: Iterable[Key]) -> None:
-        """Opens gates of the components that stand."""
         for key in keys:
             self.roots(key).gate.reopen()
 
     async def engaged(self, paths: Sequence[str], keys: Iterable[Key]) -> List[str]:
-        """Which of these components serve, and which of these gates are open or busy, by this process's own counts."""
         roots = [self.roots(key) for key in keys]
         serving = [path for path in paths if self.components[path]._serving]
         return serving + [str(handle) for handle in roots if handle.gate.count or handle.gate.is_open]
@@ -118,11 +171,9 @@ class Site:
     # ---- states
 
     async def states(self, paths: Sequence[str]) -> Dict[str, Any]:
-        """The states of components, which keep them."""
         return {path: self.components[path].state() for path in paths}
 
     async def take(self, states: Mapping[str, Any]) -> None:
-        """Gives states to components that were made."""
         for path, state in states.items():
             self.made[path].take(state)
 
@@ -145,12 +196,12 @@ class Site:
     def link(self, path: str, name: str, end: Optional[End], switch: Switch) -> None:
         """Lets a requirement lead where the new system has it lead."""
         handle = self.components[path]._handles[name]
-        if not self.leads_to(handle.target, end):
+        if not self.leads_to(handle.target, end, switch):
             handle.target = None if end is None else self.target(end, switch)
         if isinstance(handle, Roots):
             handle.gate.is_linked = handle.linked
 
-    def leads_to(self, target: Any, end: Optional[End]) -> bool:
+    def leads_to(self, target: Any, end: Optional[End], switch: Switch) -> bool:
         """Whether a requirement leads there already."""
         if target is None or end is None:
             return target is end
@@ -162,7 +213,6 @@ class Site:
         return Target(owner, end)
 
     async def finish(self, made: Sequence[str], moved: Iterable[str]) -> None:
-        """Lets new components run, and closes old ones by and by."""
         self.halted = []
         for path in made:
             self.run(self.components[path])
@@ -172,7 +222,6 @@ class Site:
         closing.add_done_callback(self.closing.discard)
 
     async def undo(self) -> None:
-        """Goes on as before a change that failed; its gates are open again."""
         halted, self.halted = self.halted, []
         for component in halted:
             self.run(component)
@@ -181,7 +230,6 @@ class Site:
     # ---- the end
 
     async def rest(self) -> None:
-        """Closes all gates, and waits until what is under way has ended."""
         loop, busy = asyncio.get_running_loop(), []
         for component in self.components.values():
             for handle in component._handles.values():
@@ -193,7 +241,6 @@ class Site:
             await idle.wait()
 
     async def stop(self, seconds: float) -> None:
-        """Ends all components, and with them what their tasks do."""
         try:
             await self.halt(list(self.components), seconds)
         finally:

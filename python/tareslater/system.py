@@ -11,7 +11,7 @@ from .darwin import Graph, Instance, description, words_of
 from .gates import RUNNING, Misuse
 from .outcomes import Changed, GivenUp, Plan, Refused, WouldLose
 from .session import GRACE, Session, answer, started
-from .sites import THREADS, Site
+from .sites import THREADS, AnySite, Site
 
 HERE = "here"
 GLANCE = 0.02  # so many seconds lie between two looks at whether a component still serves
@@ -19,7 +19,8 @@ GLANCE = 0.02  # so many seconds lie between two looks at whether a component st
 
 class System:
     """`text` wires the components, in Darwin; `classes` are theirs. `manager` is the command of darwin_run. `log` names a file to which each
-    session with it is added. `sites` are further processes by their names, and `place` says by path and integers in which a component is."""
+    session with it is added; `threads` is how many services may wait in threads at once, `grace` how many seconds
+    the manager may be silent. `place` is for systems of several processes."""
 
     def __init__(
         self,
@@ -29,15 +30,15 @@ class System:
         *,
         log: Optional[str] = None,
         threads: int = THREADS,
-        sites: Optional[Mapping[str, Site]] = None,
+        grace: float = GRACE,
         place: Optional[Callable[[str, Instance], str]] = None,
     ) -> None:
         self.classes, self.manager = list(classes), list(manager)
         self.text = description(text, self.classes)
         self.here = Site(self.classes, threads)
-        self.sites: Dict[str, Site] = {HERE: self.here, **(sites or {})}
+        self.sites: Dict[str, AnySite] = {HERE: self.here}
         self.place = place or (lambda path, instance: HERE)
-        self.log = log
+        self.log, self.grace = log, grace
         self.placed = Placed(Graph("", self.classes), {})
         self.call: List[str] = []
         self.file = ""
@@ -78,8 +79,15 @@ class System:
 
     async def flat(self, words: List[str]) -> Placed:
         """A system by its call, with the sites of its components."""
-        graph = Graph(await answer([*self.manager, "flat", self.file, *words]), self.classes)
-        return Placed(graph, {path: self.sites[self.place(path, instance)] for path, instance in graph.instances.items()})
+        graph = Graph(await answer([*self.manager, "flat", self.file, *words], self.grace), self.classes)
+        return Placed(graph, {path: await self.site(self.place(path, instance)) for path, instance in graph.instances.items()})
+
+    async def site(self, name: str) -> AnySite:
+        """The site of a name."""
+        return self.sites[name]
+
+    async def tidy(self) -> None:
+        """Ends what no component needs any more."""
 
     async def made(self, change: Change) -> None:
         """Makes what a change needs, before any gate is closed."""
@@ -90,7 +98,7 @@ class System:
             await change.undo()
             raise
 
-    async def stop(self, within: float = GRACE) -> None:
+    async def stop(self, within: float = 5.0) -> None:
         """Begins nothing more, waits for what is under way, and closes all."""
         async with self.changing:
             for site in self.sites.values():
@@ -117,6 +125,7 @@ class System:
             self.judge(change, losing)
             await self.made(change)
             await self.carried_out(change, words, within)
+            await self.tidy()
             return change.changed(began)
 
     def judge(self, change: Change, losing: Sequence[str]) -> None:
@@ -137,7 +146,7 @@ class System:
 
     async def carried_out(self, change: Change, words: List[str], within: float) -> None:
         """A session with the manager. Up to its `commit` all can be undone, and behind it nothing can fail."""
-        session = Session([*self.manager, "apply", str(ROUNDS), self.file, *self.call, "--", *words], self.log)
+        session = Session([*self.manager, "apply", str(ROUNDS), self.file, *self.call, "--", *words], self.grace, self.log)
         try:
             await self.agreed(change, session, within)
             switched = asyncio.ensure_future(self.switched(change, words))
@@ -156,7 +165,7 @@ class System:
             change.session = session
             await change.begin()
             await change.drain(within)
-            await asyncio.wait_for(change.hand_over(within), within + GRACE)
+            await asyncio.wait_for(change.hand_over(within), within + self.grace)
             await change.commit()
         except BaseException:
             await change.undo()
@@ -197,7 +206,7 @@ class System:
         """What a change to this call would hold, remove, make and lose; nothing is changed."""
         words = words_of(call)
         new = await self.flat(words)
-        text = await answer([*self.manager, "plan", self.file, *self.call, "--", *words])
+        text = await answer([*self.manager, "plan", self.file, *self.call, "--", *words], self.grace)
         change, old = Change(self.placed, new, moving or {}), self.placed.graph
         frozen = {line.split(" ")[1] for line in text.splitlines() if line.startswith("freeze ")}
         keys = (old.begins(port) for port in old.ports if port.rpartition(".")[0] in frozen)

@@ -16,7 +16,7 @@ def feed(to):
 
 def main():
     left, keeps, command = int(sys.argv[1]), sys.argv[2] == "1", sys.argv[3:]
-    if command[1] != "apply":
+    if "apply" not in command:
         os.execvp(command[0], command)
     manager = subprocess.Popen(command, stdin=subprocess.PIPE, stdout=subprocess.PIPE, bufsize=0)
     threading.Thread(target=feed, args=(manager.stdin,), daemon=True).start()

@@ -104,7 +104,8 @@ async def try_managers(tries):
             tries.same("it leads elsewhere", "ManagerDied: it leads to another system than that which was asked for; goes on as before", await changed(system))
         with talking(system, hasty, start + drained, acts):
             tries.same("it says what is right", "made", await changed(system))
-        with talking(system, "import time\nprint('start X', flush=True)\ntime.sleep(9)\n", [], []), planted((session, "GRACE", 1.5)):
+        system.grace = 1.5
+        with talking(system, "import time\nprint('start X', flush=True)\ntime.sleep(9)\n", [], []):
             tries.same("it is silent", "ManagerDied: silent for 1.5 seconds; goes on as before", await changed(system, "Small(2)"))
         system.manager = ["./no_such_manager"]
         tries.same("it isn't there", "ManagerDied: ./no_such_manager can't be started: No such file or directory; goes on as before", await changed(system, "Small(2)"))
@@ -121,7 +122,7 @@ class talking:
         with tempfile.NamedTemporaryFile("w", suffix=".txt", delete=False) as file:
             file.write(self.first)
         self.name = file.name
-        choose = "import os, sys\nif sys.argv[4] != 'apply': os.execvp(sys.argv[3], sys.argv[3:])\n"
+        choose = "import os, sys\nif 'apply' not in sys.argv[3:]: os.execvp(sys.argv[3], sys.argv[3:])\n"
         self.system.manager = [sys.executable, "-c", choose + self.program, self.name, self.last, *self.right]
 
     def __exit__(self, *_):

@@ -105,10 +105,13 @@ TEXT = """component Small(int v) {
 """
 
 
+GRACE = 60  # seconds for managers that are slow, as the plain statements are on a busy machine
+
+
 @contextlib.asynccontextmanager
 async def running(manager, text=TEXT, classes=CLASSES, call="Small(0)", **words):
     """A system that is stopped at the end."""
-    system = System(text, classes, manager, **words)
+    system = System(text, classes, manager, **{"grace": GRACE, **words})
     await system.start(call)
     await asyncio.sleep(0.02)
     try:

@@ -196,8 +196,8 @@ class Old(Component):
         return "old"
 
     @provides()
-    async def slow(self, seconds):
-        await asyncio.sleep(seconds)
+    async def slow(self, event):
+        await event.wait()
         return "old"
 
 
@@ -207,7 +207,7 @@ class New(Component):
         return "new"
 
     @provides()
-    async def slow(self, seconds):
+    async def slow(self, event):
         return "new"
 
 
@@ -228,16 +228,18 @@ BOTH = """component Way(int v) {
 async def try_side_by_side(tries):
     async with running(tries.manager, BOTH, [Asker, Old, New], "Way(1)") as system:
         asker = system["a"]
-        slow = asyncio.ensure_future(asker.slow(0.8))
+        event = asyncio.Event()
+        slow = asyncio.ensure_future(asker.slow(event))
         await asyncio.sleep(0.02)
         way = asyncio.ensure_future(system.side_by_side("Way(2)", "Way(3)", within=0.3))
         while not way.done() and await asker.fast() == "old":
             await asyncio.sleep(0.005)
         tries.want("fast ones are served by the new one while the slow one is under way", not slow.done() and not way.done())
+        event.set()
         first, second = await way
         tries.same("what each step held", (["a.fast"], ["a.slow"]), (first.held, second.held))
         tries.same("the slow one ended where it was", "old", await slow)
-        tries.same("and then all is new", ("new", "new", ["a", "n"]), (await asker.fast(), await asker.slow(1), sorted(system.components)))
+        tries.same("and then all is new", ("new", "new", ["a", "n"]), (await asker.fast(), await asker.slow(event), sorted(system.components)))
 
 
 # ---- a removed component
@@ -259,8 +261,9 @@ async def try_removed(tries):
     async with running(tries.manager, text, [Keeper, CLASSES[3]], "Pair(1)") as system:
         old = system["k"]
         async with old.out.begin():
-            change = asyncio.ensure_future(asyncio.shield(outside(system.change("Pair(2)", moving={"k": "k"}))))
-            await asyncio.sleep(0.5)
+            change = asyncio.ensure_future(asyncio.shield(outside(system.change("Pair(2)", within=9, moving={"k": "k"}))))
+            while old.out.gate.is_open:
+                await asyncio.sleep(0.01)
             waiting = asyncio.ensure_future(outside(old.out(1)))
             await asyncio.sleep(0.02)
         await change
