@@ -1,5 +1,6 @@
 """A session with the manager: one process of `darwin_run apply` for each change, and the system as it tells it."""
 import asyncio
+import contextlib
 import functools
 import time
 from typing import Dict, List, Optional, Sequence, Set, TextIO, Tuple
@@ -39,7 +40,8 @@ async def ended(process: asyncio.subprocess.Process, seconds: float) -> None:
     try:
         await asyncio.wait_for(process.wait(), seconds)
     except asyncio.TimeoutError:
-        process.kill()
+        with contextlib.suppress(ProcessLookupError):  # it may end meanwhile
+            process.kill()
         await process.wait()
 
 

@@ -78,9 +78,24 @@ async def try_parts(tries):
             tries.same("and then it doesn't", "made", await changed(system))
 
 
+# says what it has, and behind `go` the rest; a patient one waits before `ready` until all that is busy was told idle
+SAYS = """import sys
+def heard(is_enough):
+    lines = []
+    while not is_enough(lines) and (line := sys.stdin.readline()): lines.append(line.split())
+def count(lines, word): return sum(line[0] == word for line in lines)
+have, _, ready = open(sys.argv[1]).read().partition("wait 20\\n")
+print(have + "wait 20", flush=True)
+if PATIENT: heard(lambda lines: count(lines, "closed") == have.count("\\nclose ") and count(lines, "busy") == count(lines, "idle"))
+print(ready, flush=True)
+heard(lambda lines: ["go"] in lines)
+print(sys.argv[2], flush=True)
+"""
+HASTY, PATIENT = SAYS.replace("PATIENT", "False"), SAYS.replace("PATIENT", "True")
+
+
 async def try_managers(tries):
     """Managers that are silent, hasty, of another mind, or aren't there."""
-    hasty = "import sys\nhave = open(sys.argv[1]).read()\nprint(have, flush=True)\nfor line in sys.stdin:\n  if line == 'go\\n': break\nprint(sys.argv[2], flush=True)\n"
     async with running(tries.manager) as system:
         right = (await system.change("Small(1)", moving={"t": "t"})).lines
         heard = [line for line in right if not line.startswith("> ")]
@@ -97,12 +112,12 @@ async def try_managers(tries):
         ]
         for name, first, last, wanted in rows:
             async with writing(system):
-                with talking(system, hasty, first, last):
+                with talking(system, HASTY, first, last):
                     came = await changed(system)
             tries.want(name, came.startswith(wanted) and came.endswith("; goes on as before"), came)
-        with talking(system, hasty, start + drained, [line for line in acts if not line.startswith("link")]):
+        with talking(system, PATIENT, start + drained, [line for line in acts if not line.startswith("link")]):
             tries.same("it leads elsewhere", "ManagerDied: it leads to another system than that which was asked for; goes on as before", await changed(system))
-        with talking(system, hasty, start + drained, acts):
+        with talking(system, PATIENT, start + drained, acts):
             tries.same("it says what is right", "made", await changed(system))
         system.grace = 1.5
         with talking(system, "import time\nprint('start X', flush=True)\ntime.sleep(9)\n", [], []):
