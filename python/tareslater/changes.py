@@ -71,7 +71,7 @@ class Change:
             await self.close()
             words = [""]
             while words[0] != "ready":
-                words = await self.session.read(within)
+                words = await self.session.read(within + self.session.grace)
                 if words[0] in ENDINGS:
                     await self.given_up()
                 if words[0] not in ("drained", "ready"):
@@ -106,7 +106,7 @@ class Change:
         while words[0] != "abandon":
             if words[0] == "open":
                 open.append(self.name(self.told.port(words[1])))
-            words = await self.session.read()
+            words = await self.session.read(self.session.grace)
         if first.startswith("pending"):
             raise GivenUp(self.session.lines, open)
         raise Refused(first)
@@ -144,7 +144,7 @@ class Change:
         self.session.say("go")
         words = [""]
         while words[0] != "commit":
-            words = await self.session.read()
+            words = await self.session.read(self.session.grace)
             if words[0] in ENDINGS:
                 await self.given_up()
             self.told.take(words)

@@ -9,7 +9,8 @@ from .darwin import PORTS, Graph
 from .outcomes import ManagerDied, Refused
 
 PIPE = asyncio.subprocess.PIPE
-GRACE = 10.0  # so many seconds the manager may be silent, where nothing else is said
+GRACE = 10.0  # so many seconds the manager may be silent while gates are closed, where nothing else is said
+PATIENCE = 60.0  # and so many while none is
 ENDINGS = ("pending", "denied", "bad")
 GATES = ("reopen", "commit")  # lines of the history that say nothing of the graph
 
@@ -22,14 +23,14 @@ async def started(command: Sequence[str]) -> asyncio.subprocess.Process:
         raise ManagerDied("%s can't be started: %s" % (command[0], fault.strerror))
 
 
-async def answer(command: Sequence[str], grace: float) -> str:
+async def answer(command: Sequence[str]) -> str:
     """What the manager writes, for a question without a dialogue."""
     process = await started(command)
     try:
-        text, _ = await asyncio.wait_for(process.communicate(), grace)
+        text, _ = await asyncio.wait_for(process.communicate(), PATIENCE)
     except asyncio.TimeoutError:
         await ended(process, 0)
-        raise ManagerDied("silent for %g seconds" % grace)
+        raise ManagerDied("silent for %g seconds" % PATIENCE)
     if process.returncode:
         raise Refused(text.decode().strip() or "%s ends with status %d" % (command[0], process.returncode))
     return text.decode()
@@ -82,9 +83,8 @@ class Session:
         if self.log and not self.log.closed:
             self.log.write("%.3f %s\n" % ((time.monotonic() - self.start) * 1e3, line))
 
-    async def read(self, longer: float = 0.0) -> List[str]:
-        """The words of the next line, for which it waits so much longer than usual."""
-        seconds = self.grace + longer
+    async def read(self, seconds: float = PATIENCE) -> List[str]:
+        """The words of the next line, for which it waits so many seconds."""
         try:
             line = await asyncio.wait_for(self.output.readline(), seconds)
         except asyncio.TimeoutError:

@@ -11,6 +11,7 @@ from .darwin import Graph, Instance, description, words_of
 from .gates import RUNNING, Misuse
 from .outcomes import Changed, GivenUp, Plan, Refused, WouldLose
 from .session import GRACE, Session, answer, started
+from .parts import Described, between
 from .sites import THREADS, AnySite, Site
 
 HERE = "here"
@@ -20,7 +21,7 @@ GLANCE = 0.02  # so many seconds lie between two looks at whether a component st
 class System:
     """`text` wires the components, in Darwin; `classes` are theirs. `manager` is the command of darwin_run. `log` names a file to which each
     session with it is added; `threads` is how many services may wait in threads at once, `grace` how many seconds
-    the manager may be silent. `place` is for systems of several processes."""
+    the manager may be silent while gates are closed. `place` is for systems of several processes."""
 
     def __init__(
         self,
@@ -42,6 +43,7 @@ class System:
         self.placed = Placed(Graph("", self.classes), {})
         self.call: List[str] = []
         self.file = ""
+        self.parts = 0  # so many systems between two have been described
 
     def __getitem__(self, path: str) -> Any:
         """A component of this process."""
@@ -79,7 +81,7 @@ class System:
 
     async def flat(self, words: List[str]) -> Placed:
         """A system by its call, with the sites of its components."""
-        graph = Graph(await answer([*self.manager, "flat", self.file, *words], self.grace), self.classes)
+        graph = Graph(await answer([*self.manager, "flat", self.file, *words]), self.classes)
         return Placed(graph, {path: await self.site(self.place(path, instance)) for path, instance in graph.instances.items()})
 
     async def site(self, name: str) -> AnySite:
@@ -111,22 +113,55 @@ class System:
     # ---- changes
 
     async def change(
-        self, call: str, within: float = 5.0, moving: Optional[Mapping[str, str]] = None, losing: Sequence[str] = ()
+        self,
+        call: str,
+        within: float = 5.0,
+        moving: Optional[Mapping[str, str]] = None,
+        losing: Sequence[str] = (),
+        by_parts: bool = False,
     ) -> Changed:
         """Makes the system that of another call while it runs, or raises, and then nothing was changed. What is to be held has `within`
         seconds to end. `moving` says, by paths, which components that are removed hand their state to which that are made, and `losing`
-        which may take it with them."""
+        which may take it with them. With `by_parts` less is held at once: parts are changed one after the other, and where one fails, those
+        before it stay made."""
         if RUNNING.get() is not None:
             raise Misuse("a change is asked for inside a root, for whose end it might wait")
         async with self.changing:
-            began, words = time.monotonic(), words_of(call)
-            new = await self.flat(words)
-            change = Change(self.placed, new, moving or {})
+            words = words_of(call)
+            change = Change(self.placed, await self.flat(words), moving or {})
             self.judge(change, losing)
-            await self.made(change)
-            await self.carried_out(change, words, within)
-            await self.tidy()
-            return change.changed(began)
+            if by_parts:
+                return await self.in_parts(change, words, within)
+            return await self.step(change, words, within)
+
+    async def step(self, change: Change, words: List[str], within: float) -> Changed:
+        """A change that was judged."""
+        began = time.monotonic()
+        await self.made(change)
+        await self.carried_out(change, words, within)
+        await self.tidy()
+        return change.changed(began)
+
+    async def in_parts(self, change: Change, words: List[str], within: float) -> Changed:
+        """A change that was judged, part by part."""
+        text = await answer([*self.manager, "parts", self.file, *self.call, "--", *words])
+        graphs = between(change.old.graph, change.new.graph, text, change.moving)
+        calls = [["between_%d" % (self.parts + at)] for at in range(len(graphs) - 1)]
+        self.parts += len(calls)
+        self.text += "".join(Described(graph, call[0]).text() for graph, call in zip(graphs, calls))
+        with open(self.file, "w") as file:
+            file.write(self.text)
+        steps: List[Changed] = []
+        for graph, call in zip(graphs, [*calls, words]):
+            new = await self.flat(call)
+            if (new.graph.nodes, new.graph.ports) != (graph.nodes, graph.ports):
+                raise Refused("%s isn't the system between" % call[0])
+            step = Change(self.placed, new, change.moving)
+            step.moving = {source: to for source, to in change.moving.items() if source in step.gone and to in step.made}
+            steps.append(await self.step(step, call, within))
+        held = dict.fromkeys(name for step in steps for name in step.held)
+        longest = max(step.held_seconds for step in steps), max(step.waited_seconds for step in steps)
+        return Changed(list(held), *longest, sum(step.seconds for step in steps), [line for step in steps for line in step.lines])
 
     def judge(self, change: Change, losing: Sequence[str]) -> None:
         """Refuses moves that can't be made, and a change that would lose a state."""
@@ -206,7 +241,7 @@ class System:
         """What a change to this call would hold, remove, make and lose; nothing is changed."""
         words = words_of(call)
         new = await self.flat(words)
-        text = await answer([*self.manager, "plan", self.file, *self.call, "--", *words], self.grace)
+        text = await answer([*self.manager, "plan", self.file, *self.call, "--", *words])
         change, old = Change(self.placed, new, moving or {}), self.placed.graph
         frozen = {line.split(" ")[1] for line in text.splitlines() if line.startswith("freeze ")}
         keys = (old.begins(port) for port in old.ports if port.rpartition(".")[0] in frozen)

@@ -91,6 +91,7 @@ print(ready, flush=True)
 heard(lambda lines: ["go"] in lines)
 print(sys.argv[2], flush=True)
 """
+SILENT = SAYS.replace("PATIENT", "True").replace("print(sys.argv[2]", "import time; time.sleep(20); print(sys.argv[2]")
 HASTY, PATIENT = SAYS.replace("PATIENT", "False"), SAYS.replace("PATIENT", "True")
 
 
@@ -117,11 +118,12 @@ async def try_managers(tries):
             tries.want(name, came.startswith(wanted) and came.endswith("; goes on as before"), came)
         with talking(system, PATIENT, start + drained, [line for line in acts if not line.startswith("link")]):
             tries.same("it leads elsewhere", "ManagerDied: it leads to another system than that which was asked for; goes on as before", await changed(system))
+        grace, system.grace = system.grace, 1
+        with talking(system, SILENT, start + drained, acts):
+            tries.same("it is silent", "ManagerDied: silent for 1 seconds; goes on as before", await changed(system))
+        system.grace = grace
         with talking(system, PATIENT, start + drained, acts):
             tries.same("it says what is right", "made", await changed(system))
-        system.grace = 1.5
-        with talking(system, "import time\nprint('start X', flush=True)\ntime.sleep(9)\n", [], []):
-            tries.same("it is silent", "ManagerDied: silent for 1.5 seconds; goes on as before", await changed(system, "Small(2)"))
         system.manager = ["./no_such_manager"]
         tries.same("it isn't there", "ManagerDied: ./no_such_manager can't be started: No such file or directory; goes on as before", await changed(system, "Small(2)"))
 

@@ -187,6 +187,86 @@ async def try_arrays(tries):
     tries.same("no fault of `run`", [], system.faults)
 
 
+# ---- in parts
+
+
+class Lane(Component):
+    """Begins all the time; its own version doesn't matter."""
+
+    out = Begins()
+
+    def __init__(self, version):
+        self.done = 0
+
+    async def run(self):
+        while True:
+            await self.out(1)
+            self.done += 1
+            await asyncio.sleep(0.001)
+
+
+class Works(Component):
+    """Works for a lane, by a store of its own."""
+
+    store = Requires()
+    log = Requires()
+
+    @provides(store, log)
+    async def work(self, value):
+        await self.log(value)
+        return await self.store(value)
+
+
+LANES = """component Lanes(int v) {
+  inst l:Worker(0); array lane[3]:One(v, 0);
+  forall i:0..2 { inst lane[i](v, i); bind lane[i].log -- l.work; }
+}
+component One(int v, int i) {
+  require log;
+  inst f:Lane(0); w:Works(v); array s[2]:Worker(v); inst s[i % 2];
+  bind f.out -- w.work; w.store -- s[i % 2].work; w.log -- log;
+}"""
+
+
+async def try_parts(tries):
+    """Three lanes that share a log are changed one after the other, each with its store."""
+    classes = [Lane, Works, Worker]
+    stores = ["lane[%d].s[%d]" % (at, at % 2) for at in range(3)]
+    lanes = ["lane[%d].f" % at for at in range(3)]
+    async with running(tries.manager, LANES, classes, "Lanes(1)") as system:
+        whole = await system.plan("Lanes(2)")
+        tries.same("at once all lanes are held", [lane + ".out" for lane in lanes], whole.held)
+        made = await system.change("Lanes(2)", within=5, moving=dict(zip(stores, stores)), by_parts=True)
+        changes = [line for line in made.lines if line.startswith("change ")]
+        tries.same("three changes, to systems between", ["change between_0()", "change between_1()", "change Lanes(2)"], changes)
+        tries.same("held in all", [lane + ".out" for lane in lanes], made.held)
+        tries.same("one gate at once", [1, 1, 1], held_at_once(made.lines))
+        tries.same("the system that was asked for", ["Lanes", "2"], system.call)
+        held = await system.change("Lanes(3)", within=5, moving={stores[0]: stores[1], stores[1]: stores[0], stores[2]: stores[2]}, by_parts=True)
+        tries.same("states that go crosswise keep two lanes together", [2, 1], sorted(held_at_once(held.lines), reverse=True))
+        tries.want("refused as a whole", (await ends(system.change("Lanes(4)", by_parts=True))).startswith("WouldLose: "))
+        await system.here.rest()
+        done = sum(system[lane].done for lane in lanes)
+        tries.same("nothing is lost", (done, done), (sum(system[store].count for store in stores), system["l"].count))
+
+
+def held_at_once(lines):
+    """How many gates each session closed: ports at which something was begun, so that it isn't closed at once."""
+    counts = []
+    for line in lines:
+        if line.startswith("start "):
+            sources, counts = {}, counts + [0]
+            ports = 0
+        words = line.split(" ")
+        if words[0] == "make":
+            names = {"source": 1, "map": 1, "place": 2}.get(words[3].split("(")[0], 0)
+            sources.update({str(ports + at): words[3].startswith("source") for at in range(names)})
+            ports += names
+        if words[0] == "close" and sources[words[1]]:
+            counts[-1] += 1
+    return counts
+
+
 # ---- side by side
 
 
@@ -280,7 +360,7 @@ def outside(work):
     return contextvars.Context().run(asyncio.get_running_loop().create_task, work)
 
 
-TRIES = [try_changes, try_plan, try_misuses, try_refusals, try_given_up, try_sessions, try_arrays, try_side_by_side, try_removed]
+TRIES = [try_changes, try_plan, try_misuses, try_refusals, try_given_up, try_sessions, try_arrays, try_parts, try_side_by_side, try_removed]
 
 
 def tries(tries):
