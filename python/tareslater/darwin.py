@@ -5,6 +5,7 @@ and else a chain of `place`s. A requirement at which the component begins become
 are the gates that the package has to close. Each node has the argument CLASS * 65536 + VERSION; further integers stand in its path, as in
 `store.size[512].get`. So a component with another class, version or integer has other nodes.
 """
+import inspect
 import re
 from typing import Dict, List, NamedTuple, Optional, Sequence, Tuple, Type
 
@@ -60,6 +61,9 @@ class Shape:
         for name in (self.name, *cls.provisions, *cls.requirements, *cls.integers):
             if name in KEYWORDS or not re.fullmatch(r"[A-Za-z_][A-Za-z0-9_]{0,63}", name):
                 raise Undescribable("%s: %s is no name of Darwin" % (self.name, name))
+        for parameter in list(inspect.signature(cls.__init__).parameters.values())[1:]:
+            if parameter.kind is not parameter.POSITIONAL_OR_KEYWORD or parameter.default is not parameter.empty:
+                raise Undescribable("%s: __init__ takes integers of the component alone, each without a default, and not %s" % (self.name, parameter))
         for name, size in sizes(cls):
             if isinstance(size, str) and size not in cls.integers:
                 raise Undescribable("%s.%s: its size %s is no integer that __init__ takes" % (self.name, name, size))

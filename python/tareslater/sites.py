@@ -189,9 +189,13 @@ class Site(AnySite):
                 self.link(path, name, end, switch)
         for path, component in self.gone.items():
             component.heir = made.get(switch.moved.get(path, ""))
-            for handle in component._handles.values():
-                if isinstance(handle, Roots):
-                    handle.gate.remove(component.heir)
+            self.end_roots(component)
+
+    def end_roots(self, component: Component) -> None:
+        """Closes the gates of a component for good. Who waits there hears that it is removed, and who its heir is."""
+        for handle in component._handles.values():
+            if isinstance(handle, Roots):
+                handle.gate.remove(component.heir)
 
     def link(self, path: str, name: str, end: Optional[End], switch: Switch) -> None:
         """Lets a requirement lead where the new system has it lead."""
@@ -244,6 +248,8 @@ class Site(AnySite):
         try:
             await self.halt(list(self.components), seconds)
         finally:
+            for component in self.components.values():
+                self.end_roots(component)
             await self.close(self.components.values(), list(self.components))
             if self.closing:
                 await asyncio.wait(self.closing)

@@ -44,6 +44,7 @@ class System:
         self.call: List[str] = []
         self.file = ""
         self.parts = 0  # so many systems between two have been described
+        self.changing: Optional[asyncio.Lock] = None  # held by a change; there is none before the start and after the end
 
     def __getitem__(self, path: str) -> Any:
         """A component of this process."""
@@ -61,10 +62,19 @@ class System:
 
     # ---- start and stop
 
+    @property
+    def turn(self) -> asyncio.Lock:
+        """What a change holds, of a system that was started."""
+        if self.changing is None:
+            raise RuntimeError("the system isn't started, or it is stopped")
+        return self.changing
+
     async def start(self, call: str) -> None:
         """Makes the components of a call, as `Shop(1)`, and opens their gates."""
-        self.changing = asyncio.Lock()
-        async with self.changing:
+        if self.file:
+            raise RuntimeError("the system was started before: a further one is a System of its own")
+        changing = asyncio.Lock()
+        async with changing:
             handle, self.file = tempfile.mkstemp(suffix=".dar")
             with os.fdopen(handle, "w") as file:
                 file.write(self.text)
@@ -76,8 +86,9 @@ class System:
                 await change.switch()
             except BaseException:
                 os.unlink(self.file)
+                self.file = ""
                 raise
-            self.call, self.placed = words, placed
+            self.call, self.placed, self.changing = words, placed, changing
 
     async def flat(self, words: List[str]) -> Placed:
         """A system by its call, with the sites of its components."""
@@ -102,7 +113,8 @@ class System:
 
     async def stop(self, within: float = 5.0) -> None:
         """Begins nothing more, waits for what is under way, and closes all."""
-        async with self.changing:
+        async with self.turn:
+            self.changing = None
             for site in self.sites.values():
                 await site.rest()
             for site in self.sites.values():
@@ -126,7 +138,7 @@ class System:
         before it stay made."""
         if RUNNING.get() is not None:
             raise Misuse("a change is asked for inside a root, for whose end it might wait")
-        async with self.changing:
+        async with self.turn:
             words = words_of(call)
             change = Change(self.placed, await self.flat(words), moving or {})
             self.judge(change, losing)
@@ -239,14 +251,15 @@ class System:
 
     async def plan(self, call: str, moving: Optional[Mapping[str, str]] = None) -> Plan:
         """What a change to this call would hold, remove, make and lose; nothing is changed."""
-        words = words_of(call)
-        new = await self.flat(words)
-        text = await answer([*self.manager, "plan", self.file, *self.call, "--", *words])
-        change, old = Change(self.placed, new, moving or {}), self.placed.graph
-        frozen = {line.split(" ")[1] for line in text.splitlines() if line.startswith("freeze ")}
-        keys = (old.begins(port) for port in old.ports if port.rpartition(".")[0] in frozen)
-        relinked = [key for key, end in new.graph.links.items() if key[0] not in change.made and old.links.get(key) != end]
-        return Plan(
-            sorted("%s.%s" % key for key in keys if key), change.gone, change.made, ["%s.%s" % key for key in relinked],
-            [path for path in change.gone if path in change.moving], lost(self.gone(change), change.moving),
-        )
+        async with self.turn:
+            words = words_of(call)
+            new = await self.flat(words)
+            text = await answer([*self.manager, "plan", self.file, *self.call, "--", *words])
+            change, old = Change(self.placed, new, moving or {}), self.placed.graph
+            frozen = {line.split(" ")[1] for line in text.splitlines() if line.startswith("freeze ")}
+            keys = (old.begins(port) for port in old.ports if port.rpartition(".")[0] in frozen)
+            relinked = [key for key, end in new.graph.links.items() if key[0] not in change.made and old.links.get(key) != end]
+            return Plan(
+                sorted("%s.%s" % key for key in keys if key), change.gone, change.made, ["%s.%s" % key for key in relinked],
+                [path for path in change.gone if path in change.moving], lost(self.gone(change), change.moving),
+            )

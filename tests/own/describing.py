@@ -210,7 +210,16 @@ def threads_wait():
     return Bad
 
 
+def has_a_default():
+    class Bad(Component):
+        def __init__(self, version, name="x"):
+            pass
+
+    return Bad
+
+
 UNSAID = [
+    (has_a_default, "Bad: __init__ takes integers of the component alone, each without a default, and not name='x'"),
     (no_name, "Bind: bind is no name of Darwin"),
     (calls_a_root, "Bad.serve calls out, at which the component begins by itself"),
     (calls_nothing, "Bad: no service calls store"),

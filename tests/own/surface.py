@@ -4,7 +4,7 @@ import contextvars
 import threading
 
 from small import CLASSES, changed, ends, running, writing
-from tareslater import Begins, Component, Misuse, Removed, Requires, provides
+from tareslater import Begins, Component, Misuse, Removed, Requires, System, provides
 
 LEAST = """component Small(int v) { inst c:Client(0); r:Caller(0); s:Server(0); t:Store(v); bind c.out -- s.ask; s.store -- t.put; s.other -- t.put; }
 """
@@ -355,12 +355,33 @@ async def try_removed(tries):
             tries.same("the heir begins", 1, await removed.heir.out(1))
 
 
+async def try_ends(tries):
+    """Before the start, after the end, and in a description with nodes of other kinds."""
+    system = System(ROWS, [Spread, Pool, Worker], tries.manager)
+    tries.same("a change before the start", "RuntimeError: the system isn't started, or it is stopped", await ends(system.change("Row(1)")))
+    came = await ends(system.start("None_such"))
+    tries.want("a start that fails", came.startswith("Refused: description ") and came.endswith(": NoTop None_such"), came)
+    await system.start("Row(1)")
+    spread = system["s"]
+    await system.here.rest()
+    waiting = asyncio.ensure_future(ends(spread.out[0](1)))
+    await asyncio.sleep(0.02)
+    await system.stop()
+    tries.same("who waits at a gate when all ends", "Removed: s.out[0]", await waiting)
+    tries.same("a plan after the end", "RuntimeError: the system isn't started, or it is stopped", await ends(system.plan("Row(1)")))
+    again = "RuntimeError: the system was started before: a further one is a System of its own"
+    tries.same("a second start", again, await ends(system.start("Row(1)")))
+    text = "component sink { provide in; } component Odd { inst s:sink; }"
+    odd = System(text, [Worker], tries.manager)
+    tries.same("a node of another kind", "Undescribable: s sink() is no node of one's own components", await ends(odd.start("Odd")))
+
+
 def outside(work):
     """A task of no root."""
     return contextvars.Context().run(asyncio.get_running_loop().create_task, work)
 
 
-TRIES = [try_changes, try_plan, try_misuses, try_refusals, try_given_up, try_sessions, try_arrays, try_parts, try_side_by_side, try_removed]
+TRIES = [try_changes, try_plan, try_misuses, try_refusals, try_given_up, try_sessions, try_arrays, try_parts, try_side_by_side, try_removed, try_ends]
 
 
 def tries(tries):
