@@ -3,9 +3,11 @@ import asyncio
 import os
 import sys
 import tempfile
+import threading
 
-from small import Store, changed, planted, running, writing
-from tareslater import gates, session, sites
+from small import Client, Store, changed, ends, planted, running, writing
+from tareslater import Begins, Component, Requires, components, gates, provides, session, sites
+from tareslater.gates import RUNNING, Running
 
 
 def leaking(gate):
@@ -66,6 +68,63 @@ async def try_gates(tries):
         await with_slow_root(tries, name, faults, wanted)
     await with_slow_root(tries, "`idle` is left out", [(session.Session, "say", left_out("idle"))], ["GivenUp: still under way: "], 2, 1)
     await with_slow_root(tries, "`idle` is told", [], ["made"], 9, 1)
+
+
+def counted_in(target, root):
+    """Counts a service, and doesn't keep its root open."""
+    with target.owner._lock:
+        target.owner._serving += 1
+    return RUNNING.set(Running(root, target.owner, target.calls))
+
+
+def counted_out(target, root):
+    with target.owner._lock:
+        target.owner._serving -= 1
+
+
+class Sly(Component):
+    """A service that calls more than it declares."""
+
+    store = Requires()
+    other = Requires()
+    out = Begins()
+
+    @provides(other)
+    async def sly(self, event):
+        return await self.store(event)
+
+    @provides(store)
+    async def open_handed(self, event):
+        return await self.store(event)
+
+
+async def try_premises(tries):
+    """A root that ends with its caller (A3), and calls that aren't declared (A4): the package's count finds the store in the middle."""
+    early = [(components.Target, "count_in", counted_in), (components.Target, "count_out", counted_out)]
+    with planted(*early):
+        async with running(tries.manager) as system:
+            event = threading.Event()
+            work = asyncio.ensure_future(system["r"].slowly(event))
+            await asyncio.sleep(0.02)
+            work.cancel()
+            came = await changed(system)
+            event.set()
+            await asyncio.sleep(0.05)
+    tries.same("a root ends with its caller", "NotQuiescent: t; goes on as before", came)
+    text = "component Small(int v) { inst c:Client(0); s:Sly(0); t:Store(v); bind s.out -- s.sly; s.store -- t.write; c.out -- t.put; }"
+    for faults, first, wanted in [
+        ([], "Misuse: s.store is called by no service that declares it", "made"),
+        ([(components, "may_call", lambda owner, requirement, name: RUNNING.get().root)], None, "NotQuiescent: t; goes on as before"),
+    ]:
+        with planted(*faults):
+            async with running(tries.manager, text, [Client, Sly, Store]) as system:
+                event = threading.Event()
+                work = asyncio.ensure_future(ends(system["s"].out(event)))
+                await asyncio.sleep(0.05)
+                tries.same("a call that isn't declared, %s" % ("looked up" if first else "not looked up"), wanted, await changed(system))
+                event.set()
+                tries.want("and its caller", first is None or await work == first)
+                await work
 
 
 async def try_parts(tries):
@@ -170,5 +229,5 @@ async def try_killed(tries):
 
 
 def tries(tries):
-    for each in (try_gates, try_parts, try_managers, try_killed):
+    for each in (try_gates, try_premises, try_parts, try_managers, try_killed):
         asyncio.run(each(tries))

@@ -3,11 +3,16 @@ import asyncio
 import contextlib
 import io
 import logging
+import os
+import subprocess
+import sys
+import tempfile
 import time
 
 import run
 import shop
 from planted import close_without_waiting, leaking, left_out
+from program import TOP
 from small import planted
 from tareslater import changes, gates, session, sites
 
@@ -36,6 +41,7 @@ def slowly(stock, number, item, count):
         return True
 
 
+SUMMARY = os.path.join(TOP, "tools", "session_summary")
 SLOW = (shop.Stock.provisions["reserve"], "handler", slowly)
 UNCOUNTED = (changes.Change, "judge", uncounted)
 LEAK, HASTE = (gates.Gate, "try_enter", leaking), (sites.Site, "close_gate", close_without_waiting)
@@ -76,11 +82,18 @@ def try_faults(tries):
 
 
 def try_changes(tries):
-    """The five changes of the example."""
+    """The five changes of the example, and what its log says of them."""
     said = io.StringIO()
-    with contextlib.redirect_stdout(said):
-        found = asyncio.run(run.trial(16, 4 if tries.quick else 8, command=tries.manager))
+    with tempfile.TemporaryDirectory() as folder:
+        log = os.path.join(folder, "sessions")
+        with contextlib.redirect_stdout(said):
+            found = asyncio.run(run.trial(16, 4 if tries.quick else 8, command=tries.manager, log=log))
+        with open(log) as file:
+            done = subprocess.run([sys.executable, SUMMARY], stdin=file, stdout=subprocess.PIPE, stderr=subprocess.PIPE)
+    rows = [line.split(" ", 1)[1] for line in done.stdout.decode().splitlines() if not line.startswith("  ")]
     tries.same("what the shop lost", [], found)
+    wanted = ["1 -- Shop 2: made", "2 -- Shop 3: made", "3 -- Shop 4: NOT MADE", "3 -- Shop 4: made", "4 -- Shop 5: made"]
+    tries.same("its log", (["Shop " + row for row in wanted], b""), (rows, done.stderr))
     tries.same("changes", ["2:", "3:", "4:", "4:", "5:"], [line[:2] for line in said.getvalue().splitlines() if line[0].isdigit()][:5])
 
 
