@@ -1,0 +1,233 @@
+"""Faults that are planted in the package, in a small system, and what catches each."""
+import asyncio
+import os
+import sys
+import tempfile
+import threading
+
+from small import Client, Store, changed, ends, planted, running, writing
+from tareslater import Begins, Component, Requires, components, gates, provides, session, sites
+from tareslater.gates import RUNNING, Running
+
+
+def leaking(gate):
+    """A gate that holds nobody."""
+    with gate.lock:
+        gate.count += 1
+        return True
+
+
+def close_without_waiting(site, roots, number, tell):
+    """Says that a gate is closed, and not that it is busy."""
+    roots.gate.close(lambda: None)
+    tell("closed %d" % number)
+
+
+def left_out(word):
+    """Says everything but lines of this word."""
+    say = session.Session.say
+    return lambda self, line: None if line.startswith(word) else say(self, line)
+
+
+def told_twice(self, line):
+    """Says each closed gate twice."""
+    for _ in range(2 if line.startswith("closed") else 1):
+        self.loop.call_soon_threadsafe(self.put, line)
+
+
+def idle_at_once(site, roots, number, tell):
+    """Says at once that a busy gate is idle."""
+    if roots.gate.close(lambda: None):
+        tell("busy %d" % number)
+        tell("idle %d" % number)
+    tell("closed %d" % number)
+
+
+async def with_slow_root(tries, name, faults, wanted, within=0.2, lasts=20):
+    """A change while a write is under way, which it touches; how it ends, and that the write isn't cut off."""
+    with planted(*faults):
+        async with running(tries.manager) as system:
+            async with writing(system) as event:
+                asyncio.get_running_loop().call_later(lasts, event.set)
+                came = await changed(system, within=within)
+    tries.want(name, any(came.startswith(one) for one in wanted) and (came == "made" or came.endswith("; goes on as before")), came)
+
+
+async def try_gates(tries):
+    rows = [
+        ("nothing is wrong", [], ["GivenUp: still under way: r.slowly"]),
+        ("a close isn't waited for", [(sites.Site, "close_gate", close_without_waiting)], ["NotQuiescent: t, "]),
+        ("`idle` comes at once", [(sites.Site, "close_gate", idle_at_once)], ["NotQuiescent: t, "]),
+        ("`closed` is left out", [(session.Session, "say", left_out("closed"))], ["GivenUp: still under way: "]),
+        ("`busy` is left out", [(session.Session, "say", left_out("busy"))], ["NotQuiescent: t, ", "Refused: denied "]),
+        ("`closed` comes twice", [(session.Session, "say", told_twice)], ["Refused: bad "]),
+        ("a gate isn't closed", [(gates.Gate, "close", lambda gate, on_idle: False)], ["NotQuiescent: "]),
+        ("the gate doesn't hold", [(gates.Gate, "try_enter", leaking)], ["GivenUp: ", "NotQuiescent: ", "Refused: denied "]),
+    ]
+    for name, faults, wanted in rows:
+        await with_slow_root(tries, name, faults, wanted)
+    await with_slow_root(tries, "`idle` is left out", [(session.Session, "say", left_out("idle"))], ["GivenUp: still under way: "], 2, 1)
+    await with_slow_root(tries, "`idle` is told", [], ["made"], 9, 1)
+
+
+def counted_in(target, root):
+    """Counts a service, and doesn't keep its root open."""
+    with target.owner._lock:
+        target.owner._serving += 1
+    return RUNNING.set(Running(root, target.owner, target.calls))
+
+
+def counted_out(target, root):
+    with target.owner._lock:
+        target.owner._serving -= 1
+
+
+class Sly(Component):
+    """A service that calls more than it declares."""
+
+    store = Requires()
+    other = Requires()
+    out = Begins()
+
+    @provides(other)
+    async def sly(self, event):
+        return await self.store(event)
+
+    @provides(store)
+    async def open_handed(self, event):
+        return await self.store(event)
+
+
+async def try_premises(tries):
+    """A root that ends with its caller (A3), and calls that aren't declared (A4): the package's count finds the store in the middle."""
+    early = [(components.Target, "count_in", counted_in), (components.Target, "count_out", counted_out)]
+    with planted(*early):
+        async with running(tries.manager) as system:
+            event = threading.Event()
+            work = asyncio.ensure_future(system["r"].slowly(event))
+            await asyncio.sleep(0.02)
+            work.cancel()
+            came = await changed(system)
+            event.set()
+            await asyncio.sleep(0.05)
+    tries.same("a root ends with its caller", "NotQuiescent: t; goes on as before", came)
+    text = "component Small(int v) { inst c:Client(0); s:Sly(0); t:Store(v); bind s.out -- s.sly; s.store -- t.write; c.out -- t.put; }"
+    for faults, first, wanted in [
+        ([], "Misuse: s.store is called by no service that declares it", "made"),
+        ([(components, "may_call", lambda owner, requirement, name: RUNNING.get().root)], None, "NotQuiescent: t; goes on as before"),
+    ]:
+        with planted(*faults):
+            async with running(tries.manager, text, [Client, Sly, Store]) as system:
+                event = threading.Event()
+                work = asyncio.ensure_future(ends(system["s"].out(event)))
+                await asyncio.sleep(0.05)
+                tries.same("a call that isn't declared, %s" % ("looked up" if first else "not looked up"), wanted, await changed(system))
+                event.set()
+                tries.want("and its caller", first is None or await work == first)
+                await work
+
+
+async def try_parts(tries):
+    """What fails of a component itself undoes the change."""
+    rows = [("open", "OSError: no room"), ("take", "ValueError: not of mine"), ("state", "ValueError: not at hand")]
+    for fails, wanted in rows:
+        async with running(tries.manager) as system:
+            with planted((Store, "fails", fails)):
+                tries.same("`%s` fails" % fails, wanted + "; goes on as before", await changed(system))
+            tries.same("and then it doesn't", "made", await changed(system))
+
+
+# says what it has, and behind `go` the rest; a patient one waits before `ready` until all that is busy was told idle
+SAYS = """import sys
+def heard(is_enough):
+    lines = []
+    while not is_enough(lines) and (line := sys.stdin.readline()): lines.append(line.split())
+def count(lines, word): return sum(line[0] == word for line in lines)
+have, _, ready = open(sys.argv[1]).read().partition("wait 20\\n")
+print(have + "wait 20", flush=True)
+if PATIENT: heard(lambda lines: count(lines, "closed") == have.count("\\nclose ") and count(lines, "busy") == count(lines, "idle"))
+print(ready, flush=True)
+heard(lambda lines: ["go"] in lines)
+print(sys.argv[2], flush=True)
+"""
+SILENT = SAYS.replace("PATIENT", "True").replace("print(sys.argv[2]", "import time; time.sleep(20); print(sys.argv[2]")
+HASTY, PATIENT = SAYS.replace("PATIENT", "False"), SAYS.replace("PATIENT", "True")
+
+
+async def try_managers(tries):
+    """Managers that are silent, hasty, of another mind, or aren't there."""
+    async with running(tries.manager) as system:
+        right = (await system.change("Small(1)", moving={"t": "t"})).lines
+        heard = [line for line in right if not line.startswith("> ")]
+        start, wait = heard[: heard.index("wait 20") + 1], heard.index("ready")
+        drained, acts = heard[len(start) : wait + 1], heard[wait + 1 :]
+        await system.change("Small(0)", moving={"t": "t"})
+        rows = [
+            ("it waits for nothing", start + drained, acts, "NotQuiescent: t, r.slowly"),
+            ("it forgets a link", start + drained, [line for line in acts if not line.startswith("link")], "NotQuiescent: t, r.slowly"),
+            ("it begins elsewhere", start[:4] + start[5:] + drained, acts, "ManagerDied: it "),
+            ("it asks for no gate", [line for line in start if not line.startswith("close")] + ["ready"], acts, "NotQuiescent: t"),
+            ("it says what isn't known", start[:9] + ["nonsense"] + start[9:], acts, "ManagerDied: it "),
+            ("it names a port that isn't", [line.replace("close ", "close 9") for line in start], acts, "ManagerDied: it names port 9"),
+        ]
+        for name, first, last, wanted in rows:
+            async with writing(system):
+                with talking(system, HASTY, first, last):
+                    came = await changed(system)
+            tries.want(name, came.startswith(wanted) and came.endswith("; goes on as before"), came)
+        with talking(system, PATIENT, start + drained, [line for line in acts if not line.startswith("link")]):
+            tries.same("it leads elsewhere", "ManagerDied: it leads to another system than that which was asked for; goes on as before", await changed(system))
+        grace, system.grace = system.grace, 1
+        with talking(system, SILENT, start + drained, acts):
+            tries.same("it is silent", "ManagerDied: silent for 1 seconds; goes on as before", await changed(system))
+        system.grace = grace
+        with talking(system, PATIENT, start + drained, acts):
+            tries.same("it says what is right", "made", await changed(system))
+        system.manager = ["./no_such_manager"]
+        tries.same("it isn't there", "ManagerDied: ./no_such_manager can't be started: No such file or directory; goes on as before", await changed(system, "Small(2)"))
+
+
+class talking:
+    """Puts a program in the place of the manager, for `apply` alone."""
+
+    def __init__(self, system, program, first, last):
+        self.system, self.program, self.right = system, program, system.manager
+        self.first, self.last = "\n".join(first), "\n".join(last)
+
+    def __enter__(self):
+        with tempfile.NamedTemporaryFile("w", suffix=".txt", delete=False) as file:
+            file.write(self.first)
+        self.name = file.name
+        choose = "import os, sys\nif 'apply' not in sys.argv[3:]: os.execvp(sys.argv[3], sys.argv[3:])\n"
+        self.system.manager = [sys.executable, "-c", choose + self.program, self.name, self.last, *self.right]
+
+    def __exit__(self, *_):
+        self.system.manager = self.right
+        os.unlink(self.name)
+
+
+async def try_killed(tries):
+    """A manager that dies behind each line, and within each: all or nothing."""
+    cut = [sys.executable, os.path.join(os.path.dirname(os.path.abspath(__file__)), "cut.py")]
+    async with running(tries.manager) as system:
+        count = len([line for line in (await system.change("Small(1)", moving={"t": "t"})).lines if not line.startswith("> ")])
+        made = {"behind": [], "within": []}
+        step = 9 if tries.quick else 1
+        for keeps, where in ((1, "behind"), (0, "within")):
+            for lines in sorted({*range(1, count + 1, step), count}):
+                system.manager = [*cut, str(lines), str(keeps), *tries.manager]
+                came = await changed(system, "Small(%d)" % (100 * keeps + lines + 2))
+                if came == "made":
+                    made[where].append(lines)
+                else:
+                    tries.want("%s line %d" % (where, lines), came.startswith("ManagerDied: its output ends") and came.endswith("; goes on as before"), came)
+        system.manager = tries.manager
+        tries.same("made only behind the whole of `commit`", {"behind": [count], "within": []}, made)
+        tries.same("and after all of that", "made", await changed(system))
+        client, store = system["c"], system["t"]
+    tries.want("no root was lost or came twice", 0 <= store.count - client.done <= 4, (store.count, client.done))
+
+
+def tries(tries):
+    for each in (try_gates, try_premises, try_parts, try_managers, try_killed):
+        asyncio.run(each(tries))
