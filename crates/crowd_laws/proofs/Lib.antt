@@ -9,4 +9,5 @@ mod FirstCrowds
 mod Renumbering
 mod GraphNumbers
 mod TakingOver
+mod Staying
 mod WorkedCrowd
