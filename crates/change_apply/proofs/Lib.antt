@@ -1,0 +1,7 @@
+mod StandLemmas
+mod ListLemmas
+mod BeginLemmas
+mod ReadLemmas
+mod EndLemmas
+mod TalkLemmas
+mod CourseLemmas

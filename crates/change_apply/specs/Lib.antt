@@ -1,0 +1,9 @@
+pub mod Sessions
+pub mod Standing
+pub mod Courses
+pub mod Lines
+pub mod Replies
+pub mod Applied
+pub mod Talks
+pub mod Talking
+pub mod Reading

@@ -1,0 +1,13 @@
+mod Alike
+mod Ledger
+mod Coming
+mod Holding
+mod Shutting
+mod Changing
+mod Going
+mod FirstCrowds
+mod Renumbering
+mod GraphNumbers
+mod TakingOver
+mod Staying
+mod WorkedCrowd
