@@ -1,6 +1,6 @@
 -- Lists through a map.
 use Rattle.std.proofs.Common.{◌≡◌, ℕ, ◌+◌, ◌-◌, ◌<◌, suc, Bool, false, cond, List, [], ◌∷◌, ◌++◌, length, map, take, drop, get_or, position, Option, Some, None, slice_get, refl, ap, sym, ◌∙◌, arith, All, replicate, filter_map, ◌≤◌}
-use Rattle.std.specs.List.{list_any, list_all, prefix_len, filter, cons_option, count_by}
+use Rattle.std.specs.List.{list_any, prefix_len, filter, cons_option, count_by}
 use Rattle.std.proofs.lemmas.List.{length-map, length-append, take_at, map-append, take_more, take-append-drop, drop_more, map_more}
 use Rattle.std.proofs.lemmas.Option.{get_or_from_slice_get, slice_get_within}
 use Rattle.std.proofs.lemmas.List.Elements.{All-cons}
@@ -9,10 +9,6 @@ use Rattle.std.proofs.lemmas.List.Sums.{sum_by-append}
 pub list_any-map : {A B : Type 0} (p : B → Bool) (f : A → B) (xs : List A) → list_any p (map f xs) ≡ list_any (λ x. p (f x)) xs
 list_any-map p f [] = refl
 list_any-map p f (x ∷ xs) = simp (list_any-map p f xs)
-
-pub list_all-map : {A B : Type 0} (p : B → Bool) (f : A → B) (xs : List A) → list_all p (map f xs) ≡ list_all (λ x. p (f x)) xs
-list_all-map p f [] = refl
-list_all-map p f (x ∷ xs) = simp (list_all-map p f xs)
 
 pub prefix_len-map : {A B : Type 0} (p : B → Bool) (f : A → B) (xs : List A) → prefix_len p (map f xs) ≡ prefix_len (λ x. p (f x)) xs
 prefix_len-map p f [] = refl

@@ -24,7 +24,6 @@ use Rattle.quiesce_core.specs.Effect.{with_closed}
 use Rattle.quiesce_core.specs.Live.{IsGraphOf}
 use Rattle.quiesce_core.specs.Rules.{is_live_port}
 use Rattle.quiesce_core.specs.State.{Configuration, owner}
-use Rattle.quiesce_core.specs.WellFormed.{IsSound}
 use Rattle.quiesce_core.specs.declared.event.Event.TheVariants as event
 use Rattle.quiesce_core.specs.declared.state.Slot.{Slot}
 use Rattle.txn_records.specs.Entries.{config_of, events_in}
@@ -50,7 +49,6 @@ use Rattle.change_engine.specs.Passivating.{AreLivePorts, Passivated, Passivatio
 use Rattle.change_engine.specs.Planning.{MayCarryOut}
 use Rattle.change_engine.specs.declared.engine.Change.{Change}
 use Rattle.change_engine.specs.declared.engine.Engine.{Engine}
-use Rattle.change_lists.specs.declared.layout.Layout.{Layout}
 use Rattle.change_lists.proofs.LayoutLaws.{same_laid}
 use Rattle.change_engine.specs.declared.passivating.LeftRoot.{LeftRoot}
 use Rattle.change_engine.specs.declared.passivating.Waiting.{Waiting}
@@ -77,9 +75,6 @@ same_pending within (x ∷ left) h = ap (λ t. said (to.Pending within) ∷ root
 no_entries : (xs : List LeftRoot) → entries (map root_item xs) ≡ []
 no_entries [] = refl
 no_entries (x ∷ xs) = no_entries xs
-
-pub same_told : (l : Layout) (g : Graph) (c d : Configuration) → SameLinks c d → IsSound d → IsLaidOut l g c → IsLaidOut l g d
-same_told l g c d same sound h = record { laid = same_laid l c d g same h.laid; graph = same_graph c d g same h.graph; sound = sound }
 
 same_made : (c d : Configuration) → SameLinks c d → made_in c ≡ made_in d
 same_made c d same = ap (λ (s : List Slot). record { nodes = length s; ports = length c.gates }) (sym same.slots) ∙ ap (λ n. record { nodes = length d.slots; ports = n }) (sym same.long)

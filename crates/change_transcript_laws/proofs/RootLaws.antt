@@ -221,12 +221,6 @@ by_lines p (l ∷ ls) = by (event_of l) (by_lines p ls)
     by None rest = rest
     by (Some e) rest = ap (λ b. reopens p e || b) rest
 
--- closes and looks are no other events
-abbrev is_other : HistoryLine → Bool
-is_other (to.Close p) = false
-is_other (to.Drained p k) = false
-is_other _ = true
-
 none_looks : (test : HistoryLine → Bool) → ((p k : ℕ) → test (to.Drained p k) ≡ false) → (found : List Found) → any_line test (map look_item found) ≡ false
 none_looks test h [] = refl
 none_looks test h (f ∷ found) = by (is_drained_word f.word) (none_looks test h found)

@@ -1,5 +1,5 @@
 -- Lemmas on the nodes to which nodes lead, on ways and on cycles.
-use Rattle.std.proofs.Common.{◌≡◌, ◌<◌, ◌≤◌, ℕ, zero, suc, Bool, true, false, List, Option, Some, None, option_map, slice_get, length, IfSome, refl, sym, ◌∙◌, ap, arith}
+use Rattle.std.proofs.Common.{◌≡◌, ◌<◌, ◌≤◌, ℕ, Bool, true, false, List, Option, Some, None, option_map, slice_get, length, IfSome, refl, sym, ◌∙◌, ap, arith}
 use Rattle.std.specs.Prelude.{if◌then◌else◌}
 use Rattle.std.proofs.Common.{eqb, ◌||◌, subst}
 use Rattle.std.specs.Prelude.{All}
@@ -10,7 +10,7 @@ use Rattle.std.proofs.lemmas.Bool.{false≢true}
 use Rattle.std.proofs.lemmas.Bool.Decides.{nat_tests}
 use Rattle.config_graph.specs.Kinds.{row, depends_on, is_depended_on}
 use Rattle.config_graph.specs.Graph.{Graph, IsLinkWithin, provides_at, provides_of, requires_at, requires_of, target_of}
-use Rattle.config_graph.specs.Cycles.{FirstOnCycle, OnCycle, IsLinked, depends_at, is_depended_at, leads_by, graph_wiring}
+use Rattle.config_graph.specs.Cycles.{OnCycle, IsLinked, depends_at, is_depended_at, leads_by, graph_wiring}
 use Rattle.config_graph.specs.Walks.{onward, step}
 use Rattle.config_graph.specs.Wiring.{MayCall, CallPath, HasNoCycle}
 use Rattle.config_graph.specs.declared.kind.Kind.{Kind}
@@ -126,14 +126,6 @@ MayCall-ends g graph i j h =
 -- where no node of the graph is on a cycle, there is none
 pub no_cycle : (g : Graph) → ((i : ℕ) → i < length g.nodes → ¬ OnCycle g i) → HasNoCycle (graph_wiring g)
 no_cycle g h i way = h i (CallPath-within g i i way) way
-
--- where no node is the first on a cycle, none is on one
-pub no_first : (g : Graph) → ((i : ℕ) → ¬ FirstOnCycle g i) → HasNoCycle (graph_wiring g)
-no_first g none i way = below (suc i) i (omega arith) way
-  where
-    below : (n j : ℕ) → j < n → ¬ OnCycle g j
-    below zero j low way = absurd (omega (arith, low))
-    below (suc n) j low way = none j (record { on_cycle = way; first = λ k less. below n k (omega (arith, low, less)) })
 
 -- a condition on the value in an option, as a callee asks for it
 pub ForSome-from_IfSome : {A : Type 0} (o : Option A) (P Q : A → Type 0) → IfSome o P → ((x : A) → P x → Q x) → (x : A) → o ≡ Some x → Q x
