@@ -1,7 +1,7 @@
 -- Lists by the tests that their elements pass: all of them, some, and how many.
 use Rattle.std.proofs.Common.{◌≡◌, ◌∙◌, ◌++◌, ℕ, ◌+◌, ◌<◌, ◌≤◌, Bool, true, false, cond, ◌||◌, slice_get, Some, List, [], ◌∷◌, refl, sym, ap, subst, zero-add, ⊎_elim, arith, Contains}
 use Rattle.std.specs.List.{count_by, list_all, list_any, AllByRecursion}
-use Rattle.std.proofs.lemmas.Bool.{and_parts, both_ways, eqb-true, or_cases, or_parts}
+use Rattle.std.proofs.lemmas.Bool.{and_parts, both_ways, eqb-true, or_cases, or_parts, and_from}
 use Rattle.std.proofs.lemmas.Option.{same_Some}
 use Rattle.std.specs.Prelude.{◌==◌}
 use Rattle.std.proofs.lemmas.List.Sums.{sum_by-cons}
@@ -13,6 +13,13 @@ all_have p [] h x there = absurd (Contains-nil x there)
 all_have p (y ∷ xs) h x there =
     let w = and_parts (p y) (list_all p xs) h in
     ⊎_elim (λ (here : x ≡ y). ap p here ∙ w.0) (λ (later : Contains xs x). all_have p xs w.1 x later) (Contains-cons_cases y xs x there)
+
+-- where one test is passed by all that pass another, it is passed by all of a list that pass the other
+pub list_all-weaker : {A : Type 0} (p q : A → Bool) → ((x : A) → p x ≡ true → q x ≡ true) → (xs : List A) → list_all p xs ≡ true → list_all q xs ≡ true
+list_all-weaker p q each [] all = refl
+list_all-weaker p q each (x ∷ xs) all =
+    let both = and_parts (p x) (list_all p xs) all in
+    and_from (q x) (list_all q xs) (each x both.0) (list_all-weaker p q each xs both.1)
 
 pub count_by-one : {A : Type 0} (p : A → Bool) (x : A) → count_by p (x ∷ []) ≡ cond (p x) 1 0
 count_by-one p x = zero-add (cond (p x) 1 0)

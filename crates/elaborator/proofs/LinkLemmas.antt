@@ -1,5 +1,5 @@
 -- The links of an expansion: which port of a node a chain reaches.
-use Rattle.std.proofs.Common.{◌≡◌, ◌∙◌, ℕ, zero, suc, ◌<◌, false, List, Option, Some, None, length, get_or, refl, ap, sym, subst, arith}
+use Rattle.std.proofs.Common.{◌≡◌, ◌∙◌, ℕ, ◌<◌, false, List, Option, Some, None, length, get_or, refl, ap, sym, subst, arith}
 use Rattle.std.specs.List.{slice_get}
 use Rattle.std.specs.Option.{is_some, option_map}
 use Rattle.std.specs.Str.{bytes_eq}
@@ -8,10 +8,9 @@ use Rattle.std.proofs.lemmas.List.{length-map}
 use Rattle.std.proofs.lemmas.List.Quantifiers.{position-Some}
 use Rattle.std.proofs.lemmas.Slice.Eq.{bytes_eq-Decides}
 use Rattle.config_graph.specs.declared.kind.Kind.{Kind}
-use Rattle.config_graph.specs.declared.kind.Kind.TheVariants.{Philosopher, Place, Fork, Source, Map, Buffer, Sink, Teller, Branch, Account, Asker, Adder}
 use Rattle.config_graph.specs.declared.node.Node.{Node}
 use Rattle.config_graph.specs.declared.node.Target.{Target}
-use Rattle.config_graph.specs.Kinds.{row, Provision}
+use Rattle.config_graph.specs.Kinds.{row}
 use Rattle.darwin_parser.specs.declared.tree.Side.{Side}
 use Rattle.darwin_parser.specs.declared.tree.Side.TheVariants.{Provide, Require}
 use Rattle.darwin_parser.specs.Tree.{Name, PortDecl, port_of}
@@ -31,22 +30,6 @@ use Rattle.elaborator.specs.declared.chains.PortId.{PortId}
 use Rattle.elaborator.specs.declared.nodes.Nodes.{Nodes}
 use Rattle.elaborator.proofs.IndexLemmas.{same_numbered}
 use Rattle.base.proofs.OptionLaws.{None-from_is_some, option_map_some}
-
--- no kind has a second provision
-pub one_provision : (k : Kind) (n : ℕ) (p : Provision) → slice_get (row k).provides n ≡ Some p → n ≡ 0
-one_provision k zero p at = refl
-one_provision Philosopher (suc n) p at = absurd (none-some p at)
-one_provision Place (suc n) p at = absurd (none-some p at)
-one_provision Fork (suc n) p at = absurd (none-some p at)
-one_provision Source (suc n) p at = absurd (none-some p at)
-one_provision Map (suc n) p at = absurd (none-some p at)
-one_provision Buffer (suc n) p at = absurd (none-some p at)
-one_provision Sink (suc n) p at = absurd (none-some p at)
-one_provision Teller (suc n) p at = absurd (none-some p at)
-one_provision Branch (suc n) p at = absurd (none-some p at)
-one_provision Account (suc n) p at = absurd (none-some p at)
-one_provision Asker (suc n) p at = absurd (none-some p at)
-one_provision Adder (suc n) p at = absurd (none-some p at)
 
 -- a port of an instance that isn't indexed, by its side and its name
 pub record Plain (e : Expanded) (id : PortId) (i : Instance) (side : Side) (name : Name) : Type 0 where
