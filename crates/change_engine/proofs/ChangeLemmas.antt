@@ -1,6 +1,6 @@
 -- An engine whose change is open.
 use Rattle.std.proofs.Common.{◌≡◌, ◌≤◌, ◌<◌, ◌+◌, ℕ, true, false, List, [], ◌∷◌, ◌++◌, length, map, Option, Some, None, refl, sym, ap, ◌∙◌, subst, ⊎_elim, arith, vec_len}
-use Rattle.std.specs.Prelude.{IfErr, IfOk, OnOk, Result, Ok, Err, flat_map}
+use Rattle.std.specs.Prelude.{IfErr, Result, Ok, Err, flat_map}
 use Rattle.std.specs.Global.{Vec}
 use Rattle.std.specs.Vec.{vec_capacity}
 use Rattle.std.proofs.lemmas.List.{append-nil}
@@ -389,11 +389,6 @@ waited W a b h i j ports within left x grown = record {
   ends = x.ends;
   grew = grew_both W a b b h i j (passivation_items ports x.how) (map said (left_lines within left)) x.grew (said_alone W b i j (left_lines within left) grown);
 }
-
--- what an answer says of the roots that are left
-pub ok_if : {E : Type 0} (P Q : Type 0) → (P → Q) → (r : Result (Unit {0}) E) → OnOk r P → IfOk r (λ _. Q)
-ok_if P Q f (Ok x) h = f h
-ok_if P Q f (Err e) h = tt
 
 pub no_memory_if : (P : Type 0) → P → (r : Result (Unit {0}) PassError) → IfErr r (WhereNoMemory P)
 no_memory_if P h (Ok x) = tt

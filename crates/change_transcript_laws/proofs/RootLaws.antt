@@ -25,8 +25,8 @@ use Rattle.change_spec.specs.Lawful.{StoodOpen, StoodOpenWhereSaid}
 use Rattle.change_spec.specs.Members.{Member, event_of, is_close, is_pending, is_root, line_of}
 use Rattle.change_spec.specs.Scene.{Seen}
 use Rattle.change_spec.specs.Statements.{Statement, start, change, run, finish, show}
-use Rattle.change_spec.proofs.TestLaws.{counted_some}
 use Rattle.base.proofs.ListLaws.{count_by-some}
+use Rattle.base.proofs.CountLaws.{counted_some}
 use Rattle.txn_records.specs.declared.entry.Entry.{Entry}
 use Rattle.txn_records.specs.declared.entry.Entry.TheVariants.{Did, Looked, Sighted, Scanned}
 use Rattle.txn_records.specs.Looks.{is_drained_word, serial_of}

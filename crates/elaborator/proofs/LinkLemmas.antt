@@ -30,6 +30,7 @@ use Rattle.elaborator.specs.declared.chains.PortId.{PortId}
 use Rattle.elaborator.specs.declared.nodes.Nodes.{Nodes}
 use Rattle.elaborator.proofs.IndexLemmas.{same_numbered}
 use Rattle.base.proofs.OptionLaws.{None-from_is_some, option_map_some}
+use Rattle.base.proofs.PlaceLaws.{value_read}
 
 -- a port of an instance that isn't indexed, by its side and its name
 pub record Plain (e : Expanded) (id : PortId) (i : Instance) (side : Side) (name : Name) : Type 0 where
@@ -86,10 +87,6 @@ decl_read e n k x i d made at within read =
     let same = same_instance e n x i made at in
     let inside : k < length x.component.now.ports.items = omega (arith, within, ap (λ (j : Instance). length j.component.ports) same, length-map x.component.now.ports.items port_of) in
     ap (λ (j : Instance). slice_get j.component.ports k) same ∙ slice_get-map port_of x.component.now.ports.items k ∙ ap (option_map port_of) (slice_get_read x.component.now.ports.items _ k d refl inside read)
-
--- a value that the code read
-pub value_read : {A : Type 0} (xs : List A) (k : ℕ) (v : A) → k < length xs → v ≡ get_or xs k v → slice_get xs k ≡ Some v
-value_read xs k v within read = slice_get_read xs _ k v refl within read
 
 -- ---- the provision of a node that a port is
 

@@ -31,9 +31,10 @@ use Rattle.elaborator.proofs.IndexLemmas.{same_numbered, port_functional}
 use Rattle.elaborator.proofs.WholeLemmas.{instances_of, instance_stands, numbered_at}
 use Rattle.elaborator.proofs.FollowLemmas.{Indexed, end_reached, end_found}
 use Rattle.elaborator.proofs.NodeLemmas.{node_parts, node_path}
-use Rattle.elaborator.proofs.LinkLemmas.{both_sides, Plain, plain, plain_port, value_read, kind_read}
+use Rattle.elaborator.proofs.LinkLemmas.{both_sides, Plain, plain, plain_port, kind_read}
 use Rattle.elaborator.proofs.PortLemmas.{same_instance}
 use Rattle.base.proofs.ContainsLaws.{Contains-at, Contains-flat_map, Contains-from_flat_map, at_some_place}
+use Rattle.base.proofs.PlaceLaws.{value_read}
 use Rattle.config_graph.proofs.PathLaws.{one_place}
 use Rattle.config_graph.proofs.KindLaws.{only_provision}
 

@@ -1,7 +1,7 @@
 -- The lines that start, change and make.
 use Rattle.std.specs.List.{AllByRecursion}
 use Rattle.std.proofs.lemmas.Option.{same_Some}
-use Rattle.std.proofs.Common.{◌≡◌, ◌==◌, ◌<◌, not, cond, ℕ, ℤ, Bool, true, false, List, [], ◌∷◌, ◌++◌, length, Option, Some, None, IfSome, option_map, codes, bytes_eq, decimal, refl, sym, ap, subst, ◌∙◌, arith}
+use Rattle.std.proofs.Common.{◌≡◌, ◌==◌, ◌<◌, not, ℕ, ℤ, true, false, List, [], ◌∷◌, ◌++◌, length, Option, Some, None, IfSome, option_map, codes, bytes_eq, decimal, refl, sym, ap, subst, ◌∙◌, arith}
 use Rattle.std.specs.Option.{option_map_or, option_zip}
 use Rattle.std.proofs.lemmas.Bool.{and_from, and_parts, cond-false}
 use Rattle.std.proofs.lemmas.Bool.Decides.{nat_tests}
@@ -9,6 +9,7 @@ use Rattle.std.proofs.lemmas.Fmt.{decimal_is_IsNumeral}
 use Rattle.std.proofs.lemmas.List.{append-nil, append_assoc}
 use Rattle.base.proofs.BytesLaws.{same_bytes}
 use Rattle.base.proofs.FindLaws.{find_passes}
+use Rattle.base.proofs.OptionLaws.{unless_some, when_some}
 use Rattle.config_graph.specs.declared.kind.Kind.{Kind}
 use Rattle.config_graph.specs.Kinds.{kind_named, kinds, row}
 use Rattle.config_graph.specs.GraphText.{kind_text}
@@ -23,13 +24,9 @@ use Rattle.report_lines.specs.Parts.{bracketed, is_used_up}
 use Rattle.report_lines.specs.Numbers.{max32, one_in, plain}
 use Rattle.report_lines.specs.Readings.{arg_in, arguments_in, kind_in, kind_of_parts, made_in, make_in, make_line, make_of, source_in, system_in, system_of, typed_in}
 use Rattle.report_lines.specs.ReportLines.{IsName, IsPath, lacks}
-use Rattle.report_lines.proofs.NumberLemmas.{both_are, ended_is, mapped, one_is, one_of, plain_is, plain_of, when_some}
+use Rattle.report_lines.proofs.NumberLemmas.{both_are, ended_is, mapped, one_is, one_of, plain_is, plain_of}
 use Rattle.report_lines.proofs.BracketLemmas.{PartsLack, bracket_is, bracket_of, digits_lack}
 use Rattle.report_lines.proofs.IntegerLemmas.{args_lack, arguments_are, arguments_of}
-
-unless_some : {A : Type 0} (b : Bool) (o : Option A) (y : A) → cond b None o ≡ Some y → (b ≡ false) × (o ≡ Some y)
-unless_some true o y e = let never : ⊥ = cc in absurd never
-unless_some false o y e = (refl, e)
 
 lacks_front : (at : ℕ) (text more : List ℕ) → lacks at (text ++ more) ≡ true → lacks at text ≡ true
 lacks_front at [] more is = refl

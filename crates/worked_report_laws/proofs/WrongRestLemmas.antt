@@ -10,7 +10,7 @@ use Rattle.base.specs.Each.{Each}
 use Rattle.base.proofs.ContainsLaws.{Contains-here, Contains-there}
 use Rattle.base.proofs.EachLaws.{each_at}
 use Rattle.base.proofs.MapLaws.{count_by-append}
-use Rattle.base.proofs.PlaceLaws.{heads_are, tails_are}
+use Rattle.base.proofs.PlaceLaws.{heads_are, tails_are, parted_at}
 use Rattle.component_trait.specs.Moves as moves
 use Rattle.component_trait.specs.States.{NodeState}
 use Rattle.component_trait.specs.Tables.{opening}
@@ -31,8 +31,8 @@ use Rattle.change_spec.specs.Lawful.{CameToRest, EndedSince, IsFinishAt, IsOfIts
 use Rattle.change_spec.specs.Members.{Member, by_node, of_history, event_of, events, lines, state_at}
 use Rattle.change_spec.specs.Opening.{fold_at}
 use Rattle.change_spec.specs.Scene.{config_after}
-use Rattle.change_spec.proofs.MemberLaws.{AtLine, all_parts, at_line, config_of_lines, events_parts, lines_of_nodes, lines_parts, parted_at}
-use Rattle.base.proofs.ListLaws.{count_by-some}
+use Rattle.change_spec.proofs.MemberLaws.{AtLine, at_line, config_of_lines, events_parts, lines_of_nodes, lines_parts}
+use Rattle.base.proofs.ListLaws.{count_by-some, all_parts}
 use Rattle.worked_report_laws.specs.Filled.{log_0, log_1}
 use Rattle.worked_report_laws.specs.Systems.{buffer_at}
 use Rattle.worked_report_laws.specs.WrongRuns.{rested_before}
