@@ -13,7 +13,9 @@ use config_graph::{Node, Target};
 
 /// The rules of a make: the tables have room, the path is free, and what is taken over fits.
 const ROOM: u32 = 18;
+
 const PATH: u32 = 19;
+
 const MOVE: u32 = 26;
 
 impl Tables {
