@@ -38,7 +38,7 @@ use Rattle.node_turn_laws.specs.Turn.{awaits_call, begins, begins_at, calls, doe
 use Rattle.node_turn_laws.specs.World.{first_port}
 use Rattle.node_turn_laws.specs.Agreement.{HasNoCall, ServiceAgrees, ServicesAgree, expects}
 use Rattle.node_turn_laws.specs.Placed.{GoesOn, IsPlaced}
-use Rattle.node_turn_laws.proofs.KindTables.{asks_fit, gives_fit, mores_fit, replies_small, wants_fit}
+use Rattle.component_trait.proofs.TableLaws.{asks_fit, gives_fit, mores_fit, replies_small, wants_fit}
 
 -- ---- cases of a move
 
