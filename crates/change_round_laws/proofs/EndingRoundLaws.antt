@@ -32,7 +32,8 @@ use Rattle.base.proofs.OptionLaws.{Some-from_is_some}
 use Rattle.base.proofs.ListLaws.{none_both}
 use Rattle.quiesce_laws.specs.Lists.{In}
 use Rattle.quiesce_laws.proofs.MemberLaws.{selected}
-use Rattle.node_turn_laws.specs.Round.{Round, after_rounds, ended, give_turn, ends_transaction, live_nodes, round, stands_still}
+use Rattle.node_turn_laws.specs.Round.{Round, after_rounds, ended, give_turn, live_nodes, round, stands_still}
+use Rattle.quiesce_laws.specs.Events.{ends_transaction}
 use Rattle.node_turn_laws.specs.Turn.{turn}
 use Rattle.node_turn_laws.specs.World.{World}
 use Rattle.node_turn_laws.specs.Reached.{IsReached}

@@ -13,10 +13,9 @@ use Rattle.quiesce_core.specs.declared.event.Event.TheVariants as event
 use Rattle.quiesce_core.specs.Runs.{IsRun, done_by, is_begin_of, is_end_of, state_after}
 use Rattle.quiesce_core.specs.State.{exchange}
 use Rattle.quiesce_core.proofs.RunLaws.{fronts_are_runs}
-use Rattle.quiesce_laws.specs.Events.{is_root_of}
+use Rattle.quiesce_laws.specs.Events.{is_root_of, ends_transaction}
 use Rattle.quiesce_laws.specs.Roots.{has_root, is_open_root_after}
 use Rattle.quiesce_laws.proofs.OrderLaws.{begun_count, in_order, was_begun}
-use Rattle.node_turn_laws.specs.Round.{ends_transaction}
 use Rattle.report_types.specs.declared.report.HistoryLine.TheVariants as to
 use Rattle.change_spec.specs.Lawful.{EndedSince, IsDrainedAt, IsEndedAt, Merge}
 use Rattle.change_spec.specs.Members.{Member, of_history, event_of, events, lines, without_roots}

@@ -23,10 +23,9 @@ use Rattle.quiesce_core.specs.declared.event.Event.TheVariants as event
 use Rattle.quiesce_core.proofs.CarryLaws.{takes_carry_begins}
 use Rattle.quiesce_core.proofs.InductionLaws.{place}
 use Rattle.quiesce_core.proofs.RunLaws.{done_by_more, fronts_are_runs}
-use Rattle.quiesce_laws.specs.Events.{is_take_of}
+use Rattle.quiesce_laws.specs.Events.{is_take_of, ends_transaction}
 use Rattle.quiesce_core.proofs.PortEventLaws.{next_serial}
 use Rattle.quiesce_laws.proofs.OrderLaws.{begun_count, in_order, was_begun}
-use Rattle.node_turn_laws.specs.Round.{ends_transaction}
 use Rattle.report_types.specs.declared.report.HistoryLine.TheVariants as to
 use Rattle.report_types.specs.declared.report.Last.TheVariants as last
 use Rattle.report_types.specs.declared.report.NodeLog.{NodeLog}

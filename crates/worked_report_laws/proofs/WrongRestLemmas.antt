@@ -22,9 +22,8 @@ use Rattle.quiesce_core.specs.Effect.{effect}
 use Rattle.quiesce_core.specs.Runs.{IsRun, done_by, done_from, is_end_of, state_after}
 use Rattle.quiesce_core.specs.State.{Configuration, empty, is_live, slot}
 use Rattle.quiesce_core.proofs.RunLaws.{fronts_are_runs, done_parts}
-use Rattle.quiesce_laws.specs.Events.{is_take_of}
+use Rattle.quiesce_laws.specs.Events.{is_take_of, ends_transaction}
 use Rattle.quiesce_laws.proofs.OrderLaws.{in_order}
-use Rattle.node_turn_laws.specs.Round.{ends_transaction}
 use Rattle.report_types.specs.declared.report.HistoryLine.{HistoryLine}
 use Rattle.report_types.specs.declared.report.HistoryLine.TheVariants as to
 use Rattle.change_spec.specs.Lawful.{CameToRest, EndedSince, IsFinishAt, IsOfItsKind, IsRunAt, Merge, is_done}

@@ -15,7 +15,7 @@ use Rattle.quiesce_core.specs.declared.event.Event.{Event}
 use Rattle.quiesce_core.specs.declared.state.Slot.{Slot}
 use Rattle.quiesce_core.specs.Runs.{IsRun, done_by, state_after}
 use Rattle.quiesce_core.specs.State.{slot}
-use Rattle.node_turn_laws.specs.Round.{ends_transaction}
+use Rattle.quiesce_laws.specs.Events.{ends_transaction}
 use Rattle.report_types.specs.declared.report.HistoryLine.{HistoryLine}
 use Rattle.report_types.specs.declared.report.HistoryLine.TheVariants as to
 use Rattle.report_types.specs.declared.report.Last.TheVariants as last
