@@ -1,5 +1,5 @@
 -- What tests say that are put together of others.
-use Rattle.std.proofs.Common.{◌≡◌, Bool, true, false, not, ◌||◌, refl}
+use Rattle.std.proofs.Common.{◌≡◌, Bool, true, false, not, ◌||◌, refl, inl, inr, ◌⊎◌}
 use Rattle.std.proofs.lemmas.Bool.{both_ways}
 
 pub then_so : (a b : Bool) → (not a || b) ≡ true → a ≡ true → b ≡ true
@@ -18,3 +18,7 @@ flip true true h = h
 flip true false h = refl
 flip false true h = refl
 flip false false h = h
+
+pub ⊎-swap : {P Q : Type 0} → P ⊎ Q → Q ⊎ P
+⊎-swap (inl p) = inr p
+⊎-swap (inr q) = inl q

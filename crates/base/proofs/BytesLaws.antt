@@ -1,5 +1,5 @@
 -- Texts that are equal, by their bytes.
-use Rattle.std.proofs.Common.{◌≡◌, ℕ, Bool, true, false, cond, List, [], ◌∷◌, ◌++◌, bytes_eq, refl, ap, sym, subst, ◌∙◌, ◌≢◌, Some, is_some, inl, inr}
+use Rattle.std.proofs.Common.{◌≡◌, ℕ, Bool, true, false, cond, List, [], ◌∷◌, ◌++◌, bytes_eq, refl, ap, sym, subst, ◌∙◌, ◌≢◌, Some, is_some, inl, inr, ◌<◌, length, get_or}
 use Rattle.std.specs.List.{Contains}
 use Rattle.std.proofs.lemmas.Bool.{true≢false}
 use Rattle.std.proofs.lemmas.Slice.Eq.{bytes_eq-Decides}
@@ -10,6 +10,9 @@ use Rattle.std.specs.Cmp.Lexicographic.{slice_cmp, nat_list_cmp_total}
 use Rattle.std.specs.declared.cmp.Ordering.{Ordering}
 use Rattle.std.specs.declared.cmp.Ordering.TheVariants.{Less, Equal, Greater}
 use Rattle.std.proofs.lemmas.Map.Text.{is_eq-slice_cmp}
+use Rattle.std.proofs.lemmas.List.{ext_get_or}
+use Rattle.std.specs.Prelude.{slice_get}
+use Rattle.std.proofs.lemmas.Option.{get_or_from_slice_get}
 use Rattle.base.proofs.ContainsLaws.{Contains-cons_cases, Contains-nil}
 use Rattle.base.proofs.FindLaws.{found_any, kept_any}
 
@@ -46,3 +49,13 @@ pub before_the_other : (p q : List ℕ) (o : Ordering) → slice_cmp nat_cmp q p
 before_the_other p q Less is not_less other = absurd (true≢false not_less)
 before_the_other p q Equal is not_less other = absurd (other (sym (equal_bytes q p is)))
 before_the_other p q Greater is not_less other = nat_list_cmp_total.antisymm p q ∙ ap ordering_reverse is
+
+pub alike : (xs ys : List ℕ) → length xs ≡ length ys → ((k : ℕ) → k < length xs → get_or xs k 0 ≡ get_or ys k 0) → true ≡ bytes_eq xs ys
+alike xs ys long same = sym ((bytes_eq-Decides xs ys).1 (ext_get_or 0 xs ys long same))
+
+pub unlike : (xs ys : List ℕ) (k n : ℕ) → slice_get xs k ≡ Some n → (n ≡ get_or ys k 0 → ⊥) → false ≡ bytes_eq xs ys
+unlike xs ys k n at other = by (bytes_eq xs ys) refl
+  where
+    by : (b : Bool) → bytes_eq xs ys ≡ b → false ≡ b
+    by false is = refl
+    by true is = absurd (other (sym (get_or_from_slice_get xs k n 0 at) ∙ ap (λ zs. get_or zs k 0) ((bytes_eq-Decides xs ys).0 is)))

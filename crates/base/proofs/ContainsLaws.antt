@@ -1,11 +1,14 @@
 -- What lists contain that are put together, mapped and filtered.
-use Rattle.std.proofs.Common.{◌≡◌, ℕ, zero, suc, Bool, true, false, cond, List, [], ◌∷◌, map, Option, Some, None, slice_get, refl, ap, sym, subst, ◌∙◌, arith, inl, inr, ◌⊎◌}
+use Rattle.std.proofs.Common.{◌≡◌, ℕ, zero, suc, Bool, true, false, cond, List, [], ◌∷◌, map, Option, Some, None, slice_get, refl, ap, sym, subst, ◌∙◌, arith, inl, inr, ◌⊎◌, ◌↔◌, ◌+◌, ◌++◌, take, All}
 use Rattle.std.specs.List.{Contains, filter, flat_map, filter_map, cons_option, list_any}
-use Rattle.std.proofs.lemmas.Bool.{false≢true, or_left, or_right}
-use Rattle.std.proofs.lemmas.List.Elements.{Contains-append_left, Contains-append_right, Contains-append_cases}
+use Rattle.std.proofs.lemmas.Bool.{false≢true, or_left, or_right, both_ways, eqb-true, or_cases}
+use Rattle.std.proofs.lemmas.List.Elements.{Contains-append_left, Contains-append_right, Contains-append_cases, Contains-push, Contains-push_cases, Contains-get_or}
 use Rattle.std.proofs.lemmas.Option.{slice_get-get_or, slice_get_within, get_or_from_slice_get}
 use Rattle.std.proofs.Common.{drop, get_or, ◌<◌, length}
-use Rattle.std.proofs.lemmas.List.{drop_more}
+use Rattle.std.proofs.lemmas.List.{drop_more, take_more}
+use Rattle.std.proofs.Math.Logic.{⊎_elim}
+use Rattle.std.specs.Prelude.{◌==◌}
+use Rattle.base.proofs.PlaceLaws.{any_there}
 
 pub Contains-here : {A : Type 0} (x : A) (xs : List A) → Contains (x ∷ xs) x
 Contains-here x xs = (0, omega arith, refl)
@@ -124,3 +127,25 @@ any_if f xs x there h = let w = at_some_place xs x there in at f xs w.0 x w.1 h
     at f [] i x e h = absurd (cc)
     at f (y ∷ xs) zero x e h = let same : y ≡ x = cc in or_left (f y) (list_any f xs) (ap f same ∙ h)
     at f (y ∷ xs) (suc i) x e h = or_right (f y) (list_any f xs) (at f xs i x e h)
+
+pub any_of : {A : Type 0} (f : A → Bool) (xs : List A) → list_any f xs ≡ true → (x : A) × Contains xs x × (f x ≡ true)
+any_of f xs h = let w = any_there f xs h in (w.1, Contains-at xs w.0 w.1 w.2, w.3)
+
+-- the elements of a list, one element more, and of a list as far as one place more
+pub Contains-pushed : {A : Type 0} (xs : List A) (y x : A) → Contains (xs ++ y ∷ []) x ↔ (Contains xs x ⊎ (y ≡ x))
+Contains-pushed xs y x =
+    (Contains-push_cases xs y x, ⊎_elim (Contains-append_left xs (y ∷ []) x) (λ same. subst (Contains (xs ++ y ∷ [])) same (Contains-push xs y)))
+
+pub Contains_more : {A : Type 0} (xs : List A) (i : ℕ) (d : A) → i < length xs → (x : A) → Contains (take (i + 1) xs) x ↔ (Contains (take i xs) x ⊎ (get_or xs i d ≡ x))
+Contains_more xs i d low x =
+    subst (λ l. Contains l x ↔ (Contains (take i xs) x ⊎ (get_or xs i d ≡ x))) (sym (take_more xs i d low)) (Contains-pushed (take i xs) (get_or xs i d) x)
+
+pub All-from : {A : Type 0} (xs : List A) (P : A → Type 0) → ((x : A) → Contains xs x → P x) → All P xs
+All-from xs P f k d low = f (get_or xs k d) (Contains-get_or xs k d low)
+
+pub contained : (p : ℕ) (xs : List ℕ) → list_any (λ q. q == p) xs ≡ true → Contains xs p
+contained p [] h = absurd (both_ways false refl h)
+contained p (x ∷ xs) h = ⊎_elim
+    (λ (same : (x == p) ≡ true). subst (λ y. Contains (x ∷ xs) y) (eqb-true x p same) (Contains-here x xs))
+    (λ (later : list_any (λ q. q == p) xs ≡ true). Contains-there x p xs (contained p xs later))
+    (or_cases (x == p) (list_any (λ q. q == p) xs) h)

@@ -51,3 +51,11 @@ each_carried {A} {B} f P Q carries before (x ∷ xs) each = by (f x) refl (each_
         subst (λ zs. EachAfter Q zs (filter_map f xs)) (filter_map_pushed f before x None is ∙ append-nil (filter_map f before)) rest
     by (Some y) is rest =
         (carries before x y is each.0, subst (λ zs. EachAfter Q zs (filter_map f xs)) (filter_map_pushed f before x (Some y) is) rest)
+
+-- what is shown at each place holds at each place
+pub each_if : {A : Type 0} (P : List A → A → Type 0) (before xs : List A) → ((ys zs : List A) (x : A) → xs ≡ ys ++ x ∷ zs → P (before ++ ys) x) → EachAfter P before xs
+each_if P before [] h = tt
+each_if P before (x ∷ xs) h = (
+  subst (λ ys. P ys x) (append-nil before) (h [] xs x refl),
+  each_if P (before ++ x ∷ []) xs (λ ys zs y e. subst (λ us. P us y) (sym (append_assoc before (x ∷ []) ys)) (h (x ∷ ys) zs y (ap (λ us. x ∷ us) e))),
+)

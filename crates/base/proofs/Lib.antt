@@ -17,3 +17,5 @@ pub mod SumLaws
 pub mod TellLaws
 pub mod PairedLaws
 pub mod BoolLaws
+pub mod CountLaws
+pub mod AllLaws

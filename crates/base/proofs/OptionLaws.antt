@@ -1,8 +1,9 @@
 -- What options hold that are made of others.
-use Rattle.std.proofs.Common.{◌≡◌, Bool, true, false, not, Option, Some, None, option_map, is_some, is_none, refl, sym, ap}
-use Rattle.std.specs.Option.{option_and_then, option_map_or}
-use Rattle.std.proofs.lemmas.Bool.{false≢true, true≢false}
+use Rattle.std.proofs.Common.{◌≡◌, Bool, true, false, not, Option, Some, None, option_map, is_some, is_none, refl, sym, ap, IfSome, subst, ℕ, eqb, cond}
+use Rattle.std.specs.Option.{option_and_then, option_map_or, option_eq}
+use Rattle.std.proofs.lemmas.Bool.{false≢true, true≢false, eqb-true, eq-eqb}
 use Rattle.std.proofs.lemmas.Option.{none-some, same_Some}
+use Rattle.std.specs.Prelude.{IfNone}
 
 pub is_none-is_some : {A : Type 0} (o : Option A) → is_none o ≡ not (is_some o)
 is_none-is_some None = refl
@@ -57,3 +58,39 @@ made_of_one f (Some x) y h = (x, refl, h)
 pub is_some-map : {A B : Type 0} (f : A → B) (o : Option A) → is_some (option_map f o) ≡ is_some o
 is_some-map f None = refl
 is_some-map f (Some x) = refl
+
+-- a condition on the value in an option, as a callee asks for it
+pub ForSome-from_IfSome : {A : Type 0} (o : Option A) (P Q : A → Type 0) → IfSome o P → ((x : A) → P x → Q x) → (x : A) → o ≡ Some x → Q x
+ForSome-from_IfSome None P Q h f x e = cc
+ForSome-from_IfSome (Some y) P Q h f x e = let same : y ≡ x = cc in f x (subst P same h)
+
+-- two optional numbers that are equal as the code tells it
+pub same_option : (a b : Option ℕ) → option_eq eqb a b ≡ true → a ≡ b
+same_option None None e = refl
+same_option None (Some b) e = cc
+same_option (Some a) None e = cc
+same_option (Some a) (Some b) e = ap Some (eqb-true a b e)
+
+pub same_option_back : (a b : Option ℕ) → a ≡ b → option_eq eqb a b ≡ true
+same_option_back a b e = subst (λ o. option_eq eqb a o ≡ true) e (itself a)
+  where
+    itself : (o : Option ℕ) → option_eq eqb o o ≡ true
+    itself None = refl
+    itself (Some n) = eq-eqb n n refl
+
+pub unless_some : {A : Type 0} (b : Bool) (o : Option A) (y : A) → cond b None o ≡ Some y → (b ≡ false) × (o ≡ Some y)
+unless_some true o y e = let never : ⊥ = cc in absurd never
+unless_some false o y e = (refl, e)
+
+pub when_some : {A : Type 0} (b : Bool) (o : Option A) (y : A) → cond b o None ≡ Some y → (b ≡ true) × (o ≡ Some y)
+when_some true o y e = (refl, e)
+when_some false o y e = let never : ⊥ = cc in absurd never
+
+-- what follows of what is found, and of finding nothing
+pub some_so : {A : Type 0} (P Q : A → Type 0) → ((a : A) → P a → Q a) → (o : Option A) → IfSome o P → IfSome o Q
+some_so P Q f None h = h
+some_so P Q f (Some a) h = f a h
+
+pub none_so : {A : Type 0} (P R Q : Type 0) → (P → R → Q) → (o : Option A) → IfNone o P → IfNone o R → IfNone o Q
+none_so P R Q f None h k = f h k
+none_so P R Q f (Some a) h k = h

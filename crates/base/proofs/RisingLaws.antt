@@ -4,6 +4,9 @@ use Rattle.std.specs.List.{range_with_len}
 use Rattle.std.specs.List.Sorted.{IsStrictlyIncreasing}
 use Rattle.std.proofs.lemmas.Bool.{cases_lt}
 use Rattle.std.proofs.lemmas.List.{get_or_append_left, get_or_push, length-append}
+use Rattle.std.specs.Prelude.{Contains}
+use Rattle.std.proofs.lemmas.List.Kept.{AllPairs-from_increasing}
+use Rattle.base.proofs.OrderedLaws.{one_order}
 
 -- the first places, and one more
 range_more : (a n : ℕ) → range_with_len a (suc n) ≡ range_with_len a n ++ (a + n) ∷ []
@@ -33,3 +36,20 @@ pub rise_tail : (a : ℕ) (xs : List ℕ) → IsStrictlyIncreasing (a ∷ xs) �
 rise_tail a xs h k low =
     let f : suc k + 1 ≡ suc (k + 1) = omega arith in
     subst (λ n. get_or xs k 0 < get_or (a ∷ xs) n 0) f (h (suc k) (omega (arith, low)))
+
+pub rise_more : (a b : ℕ) (xs : List ℕ) → a < b → IsStrictlyIncreasing (b ∷ xs) → IsStrictlyIncreasing (a ∷ (b ∷ xs))
+rise_more a b xs first rest zero low = first
+rise_more a b xs first rest (suc k) low =
+    let f : suc (k + 1) ≡ suc k + 1 = omega arith in
+    let here : get_or (b ∷ xs) k 0 < get_or (b ∷ xs) (k + 1) 0 = rest k (omega (arith, low)) in
+    subst (λ n. get_or (b ∷ xs) k 0 < get_or (a ∷ (b ∷ xs)) n 0) f here
+
+pub rise_first : (a b : ℕ) (xs : List ℕ) → IsStrictlyIncreasing (a ∷ (b ∷ xs)) → a < b
+rise_first a b xs h = h 0 (omega arith)
+
+-- numbers that rise are told by which they are
+pub one_rising :
+    (xs ys : List ℕ) → IsStrictlyIncreasing xs → IsStrictlyIncreasing ys → ((n : ℕ) → Contains xs n → Contains ys n)
+    → ((n : ℕ) → Contains ys n → Contains xs n) → xs ≡ ys
+one_rising xs ys rise rise' all all' =
+    one_order (λ (x y : ℕ). x < y) (λ x y low high. omega (arith, low, high)) xs ys (AllPairs-from_increasing xs rise) (AllPairs-from_increasing ys rise') all all'

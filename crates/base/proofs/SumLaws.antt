@@ -1,9 +1,10 @@
 -- Sums over a range of numbers, of which one term or two change.
-use Rattle.std.proofs.Common.{◌≡◌, ℕ, zero, suc, ◌+◌, ◌<◌, ◌≤◌, Bool, true, false, cond, refl, sym, ap, ◌∙◌, ⊎_elim, arith, List, [], ◌∷◌, length}
-use Rattle.std.specs.Prelude.{◌==◌, sum_by}
+use Rattle.std.proofs.Common.{◌≡◌, ℕ, zero, suc, ◌+◌, ◌<◌, ◌≤◌, Bool, true, false, cond, refl, sym, ap, ◌∙◌, ⊎_elim, arith, List, [], ◌∷◌, length, take, Some, subst, ◌++◌, map}
+use Rattle.std.specs.Prelude.{◌==◌, sum_by, slice_get, Contains}
 use Rattle.std.specs.List.{range_with_len}
 use Rattle.std.proofs.lemmas.Bool.{cases_Bool, cases_eq, eq-eqb, ne_eqb}
 use Rattle.std.proofs.lemmas.List.Sums.{sum_by-cons}
+use Rattle.base.proofs.ContainsLaws.{Contains-here, Contains-there}
 
 pub sum_le : (f g : ℕ → ℕ) (a n : ℕ) → ((i : ℕ) → f i ≤ g i) → sum_by f (range_with_len a n) ≤ sum_by g (range_with_len a n)
 sum_le f g a zero h = omega arith
@@ -104,3 +105,29 @@ sum_same f g n h = omega (arith, sum_le f g 0 n (λ i. omega (arith, h i)), sum_
 pub one_each : {A : Type 0} (xs : List A) → sum_by (λ (_ : A). 1) xs ≡ length xs
 one_each [] = refl
 one_each {A} (x ∷ xs) = omega (arith, sum_by-cons (λ (_ : A). 1) x xs, one_each xs)
+
+pub sum_taken : {A : Type 0} (f : A → ℕ) (xs : List A) (i : ℕ) (x : A) → slice_get xs i ≡ Some x → sum_by f (take i xs) + f x ≤ sum_by f xs
+sum_taken f [] i x h = absurd (cc)
+sum_taken f (y ∷ xs) zero x h =
+    let e : y ≡ x = cc in
+    rw (sum_by-cons f y xs) (subst (λ z. 0 + f z ≤ f y + sum_by f xs) e (omega arith))
+sum_taken f (y ∷ xs) (suc i) x h =
+    rw (sum_by-cons f y (take i xs), sum_by-cons f y xs) (omega (arith, sum_taken f xs i x h))
+
+pub summed : {A : Type 0} (f : A → ℕ) (front back : List A) (x : A) → sum_by f (front ++ x ∷ back) ≡ f x + sum_by f (front ++ back)
+summed f [] back x = sum_by-cons f x back
+summed f (y ∷ front) back x = omega (arith, sum_by-cons f y (front ++ x ∷ back), summed f front back x, sum_by-cons f y (front ++ back))
+
+-- ---- sums over logs
+
+pub sum_both : {A : Type 0} (f g h : A → ℕ) → ((x : A) → f x + g x ≡ h x) → (xs : List A) → sum_by f xs + sum_by g xs ≡ sum_by h xs
+sum_both f g h same [] = omega arith
+sum_both f g h same (x ∷ xs) = let a = sum_by-cons f x xs in let b = sum_by-cons g x xs in let c = sum_by-cons h x xs in let later = sum_both f g h same xs in let here = same x in omega (arith, a, b, c, later, here)
+
+pub sum_each : {A : Type 0} (f g : A → ℕ) (xs : List A) → ((x : A) → Contains xs x → f x ≡ g x) → sum_by f xs ≡ sum_by g xs
+sum_each f g [] same = refl
+sum_each f g (x ∷ xs) same = sum_by-cons f x xs ∙ (λ i. same x (Contains-here x xs) i + sum_each f g xs (λ y there. same y (Contains-there x y xs there)) i) ∙ sym (sum_by-cons g x xs)
+
+pub sum_mapped : {A B : Type 0} (f : A → B) (g : B → ℕ) (xs : List A) → sum_by (λ x. g (f x)) xs ≡ sum_by g (map f xs)
+sum_mapped f g [] = refl
+sum_mapped f g (x ∷ xs) = sum_by-cons (λ x. g (f x)) x xs ∙ ap (λ k. g (f x) + k) (sum_mapped f g xs) ∙ sym (sum_by-cons g (f x) (map f xs))

@@ -1,12 +1,10 @@
 //! What every part stands on: texts and lists as contracts see them, want of memory, and what an answer owes.
 #![tactic(auto)]
 
-mod laws;
 mod list;
 mod pair_laws;
 mod text;
 
-pub use laws::places_keep_what_holds;
 pub use list::List;
 pub use pair_laws::pairs_stay_paired;
 pub use text::Text;

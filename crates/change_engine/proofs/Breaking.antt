@@ -1,6 +1,6 @@
 -- How waits break off.
-use Rattle.std.proofs.Common.{◌≡◌, ℕ, ◌<◌, List, [], ◌∷◌, ◌++◌, append_assoc, length, ap, ◌∙◌, subst, inl, inr, arith, Result, Ok, Err}
-use Rattle.std.specs.Prelude.{◌⊎◌, OnErr}
+use Rattle.std.proofs.Common.{◌≡◌, ℕ, ◌<◌, List, [], ◌∷◌, ◌++◌, append_assoc, length, ap, ◌∙◌, subst, inl, inr, arith}
+use Rattle.std.specs.Prelude.{◌⊎◌}
 use Rattle.std.proofs.lemmas.List.Elements.{filter_map-append}
 use Rattle.report_types.specs.declared.report.HistoryLine.{HistoryLine}
 use Rattle.report_types.specs.declared.report.HistoryLine.TheVariants as to
@@ -51,11 +51,3 @@ module _ {B : Type 0} (W : BoardWords B) where
     broke = λ r s. x.broke (r ++ entries (passivation_items ports how)) (grew.adds r s);
     told_all = x.told_none ∙ grew.adds_lines;
   }
-
-pub on_err : {A E P Q : Type 0} → (P → Q) → (r : Result A E) → OnErr r P → OnErr r Q
-on_err f (Ok x) h = tt
-on_err f (Err e) h = f h
-
-pub on_both_errs : {A E P Q R : Type 0} → (P → Q → R) → (r : Result A E) → OnErr r P → OnErr r Q → OnErr r R
-on_both_errs f (Ok x) h i = tt
-on_both_errs f (Err e) h i = f h i

@@ -1,6 +1,6 @@
 -- An engine whose change is open.
 use Rattle.std.proofs.Common.{◌≡◌, ◌≤◌, ◌<◌, ◌+◌, ℕ, true, false, List, [], ◌∷◌, ◌++◌, length, map, Option, Some, None, refl, sym, ap, ◌∙◌, subst, ⊎_elim, arith, vec_len}
-use Rattle.std.specs.Prelude.{IfErr, IfOk, OnOk, Result, Ok, Err, flat_map}
+use Rattle.std.specs.Prelude.{IfErr, Result, Ok, Err, flat_map}
 use Rattle.std.specs.Global.{Vec}
 use Rattle.std.specs.Vec.{vec_capacity}
 use Rattle.std.proofs.lemmas.List.{append-nil}
@@ -24,7 +24,6 @@ use Rattle.quiesce_core.specs.Effect.{with_closed}
 use Rattle.quiesce_core.specs.Live.{IsGraphOf}
 use Rattle.quiesce_core.specs.Rules.{is_live_port}
 use Rattle.quiesce_core.specs.State.{Configuration, owner}
-use Rattle.quiesce_core.specs.WellFormed.{IsSound}
 use Rattle.quiesce_core.specs.declared.event.Event.TheVariants as event
 use Rattle.quiesce_core.specs.declared.state.Slot.{Slot}
 use Rattle.txn_records.specs.Entries.{config_of, events_in}
@@ -50,7 +49,6 @@ use Rattle.change_engine.specs.Passivating.{AreLivePorts, Passivated, Passivatio
 use Rattle.change_engine.specs.Planning.{MayCarryOut}
 use Rattle.change_engine.specs.declared.engine.Change.{Change}
 use Rattle.change_engine.specs.declared.engine.Engine.{Engine}
-use Rattle.change_lists.specs.declared.layout.Layout.{Layout}
 use Rattle.change_lists.proofs.LayoutLaws.{same_laid}
 use Rattle.change_engine.specs.declared.passivating.LeftRoot.{LeftRoot}
 use Rattle.change_engine.specs.declared.passivating.Waiting.{Waiting}
@@ -77,9 +75,6 @@ same_pending within (x ∷ left) h = ap (λ t. said (to.Pending within) ∷ root
 no_entries : (xs : List LeftRoot) → entries (map root_item xs) ≡ []
 no_entries [] = refl
 no_entries (x ∷ xs) = no_entries xs
-
-pub same_told : (l : Layout) (g : Graph) (c d : Configuration) → SameLinks c d → IsSound d → IsLaidOut l g c → IsLaidOut l g d
-same_told l g c d same sound h = record { laid = same_laid l c d g same h.laid; graph = same_graph c d g same h.graph; sound = sound }
 
 same_made : (c d : Configuration) → SameLinks c d → made_in c ≡ made_in d
 same_made c d same = ap (λ (s : List Slot). record { nodes = length s; ports = length c.gates }) (sym same.slots) ∙ ap (λ n. record { nodes = length d.slots; ports = n }) (sym same.long)
@@ -394,11 +389,6 @@ waited W a b h i j ports within left x grown = record {
   ends = x.ends;
   grew = grew_both W a b b h i j (passivation_items ports x.how) (map said (left_lines within left)) x.grew (said_alone W b i j (left_lines within left) grown);
 }
-
--- what an answer says of the roots that are left
-pub ok_if : {E : Type 0} (P Q : Type 0) → (P → Q) → (r : Result (Unit {0}) E) → OnOk r P → IfOk r (λ _. Q)
-ok_if P Q f (Ok x) h = f h
-ok_if P Q f (Err e) h = tt
 
 pub no_memory_if : (P : Type 0) → P → (r : Result (Unit {0}) PassError) → IfErr r (WhereNoMemory P)
 no_memory_if P h (Ok x) = tt

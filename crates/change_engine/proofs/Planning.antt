@@ -1,8 +1,8 @@
 -- A plan's commit on a board.
-use Rattle.std.proofs.Common.{◌≡◌, ℕ, ◌<◌, ◌≤◌, Bool, true, false, cond, not, ◌||◌, List, [], ◌∷◌, ◌++◌, append_assoc, length, map, None, refl, sym, ap, ◌∙◌, subst, inl, inr, ⊎_elim, arith}
+use Rattle.std.proofs.Common.{◌≡◌, ℕ, ◌<◌, ◌≤◌, true, false, not, ◌||◌, List, [], ◌∷◌, ◌++◌, append_assoc, length, map, None, refl, sym, ap, ◌∙◌, subst, inl, inr, ⊎_elim, arith}
 use Rattle.std.specs.Prelude.{◌⊎◌, filter, nat_lt}
 use Rattle.std.specs.List.{list_any}
-use Rattle.std.proofs.lemmas.Bool.{both_ways, cases_lt, lt-ltb, not-true, not_from_false, or_cases, or_left, or_parts}
+use Rattle.std.proofs.lemmas.Bool.{both_ways, cases_lt, lt-ltb, not-true, not_from_false, or_cases, or_left}
 use Rattle.std.proofs.lemmas.List.{append-nil}
 use Rattle.std.proofs.lemmas.List.Folds.{list_any-append}
 use Rattle.change_plan.specs.Refusals.{CanPlan}
@@ -38,6 +38,7 @@ use Rattle.change_engine.specs.Planning.{MayCarryOut}
 use Rattle.change_engine.proofs.Beginning.{none_mapped, turned_last}
 use Rattle.change_engine.proofs.ItemLaws.{all_mapped}
 use Rattle.base.proofs.NumberLaws.{other_number}
+use Rattle.base.proofs.ListLaws.{none_kept}
 
 -- A port that isn't made when a run ends was never reopened in it.
 record IsReopen (e : Event) : Type 0 where
@@ -76,16 +77,6 @@ unopened before (e ∷ es) p run past =
     (reopen_or p e) in
     ap (λ b. b || list_any (reopens p) es) here
     ∙ unopened (before ++ e ∷ []) es p run' (subst (λ zs. length (state_after zs).config.gates ≤ p) (sym parts) past)
-
-none_kept : {A : Type 0} (test keep : A → Bool) (xs : List A) → list_any test xs ≡ false → list_any test (filter keep xs) ≡ false
-none_kept test keep [] h = refl
-none_kept test keep (x ∷ xs) h =
-    let parts = or_parts (test x) (list_any test xs) h in
-    by (keep x) parts.0 (none_kept test keep xs parts.1)
-  where
-    by : (b : Bool) → test x ≡ false → list_any test (filter keep xs) ≡ false → list_any test (cond b (x ∷ filter keep xs) (filter keep xs)) ≡ false
-    by true here rest = ap (λ b. b || list_any test (filter keep xs)) here ∙ rest
-    by false here rest = rest
 
 fresh_noted : (r : List Entry) (m : List Moment) (p : ℕ) → IsRecordOf r m → length (config_of r).gates ≤ p → is_noted r p ≡ true
 fresh_noted r m p h past =

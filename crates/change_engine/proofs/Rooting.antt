@@ -7,6 +7,7 @@ use Rattle.std.proofs.lemmas.List.Elements.{All-head, All-tail, filter_map-appen
 use Rattle.base.specs.Each.{Each, EachAfter}
 use Rattle.base.proofs.EachLaws.{each_at, each_parts}
 use Rattle.base.proofs.PlaceLaws.{heads_are, tails_are}
+use Rattle.base.proofs.MapLaws.{none_in_front}
 use Rattle.quiesce_laws.specs.Lists.{In}
 use Rattle.quiesce_laws.specs.Steps.{change_all}
 use Rattle.quiesce_laws.proofs.TurningLaws.{IsLivePort, Turning, live_port, turn_next, turn_start}
@@ -141,10 +142,6 @@ pub in_map : {A B : Type 0} (f : A → B) (xs : List A) (x : A) → In xs x → 
 in_map f [] x i = absurd i
 in_map f (y ∷ xs) x (inl same) = inl (ap f same)
 in_map f (y ∷ xs) x (inr i) = inr (in_map f xs x i)
-
-none_in_front : {A : Type 0} (xs ys : List A) → xs ++ ys ≡ [] → xs ≡ []
-none_in_front [] ys h = refl
-none_in_front (x ∷ xs) ys h = cc
 
 -- a look among entries that are no events
 quiet_root : (r es : List Entry) (p w : ℕ) → IsRecord (r ++ es) → events_in es ≡ [] → (gate (config_of r) p).closed ≡ true → In es (Looked p w) → is_drained_word w ≡ false → has_root (unpack w) ≡ true

@@ -14,7 +14,7 @@ use report_types::HistoryLine;
 
 /// Does these events, in order, and appends lines to the history: the events' own lines, between others that are said
 /// before and behind them. It can't fail, and takes no memory.
-pub(crate) fn carry_out<B: Board>(
+pub(crate) fn do_and_tell<B: Board>(
     board: &mut B,
     history: &mut Vec<HistoryLine>,
     events: Vec<Event>,

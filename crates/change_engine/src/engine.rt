@@ -12,7 +12,7 @@ ghost use Rattle.change_engine.specs.Draining.{WhereNoMemory, WherePending};
 ghost use Rattle.change_engine.specs.Engines.{IsIdle, IsPlanned, IsPrepared, IsReadyToCommit, MayAbandon};
 ghost use Rattle.change_engine.specs.Growing.{BrokeOff};
 
-use crate::carrying::carry_out;
+use crate::carrying::do_and_tell;
 use crate::draining::PassError;
 use crate::laws::{commits_have_room, plans_may_be_carried_out};
 use crate::passivating::{Waiting, put};
@@ -225,7 +225,7 @@ impl<B: Board + Drop> Engine<B> {
             unreachable!()
         };
         let mut lines = change.lines;
-        carry_out(
+        do_and_tell(
             &mut self.board,
             &mut self.history,
             change.events,
@@ -247,7 +247,7 @@ impl<B: Board + Drop> Engine<B> {
             unreachable!()
         };
         let mut lines = change.reopen_lines;
-        carry_out(
+        do_and_tell(
             &mut self.board,
             &mut self.history,
             change.reopens,

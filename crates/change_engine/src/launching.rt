@@ -10,7 +10,7 @@ ghost use Rattle.report_types.specs.declared.report.HistoryLine.TheVariants as t
 ghost use Rattle.change_engine.specs.Growing.{telling};
 ghost use Rattle.change_engine.specs.Beginning.{StartsSystem};
 
-use crate::carrying::carry_out;
+use crate::carrying::do_and_tell;
 use crate::laws::starts_may_be_done;
 use crate::telling::push_lines;
 use change_board::Board;
@@ -71,6 +71,6 @@ pub(crate) fn begin<B: Board>(
     let mut lines = list_lines(alloc, name, args, &events)?;
     let mut history = Vec::with_capacity(alloc, lines.len())?;
     board.reserve(graph.node_count())?;
-    carry_out(board, &mut history, events, &mut lines);
+    do_and_tell(board, &mut history, events, &mut lines);
     Ok(Begun { history, layout })
 }

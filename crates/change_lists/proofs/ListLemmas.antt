@@ -1,17 +1,18 @@
 -- What a plan does in a configuration is what it does by the layout that tells it.
 use Rattle.std.proofs.Common.{◌≡◌, ℕ, ◌+◌, ◌-◌, ◌<◌, ◌≤◌, zero, suc, Bool, true, false, cond, not, List, [], ◌∷◌, ◌++◌, append_assoc, get_or, length, map, Option, Some, None, All, refl, sym, ap, ◌∙◌, subst, inl, inr, arith}
 use Rattle.std.specs.Prelude.{◌⊎◌, ◌&&◌, ◌||◌, ◌==◌, filter, filter_map, find, is_some, nat_lt, option_and_then, option_map, position, slice_get, slice_set, unwrap_or}
-use Rattle.std.specs.List.{cons_option, list_any, range_with_len}
+use Rattle.std.specs.List.{list_any, range_with_len}
 use Rattle.std.specs.Option.{option_map_or}
 use Rattle.std.proofs.Math.Path.{fun_ext}
-use Rattle.std.proofs.lemmas.Bool.{both_ways, cases_lt, eq-eqb, eqb-true, le-ltb, lt-ltb}
+use Rattle.std.proofs.lemmas.Bool.{both_ways, cases_lt, eq-eqb, le-ltb, lt-ltb}
 use Rattle.std.proofs.lemmas.List.{append-nil, length-append, length-map, map-append}
 use Rattle.std.proofs.lemmas.List.Elements.{All-tail}
 use Rattle.std.proofs.lemmas.List.Sums.{fold-append}
 use Rattle.std.proofs.lemmas.Option.{get_or_from_slice_get, same_Some, slice_get-get_or, slice_get-map, slice_get_within}
-use Rattle.base.proofs.MapLaws.{map-map, position-map}
+use Rattle.base.proofs.MapLaws.{map-map, position-map, set_same, map_picked}
 use Rattle.base.proofs.PlaceLaws.{slice_get-append_cases, slice_get-append_front, slice_get-behind, slice_get-front, slice_get-map_at, slice_get-map_some, slice_get-there}
-use Rattle.base.proofs.NumberLaws.{other_number}
+use Rattle.base.proofs.NumberLaws.{other_number, above_number}
+use Rattle.base.proofs.RangeLaws.{same_below, same_picked}
 use Rattle.change_plan.specs.declared.plan_data.Plan.{Plan}
 use Rattle.change_plan.specs.declared.plan_data.Shift.{Shift}
 use Rattle.change_plan.proofs.NodeLaws.{index_found}
@@ -39,16 +40,6 @@ use Rattle.change_lists.specs.Lists.{closed_by, commit_by, is_link_at, is_port_a
 use Rattle.change_lists.proofs.LayoutLaws.{has_place, place_there}
 use Rattle.change_lists.proofs.StandLemmas.{one_by_place, slot_is, stands_by_place}
 use Rattle.change_plan_laws.proofs.StandingLaws.{one_live, path_of}
-
--- tests that agree below a bound pass the same numbers below it
-pub same_below : (f g : ℕ → Bool) (n : ℕ) → ((p : ℕ) → p < n → f p ≡ g p) → filter f (range_with_len 0 n) ≡ filter g (range_with_len 0 n)
-same_below f g n same = from 0 n (λ p low below. same p (omega (arith, below)))
-  where
-    from : (a n : ℕ) → ((p : ℕ) → a ≤ p → p < a + n → f p ≡ g p) → filter f (range_with_len a n) ≡ filter g (range_with_len a n)
-    from a zero h = refl
-    from a (suc n) h =
-        ap (λ b. cond b (a ∷ filter f (range_with_len (a + 1) n)) (filter f (range_with_len (a + 1) n))) (h a (omega arith) (omega arith))
-        ∙ ap (λ xs. cond (g a) (a ∷ xs) xs) (from (a + 1) n (λ p low below. h p (omega (arith, low)) (omega (arith, below))))
 
 module _ (c : Configuration) (g : Graph) (rise : PathsRise g.nodes) where
   abbrev places : List (Option ℕ)
@@ -136,13 +127,6 @@ none_killed : (k : ℕ) (ms : List Slot) → killed [] k ms ≡ ms
 none_killed k [] = refl
 none_killed k (m ∷ ms) = ap (λ xs. m ∷ xs) (none_killed (k + 1) ms)
 
-above_number : (a b : ℕ) → b < a → (a == b) ≡ false
-above_number a b low = by (a == b) refl
-  where
-    by : (x : Bool) → (a == b) ≡ x → x ≡ false
-    by false e = refl
-    by true e = absurd (omega (arith, low, eqb-true a b e))
-
 past_killed : (r k : ℕ) (ms : List Slot) → r < k → killed (r ∷ []) k ms ≡ ms
 past_killed r k [] low = refl
 past_killed r k (m ∷ ms) low =
@@ -181,12 +165,6 @@ removes_slots (r ∷ rs) c =
 removes_gates : (rs : List ℕ) (c : Configuration) → (change_all c (map Remove rs)).gates ≡ c.gates
 removes_gates [] c = refl
 removes_gates (r ∷ rs) c = removes_gates rs (change_next c (Remove r))
-
--- what sets a gate's target leaves its owner
-set_same : {A B : Type 0} (f : A → B) (xs : List A) (i : ℕ) (y d : A) → f y ≡ f (get_or xs i d) → map f (slice_set xs i y) ≡ map f xs
-set_same f [] i y d h = refl
-set_same f (x ∷ xs) zero y d h = ap (λ z. z ∷ map f xs) h
-set_same f (x ∷ xs) (suc i) y d h = ap (λ zs. f x ∷ zs) (set_same f xs i y d h)
 
 unlinks_ports : (ps : List ℕ) (c : Configuration) → map port_of (change_all c (map Unlink ps)).gates ≡ map port_of c.gates
 unlinks_ports [] c = refl
@@ -364,24 +342,6 @@ owners_added new k (j ∷ js) i x e = by (owners_added new (k + 1) js) (slice_ge
         let is : k ≡ x.node = ap (λ (z : Port). z.node) y.2 in
         (omega (arith, is), omega (arith, is))
     by rest (inr there) = let y = rest there.0 x there.2 in (omega (arith, y.0), omega (arith, y.1))
-
--- Numbers of which something is made.
-same_picked : {A : Type 0} (f g : ℕ → Option A) (n : ℕ) → ((p : ℕ) → p < n → f p ≡ g p) → filter_map f (range_with_len 0 n) ≡ filter_map g (range_with_len 0 n)
-same_picked f g n same = from 0 n (λ p low below. same p (omega (arith, below)))
-  where
-    from : (a n : ℕ) → ((p : ℕ) → a ≤ p → p < a + n → f p ≡ g p) → filter_map f (range_with_len a n) ≡ filter_map g (range_with_len a n)
-    from a zero h = refl
-    from a (suc n) h =
-        ap (λ o. cons_option o (filter_map f (range_with_len (a + 1) n))) (h a (omega arith) (omega arith))
-        ∙ ap (cons_option (g a)) (from (a + 1) n (λ p low below. h p (omega (arith, low)) (omega (arith, below))))
-
-map_picked : {A C : Type 0} (h : A → C) (f : ℕ → Option A) (xs : List ℕ) → map h (filter_map f xs) ≡ filter_map (λ x. option_map h (f x)) xs
-map_picked h f [] = refl
-map_picked h f (x ∷ xs) = by (f x) (map_picked h f xs)
-  where
-    by : (o : Option _) → map h (filter_map f xs) ≡ filter_map (λ x. option_map h (f x)) xs → map h (cons_option o (filter_map f xs)) ≡ cons_option (option_map h o) (filter_map (λ x. option_map h (f x)) xs)
-    by None rest = rest
-    by (Some y) rest = ap (λ ys. h y ∷ ys) rest
 
 -- links in a configuration, by the places of the new graph
 module _ (d : Configuration) (new : Graph) (rise : PathsRise new.nodes) (links : List Link) (within : All (λ (l : Link). (l.from < length new.nodes) × (l.to < length new.nodes)) links) where

@@ -10,9 +10,10 @@ use Rattle.change_plan.specs.declared.plan_data.Shift.{Shift}
 use Rattle.std.proofs.lemmas.Bool.Decides.{nat_tests}
 use Rattle.std.proofs.lemmas.List.{length-take-le, take_more}
 use Rattle.std.proofs.Math.Seq.{drop-cons}
-use Rattle.std.proofs.lemmas.List.Folds.{find-append, list_any_more}
+use Rattle.std.proofs.lemmas.List.Folds.{list_any_more}
 use Rattle.std.proofs.Math.Numerals.{one-add}
 use Rattle.base.proofs.NumberLaws.{eqb_flips}
+use Rattle.base.proofs.FindLaws.{find_more}
 
 abbrev pub are_same_keys : ℕ × ℕ → ℕ × ℕ → Bool
 are_same_keys a b = eqb a.0 b.0 && eqb a.1 b.1
@@ -59,11 +60,6 @@ pub position_more : {A : Type 0} (p : A → Bool) (xs : List A) (k : ℕ) (d : A
 position_more p xs k d low =
     ap (position p) (take_more xs k d low) ∙ position-push p (take k xs) (get_or xs k d)
     ∙ ap (λ n. option_or (position p (take k xs)) (cond (p (get_or xs k d)) (Some n) None)) (length-take-le k xs (omega (arith, low)))
-
--- one move more
-pub find_more : {A : Type 0} (p : A → Bool) (xs : List A) (k : ℕ) (d : A) → k < length xs
-    → find p (take (k + 1) xs) ≡ option_or (find p (take k xs)) (cond (p (get_or xs k d)) (Some (get_or xs k d)) None)
-find_more p xs k d low = ap (find p) (take_more xs k d low) ∙ find-append p (take k xs) (get_or xs k d ∷ [])
 
 -- from where a move leads to a place
 abbrev pub old_of : List Shift → ℕ → Option ℕ

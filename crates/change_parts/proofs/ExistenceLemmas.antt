@@ -2,7 +2,7 @@
 use Rattle.std.proofs.Common.{◌≡◌, ◌∙◌, ℕ, ℤ, List, [], ◌∷◌, length, map, Option, Some, refl, ap, sym, subst, arith, slice_get}
 use Rattle.std.specs.List.{sum_by}
 use Rattle.std.specs.Prelude.{All}
-use Rattle.base.proofs.ContainsLaws.{at_some_place}
+use Rattle.base.proofs.ContainsLaws.{at_some_place, All-from}
 use Rattle.config_graph.specs.Graph.{Graph, IsGraph, requires_at}
 use Rattle.config_graph.specs.Sound.{Sound}
 use Rattle.config_graph.specs.declared.node.Made.{Made}
@@ -12,15 +12,14 @@ use Rattle.change_plan.specs.Refusals.{CanPlan}
 use Rattle.change_plan.specs.Room.{HasRoomFor}
 use Rattle.change_plan.specs.declared.plan_data.Move.{Move}
 use Rattle.change_plan.proofs.SelectsLaws.{Selects-one}
-use Rattle.change_spec.specs.Scripts.{more_made}
+use Rattle.change_spec.specs.Scripts.{more_made, nothing_made}
 use Rattle.change_spec.specs.Serial.{Serial}
 use Rattle.change_spec.specs.Statements.{Statement, change}
 use Rattle.change_parts.specs.Carrying.{CanCarryOutAll, made_with}
 use Rattle.change_parts.specs.Parts.{AreParts}
 use Rattle.change_parts.specs.Stages.{HasLinksOf}
 use Rattle.change_parts.specs.declared.part.Part.{Part}
-use Rattle.change_parts.proofs.StageLaws.{All-from}
-use Rattle.change_round_laws.specs.SoundStatements.{AreSound, GoOnSoundly, made_of_graph, nothing_made}
+use Rattle.change_round_laws.specs.SoundStatements.{AreSound, GoOnSoundly, made_of_graph}
 use Rattle.report_types.specs.declared.report.Report.{Report}
 use Rattle.std.specs.List.{range_with_len}
 use Rattle.change_parts.specs.Rolls.{IsRoll, given_up_in, roll_statements}

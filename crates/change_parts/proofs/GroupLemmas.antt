@@ -9,14 +9,15 @@ use Rattle.std.proofs.lemmas.List.Kept.{AllPairs-cons}
 use Rattle.std.proofs.lemmas.Option.{none-some, same_Some, slice_get_within}
 use Rattle.base.proofs.ContainsLaws.{Contains-here, Contains-there, Contains-at, Contains-filter_map, Contains-from_filter_map, at_some_place}
 use Rattle.base.proofs.MapLaws.{All-filter_map}
-use Rattle.base.proofs.PlaceLaws.{one_at, slice_get-there}
+use Rattle.base.proofs.PlaceLaws.{one_at, slice_get-there, slice_get-take, slice_get-from_take}
+use Rattle.base.proofs.RangeLaws.{Contains-places}
 use Rattle.config_graph.specs.Graph.{Graph, IsGraph}
 use Rattle.config_graph.specs.declared.node.Node.{Node}
 use Rattle.config_graph.proofs.PathLaws.{irreflexive}
 use Rattle.change_plan.specs.Selects.{Selects}
 use Rattle.change_plan.specs.Selects.Selects.{ends, takes, skips}
 use Rattle.change_plan.specs.declared.plan_data.Move.{Move}
-use Rattle.change_plan.proofs.SelectsLaws.{Contains-places, Selects-has, Selects-only, Selects-part}
+use Rattle.change_plan.proofs.SelectsLaws.{Selects-has, Selects-only, Selects-part}
 use Rattle.change_parts.specs.Groups.{AreGroups, IsBefore, IsIn, IsLeast}
 use Rattle.change_parts.specs.Ties.{IsChanged, Joined, Tied}
 use Rattle.change_parts.specs.Ties.Joined.{itself as alone, along as forth, against as back}
@@ -53,19 +54,6 @@ range_order n i j d below within =
     let a = get_or-range_with_len 0 n i d (omega (arith, below, inside)) in
     let b = get_or-range_with_len 0 n j d inside in
     omega (arith, a, b, below)
-
-slice_get-take : {A : Type 0} (xs : List A) (n i : ℕ) (x : A) → i < n → slice_get xs i ≡ Some x → slice_get (take n xs) i ≡ Some x
-slice_get-take [] n i x low at = absurd (none-some x at)
-slice_get-take (y ∷ xs) zero i x low at = absurd (omega (arith, low))
-slice_get-take (y ∷ xs) (suc n) zero x low at = at
-slice_get-take (y ∷ xs) (suc n) (suc i) x low at = slice_get-take xs n i x (omega (arith, low)) at
-
-slice_get-from_take : {A : Type 0} (xs : List A) (n i : ℕ) (x : A) → slice_get (take n xs) i ≡ Some x → (i < n) × (slice_get xs i ≡ Some x)
-slice_get-from_take [] zero i x at = absurd (none-some x at)
-slice_get-from_take [] (suc n) i x at = absurd (none-some x at)
-slice_get-from_take (y ∷ xs) zero i x at = absurd (none-some x at)
-slice_get-from_take (y ∷ xs) (suc n) zero x at = (omega arith, at)
-slice_get-from_take (y ∷ xs) (suc n) (suc i) x at = let w = slice_get-from_take xs n i x at in (omega (arith, w.0), w.1)
 
 module _ (old new : Graph) (old_graph : IsGraph old) (new_graph : IsGraph new) (moves : List Move) (nodes : List Node) (members : AreMembers old new nodes)
     (ties : List (ℕ × ℕ)) (least : List ℕ) (classes : AreClasses ties least) (long : length least ≡ length nodes)

@@ -9,7 +9,6 @@ use Rattle.change_plan.specs.Plans.{IsPlanOf}
 use Rattle.change_plan.specs.Selects.{Selects}
 use Rattle.change_plan.specs.declared.plan_data.Move.{Move}
 use Rattle.change_plan.specs.declared.plan_data.Plan.{Plan}
-use Rattle.change_parts.proofs.StageLaws.{All-from}
 use Rattle.change_parts.specs.Classes.{AreClasses, IsTieBelow}
 use Rattle.change_parts.specs.Groupings.{IsGrouping, LeadsIn}
 use Rattle.change_parts.specs.Listed.{changed_numbers, ties_of}
@@ -21,6 +20,7 @@ use Rattle.change_parts.proofs.GroupLemmas.{Leads, as_many, first_groups, firsts
 use Rattle.change_parts.proofs.PairLemmas.{Selects-alike}
 use Rattle.change_parts.proofs.TyingLemmas.{listed_tied, tie_below, tied_listed}
 use Rattle.change_plan.proofs.SelectsLaws.{Selects-shorter}
+use Rattle.base.proofs.ContainsLaws.{All-from}
 
 -- ties and changed numbers are numbers of nodes
 module _ (old new : Graph) (m : Members) (index : IsIndex old new m) (moves : List Move) (p : Plan) (plan : IsPlanOf old new moves p) where

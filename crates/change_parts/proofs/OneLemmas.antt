@@ -1,7 +1,8 @@
 -- There is one list of parts.
-use Rattle.std.proofs.Common.{◌≡◌, ◌∙◌, ◌≤◌, ◌<◌, ◌++◌, ℕ, List, [], ◌∷◌, length, take, refl, ap, sym, subst, inl, inr, arith, Contains}
+use Rattle.std.proofs.Common.{◌≡◌, ◌<◌, ◌++◌, ℕ, List, [], ◌∷◌, length, refl, ap, sym, subst, inl, inr, arith, Contains}
 use Rattle.std.proofs.lemmas.Bool.{cases_lt}
 use Rattle.base.proofs.OrderedLaws.{one_order}
+use Rattle.base.proofs.PlaceLaws.{front_of_parts, parts_are}
 use Rattle.config_graph.specs.Cycles.{HasCycle}
 use Rattle.config_graph.specs.Graph.{Graph, IsGraph}
 use Rattle.config_graph.proofs.GraphByLaws.{one_graph}
@@ -19,20 +20,6 @@ use Rattle.change_parts.specs.Ties.Joined.{itself}
 use Rattle.change_parts.specs.declared.part.Part.{Part}
 use Rattle.change_parts.proofs.TieLaws.{one_group}
 
--- a list that begins with two lists, of which one is longer
-front_of : {A : Type 0} (xs xs' ys ys' : List A) → xs ++ xs' ≡ ys ++ ys' → length xs ≤ length ys → take (length xs) ys ≡ xs
-front_of [] xs' ys ys' same few = refl
-front_of (x ∷ xs) xs' [] ys' same few = absurd (omega (arith, few))
-front_of (x ∷ xs) xs' (y ∷ ys) ys' same few = let head : x ≡ y = cc in let tail : xs ++ xs' ≡ ys ++ ys' = cc in
-    ap (λ z. z ∷ take (length xs) ys) (sym head) ∙ ap (λ zs. x ∷ zs) (front_of xs xs' ys ys' tail (omega (arith, few)))
-
-back_of : {A : Type 0} (xs xs' ys ys' : List A) → xs ++ xs' ≡ ys ++ ys' → length xs ≡ length ys → (xs ≡ ys) × (xs' ≡ ys')
-back_of [] xs' [] ys' same long = (refl, same)
-back_of [] xs' (y ∷ ys) ys' same long = absurd (omega (arith, long))
-back_of (x ∷ xs) xs' [] ys' same long = absurd (omega (arith, long))
-back_of (x ∷ xs) xs' (y ∷ ys) ys' same long = let head : x ≡ y = cc in let tail : xs ++ xs' ≡ ys ++ ys' = cc in
-    let w = back_of xs xs' ys ys' tail (omega (arith, long)) in ((λ n. head n ∷ w.0 n), w.1)
-
 module _ (old new : Graph) (old_graph : IsGraph old) (new_graph : IsGraph new) (moves : List Move) where
   groups_within : (fs gs : List (List ℕ)) → AreGroups old new moves fs → AreGroups old new moves gs → (p : List ℕ) → Contains fs p → Contains gs p
   groups_within fs gs f g p held =
@@ -47,7 +34,7 @@ module _ (old new : Graph) (old_graph : IsGraph old) (new_graph : IsGraph new) (
   -- where one part takes fewer groups than another, there is a cycle after it and there is none
   not_fewer : (stage : Graph) (xs xs' ys ys' : List (List ℕ)) (p q : Part) → IsPart old new moves xs stage p → IsPart old new moves ys stage q → xs ++ xs' ≡ ys ++ ys' → length xs < length ys → ⊥
   not_fewer stage xs xs' ys ys' p q a b same fewer =
-      let first = front_of xs xs' ys ys' same (omega (arith, fewer)) in
+      let first = front_of_parts xs xs' ys ys' same (omega (arith, fewer)) in
       let c : HasCycle p.next = b.fewest (length xs) a.takes_some fewer p.next (subst (λ zs. IsAfter old new moves zs stage p.next) (sym first) a.leads_to) in
       a.no_cycle c.0 c.1
 
@@ -83,7 +70,7 @@ module _ (old new : Graph) (old_graph : IsGraph old) (new_graph : IsGraph new) (
     where
       alike : (ArePartsFrom old new moves p.next ys' qs → xs' ≡ ys' → ps ≡ qs) → length xs ≡ length ys → p ∷ ps ≡ q ∷ qs
       alike later_ long =
-          let w = back_of xs xs' ys ys' same long in
+          let w = parts_are xs xs' ys ys' same long in
           let one_ : p ≡ q = one_part stage xs p q a (subst (λ zs. IsPart old new moves zs stage q) (sym w.0) b) in
           let later : ps ≡ qs = later_ (subst (λ g. ArePartsFrom old new moves g ys' qs) (sym (ap (λ (r : Part). r.next) one_)) rest') w.1 in
           λ n. one_ n ∷ later n

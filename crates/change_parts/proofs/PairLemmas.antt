@@ -1,9 +1,8 @@
 -- Lemmas on relations between each element of a list and each later one.
-use Rattle.std.proofs.Common.{Bool, true, false, cond, eqb, filter, take, drop, ◌≡◌, ℕ, List, [], ◌∷◌, ◌++◌, Option, Some, None, length, get_or, refl, ap, sym, subst, inl, inr, arith, Contains, slice_get, filter_map, ◌<◌, ◌∙◌}
+use Rattle.std.proofs.Common.{Bool, true, false, cond, eqb, filter, ◌≡◌, ℕ, List, [], ◌∷◌, ◌++◌, Option, Some, None, length, get_or, refl, ap, sym, subst, inl, inr, arith, Contains, slice_get, filter_map, ◌<◌, ◌∙◌}
 use Rattle.std.specs.List.{cons_option, list_any, range_with_len}
 use Rattle.std.specs.Prelude.{AllPairs}
 use Rattle.std.proofs.lemmas.List.Elements.{All-append, Contains-get_or}
-use Rattle.std.proofs.lemmas.List.{append-nil, drop_all, take_all}
 use Rattle.std.proofs.lemmas.List.FromFn.{get_or-range_with_len, length-range_with_len}
 use Rattle.std.proofs.lemmas.Bool.{and_from, and_parts, eq-eqb, eqb-true, false≢true, or_cases}
 use Rattle.std.specs.Option.{option_map_or}
@@ -11,10 +10,9 @@ use Rattle.change_parts.specs.Groupings.{LeadsIn, leads}
 use Rattle.std.proofs.lemmas.List.Kept.{AllPairs-cons}
 use Rattle.std.proofs.lemmas.Option.{get_or_from_slice_get, slice_get-get_or, slice_get_within}
 use Rattle.std.proofs.lemmas.Map.Keys.{any_passes_from_place}
-use Rattle.base.proofs.ContainsLaws.{Contains-at, Contains-here, Contains-there, at_some_place}
+use Rattle.base.proofs.ContainsLaws.{Contains-at, Contains-here, Contains-there, at_some_place, All-from}
 use Rattle.base.proofs.MapLaws.{All-filter_map}
 use Rattle.base.proofs.OrderedLaws.{before_all, rest_rises}
-use Rattle.change_parts.proofs.StageLaws.{All-from}
 use Rattle.change_plan.specs.Selects.{Selects}
 use Rattle.change_plan.specs.Selects.Selects.{ends, takes, skips}
 use Rattle.change_plan.proofs.SelectsLaws.{Selects-part}
@@ -110,8 +108,3 @@ pub range_inside : (n k : ℕ) → Contains (range_with_len 0 n) k → k < n
 range_inside n k (i, low, is) =
     let inside : i < n = subst (λ m. i < m) (length-range_with_len 0 n) low in
     omega (arith, inside, get_or-range_with_len 0 n i k inside, is)
-
--- a list that is written back where it was
-pub written_back : {A : Type 0} (new old : List A) (len : ℕ) → length new ≡ length old → len ≡ length old → take len (new ++ drop (length new) old) ≡ new
-written_back {A = A} new old len long len_is =
-    ap (λ (zs : List A). take len (new ++ zs)) (drop_all (length new) old (omega (arith, long))) ∙ ap (take len) (append-nil new) ∙ take_all len new (omega (arith, long, len_is))

@@ -7,6 +7,7 @@ use Rattle.std.proofs.lemmas.List.Elements.{All-contains}
 use Rattle.std.proofs.lemmas.Option.{slice_get_within}
 use Rattle.base.proofs.ContainsLaws.{Contains-cons_cases, Contains-from_map, Contains-here, Contains-nil, Contains-there, at_some_place}
 use Rattle.base.proofs.PlaceLaws.{one_at}
+use Rattle.base.proofs.RangeLaws.{Contains-places}
 use Rattle.config_graph.specs.Cycles.{IsLinked, graph_wiring}
 use Rattle.config_graph.specs.Graph.{Graph, PathsRise}
 use Rattle.config_graph.specs.Wiring.{Reach, direct, through}
@@ -21,7 +22,7 @@ use Rattle.change_plan.specs.declared.plan_data.Plan.{Plan}
 use Rattle.change_plan.specs.declared.plan_data.Shift.{Shift}
 use Rattle.change_plan.proofs.MoveLaws.{one_name}
 use Rattle.change_plan.proofs.NodeLaws.{one_path}
-use Rattle.change_plan.proofs.SelectsLaws.{Contains-places, Selects-has, Selects-only}
+use Rattle.change_plan.proofs.SelectsLaws.{Selects-has, Selects-only}
 use Rattle.change_parts.proofs.MissingLemmas.{places_rise, some_part}
 use Rattle.change_parts.proofs.MovingLemmas.{first_any}
 

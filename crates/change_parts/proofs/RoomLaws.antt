@@ -9,6 +9,7 @@ use Rattle.std.proofs.lemmas.List.Sums.{sum_by-append, sum_by-cons}
 use Rattle.std.proofs.lemmas.Option.{none-some, slice_get_within}
 use Rattle.base.proofs.ContainsLaws.{Contains-at, Contains-filter_map, Contains-from_filter_map, Contains-here, Contains-nil, Contains-there, at_some_place}
 use Rattle.base.proofs.PlaceLaws.{slice_get-there}
+use Rattle.base.proofs.SumLaws.{one_each}
 use Rattle.config_graph.specs.Graph.{Graph, IsGraph, PathsRise, requires_at, requires_of}
 use Rattle.config_graph.specs.Sound.{Sound}
 use Rattle.config_graph.specs.declared.node.Made.{Made}
@@ -39,10 +40,6 @@ use Rattle.change_parts.proofs.CountLaws.Distinct.{nil, cons}
 -- the nodes at these places
 abbrev pub nodes_at : List Node → List ℕ → List Node
 nodes_at nodes places = filter_map (slice_get nodes) places
-
-sum_ones : {A : Type 0} (xs : List A) → sum_by (λ _. 1) xs ≡ length xs
-sum_ones [] = refl
-sum_ones (x ∷ xs) = omega (arith, sum_by-cons (λ _. 1) x xs, sum_ones xs)
 
 -- parts of what has no repeats have none
 distinct_part : {A : Type 0} (P : A → Type 0) (xs ys : List A) → Selects P xs ys → Distinct xs → Distinct ys
@@ -91,7 +88,7 @@ module _ (g h : Graph) (rise : PathsRise g.nodes) (places : List ℕ) (gone : Go
   gone_sum f = nodes_sum g.nodes f places within_all
 
   pub gone_length : length ns ≡ length places
-  gone_length = sym (sum_ones ns) ∙ gone_sum (λ _. 1) ∙ ones places within_all
+  gone_length = sym (one_each ns) ∙ gone_sum (λ _. 1) ∙ ones places within_all
     where
       ones : (is : List ℕ) → ((i : ℕ) → Contains is i → i < length g.nodes) → sum_by (λ i. option_map_or (λ (n : Node). 1) (slice_get g.nodes i) 0) is ≡ length is
       ones [] inside = refl
@@ -124,7 +121,7 @@ module _ (old new : Graph) (old_graph : IsGraph old) (new_graph : IsGraph new) (
   unfolding whole
   few_nodes acc distinct created =
       let below = sum_within (λ _. 1) acc whole distinct (λ n held. let w = created n held in is_gone new old new_graph.paths_rise can.wanted.created can.wanted.gone n w.there w.gone) in
-      omega (arith, below, sum_ones acc, sum_ones whole, gone_length new old new_graph.paths_rise can.wanted.created can.wanted.gone, can.wanted.nodes_are, can.room.nodes_fit)
+      omega (arith, below, one_each acc, one_each whole, gone_length new old new_graph.paths_rise can.wanted.created can.wanted.gone, can.wanted.nodes_are, can.room.nodes_fit)
 
   few_ports : (acc : List Node) → Distinct acc → ((n : Node) → Contains acc n → IsCreated old new n) → made.ports + sum_by requires_of acc ≤ MAX_PORTS
   unfolding whole

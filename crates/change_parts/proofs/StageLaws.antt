@@ -1,10 +1,10 @@
 -- Lemmas on stages: what stands in one, that it is sound, and that groups applied one after the other are applied
 -- together.
-use Rattle.std.proofs.Common.{◌≡◌, ◌⊎◌, ◌↔◌, ◌++◌, ℕ, ◌<◌, [], List, Some, refl, sym, ap, subst, inl, inr, Contains, All, get_or, slice_get}
+use Rattle.std.proofs.Common.{◌≡◌, ◌⊎◌, ◌↔◌, ◌++◌, ℕ, ◌<◌, [], List, Some, refl, sym, ap, subst, inl, inr, Contains, slice_get}
 use Rattle.std.specs.Option.{option_map_or}
-use Rattle.std.proofs.lemmas.List.Elements.{All-contains, Contains-get_or, Contains-append_cases, Contains-append_left, Contains-append_right}
+use Rattle.std.proofs.lemmas.List.Elements.{All-contains, Contains-append_cases, Contains-append_left, Contains-append_right}
 use Rattle.base.specs.Telling.{CanTell}
-use Rattle.base.proofs.ContainsLaws.{Contains-at, Contains-nil, at_some_place}
+use Rattle.base.proofs.ContainsLaws.{Contains-at, Contains-nil, at_some_place, All-from}
 use Rattle.base.proofs.PlaceLaws.{one_at, slice_get-there}
 use Rattle.config_graph.proofs.NumberingLaws.{within_list}
 use Rattle.config_graph.specs.Cycles.{IsLinked, graph_wiring}
@@ -24,9 +24,6 @@ use Rattle.change_parts.specs.Ties.{AreConnected, IsCreated, IsRemoved, IsTouche
 use Rattle.change_parts.specs.Ties.Tied.{unlinked, linked}
 use Rattle.change_parts.proofs.LinkedLaws.{from_contained, linked_at, removed_touched, tell_touched, to_contained, untouched_alike}
 use Rattle.change_parts.proofs.TieLaws.{in_against, in_along, in_changed}
-
-pub All-from : {A : Type 0} (xs : List A) (P : A → Type 0) → ((x : A) → Contains xs x → P x) → All P xs
-All-from xs P f k d low = f (get_or xs k d) (Contains-get_or xs k d low)
 
 -- the ends of a connection are a requirement of the one node and a provision of the other
 pub ends_within : (g : Graph) → IsGraph g → (from : Node) (r : ℕ) (to : Node) (x : ℕ) → AreConnected g from r to x → (r < requires_of from) × (x < provides_of to)

@@ -11,7 +11,7 @@ use Rattle.std.proofs.lemmas.List.Kept.{AllPairs-cons}
 use Rattle.std.proofs.lemmas.Map.Text.{is_eq-slice_cmp}
 use Rattle.std.proofs.lemmas.Option.{same_Some}
 use Rattle.std.proofs.lemmas.Slice.Eq.{bytes_eq-Decides}
-use Rattle.base.proofs.ContainsLaws.{Contains-at, Contains-cons_cases, Contains-filter_map, Contains-from_map, Contains-here, Contains-map, Contains-nil, Contains-there, at_some_place}
+use Rattle.base.proofs.ContainsLaws.{Contains-at, Contains-cons_cases, Contains-filter_map, Contains-from_map, Contains-here, Contains-map, Contains-nil, Contains-there, at_some_place, All-from}
 use Rattle.base.proofs.FindLaws.{find-only}
 use Rattle.base.proofs.OrderedLaws.{before_all, rest_rises}
 use Rattle.base.proofs.PlaceLaws.{one_at}
@@ -38,7 +38,7 @@ use Rattle.change_parts.specs.Ties.Joined.{itself}
 use Rattle.change_parts.specs.Ties.Tied.{replaced}
 use Rattle.change_parts.proofs.LinkedLaws.{linked_at}
 use Rattle.change_parts.proofs.MissingLemmas.{Related, all_related, not_not, of_each, some_part}
-use Rattle.change_parts.proofs.StageLaws.{All-from, ends_within}
+use Rattle.change_parts.proofs.StageLaws.{ends_within}
 use Rattle.change_parts.proofs.TieLaws.{in_against, joined_back, joined_changed, then_joined}
 
 -- ---- nodes in the order of their paths

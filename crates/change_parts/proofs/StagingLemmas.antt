@@ -7,7 +7,7 @@ use Rattle.std.specs.Option.{option_map_or}
 use Rattle.std.proofs.lemmas.Bool.{cases_Bool, cases_lt, false≢true}
 use Rattle.std.proofs.lemmas.List.Elements.{All-contains, Contains-append_cases, Contains-append_left, Contains-append_right}
 use Rattle.std.proofs.lemmas.Option.{get_or_from_slice_get, none-some, option_and_then_some, same_Some, slice_get-get_or, slice_get_within}
-use Rattle.base.proofs.ContainsLaws.{Contains-at, Contains-filter_map, Contains-from_filter_map, at_some_place}
+use Rattle.base.proofs.ContainsLaws.{Contains-at, Contains-filter_map, Contains-from_filter_map, at_some_place, All-from}
 use Rattle.base.proofs.PlaceLaws.{one_at, slice_get-front, slice_get-last, slice_get-map_at, slice_get-map_some, slice_get-push_cases, slice_get-there}
 use Rattle.config_graph.specs.Cycles.{IsLinked}
 use Rattle.config_graph.specs.Graph.{Graph, IsGraph, IsLinkWithin, OneLinkAPort, PathsRise, begins_at, graph_of, ports, provides_of, requires_of}
@@ -29,7 +29,7 @@ use Rattle.change_parts.specs.Stages.{AreLinkedAfter, IsAfter, IsNodeAfter}
 use Rattle.change_parts.specs.Ties.{AreConnected, IsChanged, IsCreated, IsRemoved, IsTouchedNode}
 use Rattle.change_parts.specs.Ties.Tied.{replaced}
 use Rattle.change_parts.proofs.LinkedLaws.{from_contained, removed_touched, tell_touched, untouched_alike}
-use Rattle.change_parts.proofs.StageLaws.{All-from, end_stands, ends_within}
+use Rattle.change_parts.proofs.StageLaws.{end_stands, ends_within}
 use Rattle.change_parts.proofs.TieLaws.{in_against, in_changed}
 use Rattle.change_parts.specs.Members.{AreNumbers, IsIndex}
 use Rattle.change_parts.specs.Staging.{AreLaid, IsApplied, link_in, stands}

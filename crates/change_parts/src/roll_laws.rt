@@ -10,7 +10,8 @@ ghost use Rattle.change_plan.specs.Refusals.{CanPlan};
 ghost use Rattle.change_plan.specs.Room.{HasRoomFor};
 ghost use Rattle.change_plan.specs.declared.plan_data.Move.{Move};
 ghost use Rattle.change_parts.specs.Rolls.{IsRoll, roll_statements};
-ghost use Rattle.change_round_laws.specs.SoundStatements.{made_of_graph, nothing_made};
+ghost use Rattle.change_round_laws.specs.SoundStatements.{made_of_graph};
+ghost use Rattle.change_spec.specs.Scripts.{nothing_made};
 
 use crate::{
     no_link_is_lost, parts_may_be_carried_out, stages_are_sound_and_lead_to_the_new_graph,

@@ -2,7 +2,6 @@
 use Rattle.std.proofs.Common.{◌≡◌, ◌↔◌, ℕ, ◌<◌, List, length, get_or, Option, Some, None, slice_get, option_map, refl, sym, ◌∙◌, ap, subst, inl, inr, arith, Contains}
 use Rattle.std.specs.Option.{option_map_or}
 use Rattle.std.proofs.lemmas.List.Elements.{All-contains}
-use Rattle.std.proofs.lemmas.Option.{slice_get-get_or}
 use Rattle.config_graph.specs.Graph.{Graph, IsGraph, IsLinkWithin, begins_at, link_at, requires_at, requires_of, target_of}
 use Rattle.config_graph.specs.declared.node.Link.{Link}
 use Rattle.config_graph.specs.declared.node.Node.{Node}
@@ -16,11 +15,7 @@ use Rattle.change_plan.specs.Touched.{HasNewTarget, IsTouched, SameTarget}
 use Rattle.change_plan.proofs.NodeLaws.{one_path}
 use Rattle.base.proofs.ContainsLaws.{Contains-at}
 use Rattle.base.proofs.FindLaws.{Contains-find, find_passes}
-
--- an element that is read from a copy of a list
-pub read_at : {A : Type 0} (copy xs : List A) (i : ℕ) (x : A) → copy ≡ xs → i < length copy → x ≡ get_or copy i x → slice_get xs i ≡ Some x
-read_at copy xs i x copy_is low x_is =
-    ap (λ l. slice_get l i) (sym copy_is) ∙ slice_get-get_or copy i x low ∙ ap Some (sym x_is)
+use Rattle.base.proofs.PlaceLaws.{read_at}
 
 -- one place has one node
 pub one_node : (nodes : List Node) (i : ℕ) (m n : Node) → slice_get nodes i ≡ Some m → slice_get nodes i ≡ Some n → m ≡ n

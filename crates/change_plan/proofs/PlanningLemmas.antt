@@ -17,8 +17,9 @@ use Rattle.change_plan.specs.Selects.{Selects}
 use Rattle.config_graph.specs.declared.node.Port.{Port}
 use Rattle.change_plan.specs.Selects.Selects.{ends, takes, skips}
 use Rattle.change_plan.specs.Touched.{Frozen, IsTouched}
-use Rattle.change_plan.proofs.SelectsLaws.{Contains-places, Selects-has, Selects-only, sum_by-Selects, Selects-shorter}
+use Rattle.change_plan.proofs.SelectsLaws.{Selects-has, Selects-only, sum_by-Selects, Selects-shorter}
 use Rattle.base.proofs.RisingLaws.{places_more}
+use Rattle.base.proofs.RangeLaws.{Contains-places}
 
 -- what each element has, each of a part has; and a part is no longer than the whole
 All-Selects : {A : Type 0} (P Q : A → Type 0) (xs ys : List A) → Selects P xs ys → All Q xs → All Q ys

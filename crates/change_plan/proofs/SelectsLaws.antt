@@ -1,9 +1,8 @@
 -- Lemmas on the part of a list that has a property.
-use Rattle.std.proofs.Common.{◌≡◌, ℕ, zero, suc, ◌+◌, ◌<◌, ◌≤◌, List, [], ◌∷◌, ◌++◌, length, take, get_or, refl, sym, ◌∙◌, ap, subst, arith, sum_by, All, Contains, inl, inr}
+use Rattle.std.proofs.Common.{◌≡◌, ℕ, zero, suc, ◌+◌, ◌<◌, ◌≤◌, List, [], ◌∷◌, ◌++◌, length, take, get_or, refl, sym, ap, subst, arith, sum_by, All, Contains, inl, inr}
 use Rattle.std.specs.List.{range_with_len}
 use Rattle.std.proofs.lemmas.List.{take_more}
 use Rattle.std.proofs.lemmas.List.Elements.{All-cons, All-nil, Contains-append_right, Contains-get_or}
-use Rattle.std.proofs.lemmas.List.FromFn.{get_or-range_with_len, length-range_with_len}
 use Rattle.std.proofs.lemmas.List.Sums.{sum_by-cons}
 use Rattle.change_plan.specs.Selects.{Selects}
 use Rattle.change_plan.specs.Selects.Selects.{ends, takes, skips}
@@ -80,11 +79,6 @@ Selects-part P all part (takes {x = y} {xs = xs} {ys = ys} first s) x (suc k, lo
     Contains-append_right (y ∷ []) xs x (Selects-part P xs ys s x (k, omega arith, same))
 Selects-part P all part (skips {x = y} {xs = xs} {ys = ys} lacks s) x there =
     Contains-append_right (y ∷ []) xs x (Selects-part P xs ys s x there)
-
--- a place is among the first
-pub Contains-places : (n i : ℕ) → i < n → Contains (range_with_len 0 n) i
-Contains-places n i low =
-    (i, rw length-range_with_len low, get_or-range_with_len 0 n i i low ∙ omega arith)
 
 -- a selection is no longer than what it is of
 pub Selects-shorter : {A : Type 0} (P : A → Type 0) (xs ys : List A) → Selects P xs ys → length ys ≤ length xs

@@ -21,9 +21,10 @@ use Rattle.change_plan.specs.Touched.{IsTouched, SameTarget}
 use Rattle.config_graph.specs.declared.node.Port.{Port}
 use Rattle.change_plan.specs.declared.plan_data.Plan.{Plan}
 use Rattle.change_plan.proofs.DifferenceLemmas.{kept_none, kept_some, one_node, same_requires}
-use Rattle.change_plan.proofs.SelectsLaws.{Contains-places, Selects-has, Selects-only, Selects-part}
+use Rattle.change_plan.proofs.SelectsLaws.{Selects-has, Selects-only, Selects-part}
 use Rattle.base.proofs.ContainsLaws.{Contains-from_map, Contains-map, at_some_place}
 use Rattle.base.proofs.PlaceLaws.{slice_get-there}
+use Rattle.base.proofs.RangeLaws.{Contains-places}
 
 -- whether two nodes are equal
 pub same_node : (m n : Node) → (m ≡ n) ⊎ (¬ (m ≡ n))

@@ -13,6 +13,7 @@ use Rattle.quiesce_core.specs.Rules.{denial}
 use Rattle.quiesce_core.specs.Runs.{IsRun, state_after}
 use Rattle.quiesce_core.specs.State.{Configuration, gate, is_live, owner, slot}
 use Rattle.base.proofs.OptionLaws.{map_or_at, map_or_true}
+use Rattle.base.proofs.ContainsLaws.{any_of}
 use Rattle.quiesce_laws.specs.Lists.{In}
 use Rattle.quiesce_laws.specs.Steps.{change_all}
 use Rattle.quiesce_laws.proofs.GateLaws.{all_closed, close_allowed}
@@ -20,7 +21,7 @@ use Rattle.quiesce_laws.proofs.TurningLaws.{IsLivePort, SameLinks, Turning, live
 use Rattle.change_plan_laws.specs.Commit.{commit_events, commit_steps, is_at, is_one_of, node_path, ports_to_close, ports_to_reopen, stands_in}
 use Rattle.change_plan_laws.specs.Committing.{MayCommit}
 use Rattle.change_plan_laws.proofs.CommitLemmas.{flag_stays, opened_at, same_links}
-use Rattle.quiesce_laws.proofs.MemberLaws.{any_of, in_contains, select, selected}
+use Rattle.quiesce_laws.proofs.MemberLaws.{in_contains, select, selected}
 
 module _ (old : Graph) (plan : Plan) (c : Configuration) where
   -- a node of the old graph that stands somewhere is live

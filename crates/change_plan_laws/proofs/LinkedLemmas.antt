@@ -1,15 +1,14 @@
 -- What a plan links, by ports and slots of the configuration in which its nodes are made.
-use Rattle.std.proofs.Common.{◌≡◌, ℕ, ◌+◌, ◌<◌, ◌≤◌, Bool, true, false, cond, List, [], length, get_or, Option, Some, None, refl, sym, ap, ◌∙◌, subst, inl, inr, ⊎_elim, arith, Contains, lt-ltb}
-use Rattle.std.specs.Prelude.{◌⊎◌, ◌↔◌, ◌==◌, find, position, slice_get, option_map, option_and_then}
-use Rattle.std.specs.List.{position_or_len, range_with_len}
-use Rattle.std.proofs.lemmas.Bool.{and_from, and_parts, both_ways, cases_lt, eq-eqb, eqb-true}
+use Rattle.std.proofs.Common.{◌≡◌, ℕ, ◌+◌, ◌<◌, ◌≤◌, false, [], length, Option, Some, None, refl, sym, ap, ◌∙◌, subst, inl, inr, ⊎_elim, arith, Contains}
+use Rattle.std.specs.Prelude.{◌⊎◌, ◌↔◌, ◌==◌, find, slice_get, option_map, option_and_then}
+use Rattle.std.specs.List.{range_with_len}
+use Rattle.std.proofs.lemmas.Bool.{and_from, and_parts, cases_lt, eq-eqb, eqb-true}
 use Rattle.std.proofs.lemmas.List.Elements.{All-contains}
-use Rattle.std.proofs.lemmas.List.Sums.{fails_before_first}
-use Rattle.std.proofs.lemmas.Option.{get_or_from_slice_get, same_Some, slice_get_within}
+use Rattle.std.proofs.lemmas.Option.{same_Some}
 use Rattle.change_plan.specs.Differences.{IsGone, IsKeptLink, IsTwin}
 use Rattle.change_plan.specs.Touched.{IsTouched}
 use Rattle.change_plan.specs.declared.plan_data.Plan.{Plan}
-use Rattle.base.proofs.FindLaws.{Contains-find, find_passes, is_some-find_from}
+use Rattle.base.proofs.FindLaws.{Contains-find, find_passes, is_some-find_from, position_some}
 use Rattle.base.proofs.OptionLaws.{Some-from_is_some, map_or_at}
 use Rattle.base.proofs.PlaceLaws.{slice_get-there}
 use Rattle.change_plan.proofs.StepLaws.{kept, linked_touched}
@@ -44,14 +43,6 @@ use Rattle.change_plan_laws.proofs.PlannedLemmas.{PortOf, kept_if, link_if, link
 use Rattle.quiesce_laws.proofs.MemberLaws.{apart_pairs, contains_in, in_contains, map_apart, map_in, mapped}
 use Rattle.change_plan_laws.proofs.StandingLaws.{in_if_stands, one_slot, stands_if_in, stands_if_slot}
 use Rattle.quiesce_laws.specs.Commits.{AreLinks, Changed, IsToLink, OtherPort}
-
-position_some : {A : Type 0} (f : A → Bool) (xs : List A) (i : ℕ) (x : A) → slice_get xs i ≡ Some x → f x ≡ true → (k : ℕ) × (position f xs ≡ Some k)
-position_some f xs i x e h = ⊎_elim
-    (λ (low : position_or_len f xs < length xs). (position_or_len f xs, ap (λ b. cond b (Some (position_or_len f xs)) None) (lt-ltb (position_or_len f xs) (length xs) low)))
-    (λ (high : length xs ≤ position_or_len f xs).
-    let inside = slice_get_within xs i x e in
-    absurd (both_ways (f (get_or xs i x)) (fails_before_first f xs i x (omega (arith, high, inside))) (ap f (get_or_from_slice_get xs i x x e) ∙ h)))
-    (cases_lt (position_or_len f xs) (length xs))
 
 module _ (old new : Graph) (plan : Plan) (c : Configuration) (ready : IsReady old new plan c) (d : Configuration) (h : Making c new (IsTouchedSlot old new c) d []) where
   nodes_are : (node : Node) → Contains new.nodes node ↔ IsLiveNode d node

@@ -12,7 +12,7 @@ use Rattle.change_plan.specs.declared.plan_data.Shift.{Shift}
 use Rattle.change_plan.proofs.StepLaws.{has_node, kept, lost_touched, unlinked}
 use Rattle.base.proofs.PlaceLaws.{slice_get-there}
 use Rattle.change_plan.proofs.NodeLaws.{one_path}
-use Rattle.change_plan.proofs.SelectsLaws.{Contains-places, Selects-has, Selects-only, Selects-part}
+use Rattle.change_plan.proofs.SelectsLaws.{Selects-has, Selects-only, Selects-part}
 use Rattle.config_graph.specs.Cycles.{IsLinked}
 use Rattle.config_graph.specs.Graph.{Graph, IsGraph, IsLinkWithin, begins_at, link_at, requires_of}
 use Rattle.config_graph.specs.Sound.{HasItsArgument}
@@ -33,7 +33,8 @@ use Rattle.quiesce_core.specs.State.{Configuration, gate, is_live, owner, slot, 
 use Rattle.quiesce_core.proofs.CycleLaws.{made_below}
 use Rattle.quiesce_core.proofs.LiveLinkLaws.{linked_at}
 use Rattle.base.proofs.OptionLaws.{map_or_true}
-use Rattle.base.proofs.ContainsLaws.{Contains-from_map, Contains-at, at_some_place, any_if}
+use Rattle.base.proofs.ContainsLaws.{Contains-from_map, Contains-at, at_some_place, any_if, any_of}
+use Rattle.base.proofs.RangeLaws.{Contains-places}
 use Rattle.change_plan_laws.specs.Commit.{is_at, is_one_of, is_unlinked_by, makes_from, node_at, node_path, slot_at, source_of, work}
 use Rattle.change_plan_laws.specs.Commit as commit
 use Rattle.change_plan_laws.specs.Committing.{IsTouchedSlot}
@@ -43,7 +44,7 @@ use Rattle.quiesce_laws.specs.Lists.{Apart, In}
 use Rattle.quiesce_laws.specs.Work.{AreNumbered, NewNode}
 use Rattle.quiesce_core.proofs.ConfigurationLaws.{linked_made}
 use Rattle.quiesce_laws.proofs.MakingLaws.{argument_test}
-use Rattle.quiesce_laws.proofs.MemberLaws.{apart_pairs, contains_in, in_contains, any_of, select, select_apart, selected}
+use Rattle.quiesce_laws.proofs.MemberLaws.{apart_pairs, contains_in, in_contains, select, select_apart, selected}
 use Rattle.change_plan_laws.proofs.RisingLaws.{selects_apart}
 use Rattle.change_plan_laws.proofs.StandingLaws.{in_if_stands, one_port, one_slot, stands_if_in, stands_if_live, stands_if_slot, stands_live_at}
 use Rattle.quiesce_laws.specs.Commits.{Differ, IsToRemove, IsToUnlink, IsWork, OtherPath, OtherSource}

@@ -1,11 +1,12 @@
 -- What the change does in a run is a run by itself: without the nodes' events nothing is under way, and so nothing stands against it.
-use Rattle.std.proofs.Common.{◌≡◌, ◌∙◌, ℕ, Bool, true, false, cond, not, ◌&&◌, ◌||◌, List, [], ◌∷◌, ◌++◌, length, None, refl, sym, ap, subst, ⊎_elim}
+use Rattle.std.proofs.Common.{◌≡◌, ◌∙◌, ℕ, true, false, cond, not, ◌&&◌, ◌||◌, List, [], ◌∷◌, ◌++◌, length, None, refl, sym, ap, subst, ⊎_elim}
 use Rattle.std.specs.Prelude.{filter, is_none}
 use Rattle.std.specs.List.{list_all, range_with_len}
 use Rattle.std.proofs.lemmas.Bool.{and_from, and_parts, both_ways, cases_Bool, or_cases, or_left, or_right}
 use Rattle.std.proofs.lemmas.List.{append-nil}
 use Rattle.std.proofs.lemmas.List.Elements.{filter-append}
 use Rattle.base.proofs.PlaceLaws.{fresh_behind}
+use Rattle.base.proofs.ListLaws.{list_all-weaker}
 use Rattle.config_graph.specs.Kinds.{row}
 use Rattle.quiesce_word.specs.Phases.{is_idle}
 use Rattle.quiesce_core.specs.declared.event.Event.{Event}
@@ -39,10 +40,6 @@ still_next s (Unlink p) change h = record { idle = h.idle; free = h.free }
 still_next s (Remove n) change h = record { idle = h.idle; free = h.free }
 still_next s _ change h = absurd (both_ways false refl change)
 
-all_if : (f g : ℕ → Bool) → ((p : ℕ) → f p ≡ true → g p ≡ true) → (xs : List ℕ) → list_all f xs ≡ true → list_all g xs ≡ true
-all_if f g h [] e = refl
-all_if f g h (x ∷ xs) e = let w = and_parts (f x) (list_all f xs) e in and_from (g x) (list_all g xs) (h x w.0) (all_if f g h xs w.1)
-
 -- what the change may do while nodes work it may do where nothing is under way
 module _ (c : Configuration) (t u : Traffic) (still : IsStill (record { config = c; traffic = u })) where
   quiet : (p : ℕ) → is_quiet (record { config = c; traffic = t }) p ≡ true → is_quiet (record { config = c; traffic = u }) p ≡ true
@@ -63,9 +60,9 @@ module _ (c : Configuration) (t u : Traffic) (still : IsStill (record { config =
       let two = and_parts (is_live c n) own first.0 in
       and_from (is_live c n && own_now && is_none (service v n)) reaching_now
       (and_from (is_live c n && own_now) (is_none (service v n))
-      (and_from (is_live c n) own_now two.0 (all_if (λ p. is_quiet s p) (λ p. is_quiet v p) quiet (ports_of c n) two.1))
+      (and_from (is_live c n) own_now two.0 (list_all-weaker (λ p. is_quiet s p) (λ p. is_quiet v p) quiet (ports_of c n) two.1))
       (ap is_none (still.free n)))
-      (all_if (λ p. is_quiet s p || not (reaches c n p)) (λ p. is_quiet v p || not (reaches c n p))
+      (list_all-weaker (λ p. is_quiet s p || not (reaches c n p)) (λ p. is_quiet v p || not (reaches c n p))
       (λ p either. ⊎_elim
       (λ (own_port : is_quiet s p ≡ true). or_left (is_quiet v p) (not (reaches c n p)) (quiet p own_port))
       (λ (apart : not (reaches c n p) ≡ true). or_right (is_quiet v p) (not (reaches c n p)) apart)

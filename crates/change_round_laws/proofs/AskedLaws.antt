@@ -4,7 +4,8 @@ use Rattle.config_graph.specs.Graph.{Graph}
 use Rattle.config_graph.specs.Sound.{Sound}
 use Rattle.change_plan.specs.Room.{HasRoomFor}
 use Rattle.change_round_laws.specs.SoundStatements.{AreSound, GoOnSoundly, IsSoundGraph}
-use Rattle.change_spec.specs.Asked.{Above, CanDoAll, CanStart, after_change, after_start, nothing_made, statement_of, statements_of}
+use Rattle.change_spec.specs.Asked.{Above, CanDoAll, CanStart, after_change, after_start, statement_of, statements_of}
+use Rattle.change_spec.specs.Scripts.{nothing_made}
 use Rattle.change_spec.specs.declared.steps.Start.{Start}
 use Rattle.change_spec.specs.declared.steps.Step.{Step}
 use Rattle.change_spec.specs.declared.steps.Step.TheVariants as steps

@@ -1,6 +1,6 @@
 -- Ports that are closed for a change or a stop: they are live, they stay what they were, and what isn't drained there has a root that stood since.
-use Rattle.std.proofs.Common.{◌≡◌, ◌∙◌, ℕ, ◌<◌, Bool, true, false, cond, not, ◌&&◌, ◌||◌, List, [], ◌∷◌, length, refl, sym, ap, arith}
-use Rattle.std.specs.Prelude.{◌==◌, filter, is_some}
+use Rattle.std.proofs.Common.{◌≡◌, ◌∙◌, ℕ, ◌<◌, Bool, true, false, not, ◌&&◌, ◌||◌, List, [], length, refl, sym, ap, arith}
+use Rattle.std.specs.Prelude.{◌==◌, is_some}
 use Rattle.std.specs.List.{range_with_len}
 use Rattle.std.proofs.lemmas.Bool.{and_from, eq-eqb, not_from_false, or_parts}
 use Rattle.std.specs.List.Sorted.{IsStrictlyIncreasing}
@@ -29,10 +29,6 @@ frozen_listed old plan c p low frozen = select (λ q. is_one_of old plan.freeze 
 
 pub where_rise : (test : ℕ → Bool) (c : Configuration) → IsStrictlyIncreasing (ports_where test c)
 where_rise test c = IsStrictlyIncreasing-filter test (range_with_len 0 (length c.gates)) (range_rises 0 (length c.gates))
-
-filter_same : (f g : ℕ → Bool) → ((p : ℕ) → f p ≡ g p) → (xs : List ℕ) → filter f xs ≡ filter g xs
-filter_same f g h [] = refl
-filter_same f g h (x ∷ xs) = λ i. cond (h x i) (x ∷ filter_same f g h xs i) (filter_same f g h xs i)
 
 -- nothing but flags differs
 pub frozen_same : (old : Graph) (places : List ℕ) (c d : Configuration) → SameLinks c d → (n : ℕ) → is_one_of old places d n ≡ is_one_of old places c n

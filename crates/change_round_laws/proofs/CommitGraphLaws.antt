@@ -49,9 +49,8 @@ use Rattle.change_spec.specs.Members.{Member, of_history, events, is_commit, is_
 use Rattle.change_spec.specs.Scene.{Seen, config_after, drained_line, root_line}
 use Rattle.change_spec.specs.Scripts.{more_made}
 use Rattle.change_spec.specs.Statements.{Statement, start, change, run, finish, show, graph_of}
-use Rattle.change_spec.proofs.MemberLaws.{all_parts, changes_are_lines, config_of_lines, events_without_roots, lines_parts}
-use Rattle.change_spec.proofs.TestLaws.{none_both, none_mapped}
-use Rattle.base.proofs.ListLaws.{count_by-none}
+use Rattle.change_spec.proofs.MemberLaws.{changes_are_lines, config_of_lines, events_without_roots, lines_parts}
+use Rattle.base.proofs.ListLaws.{count_by-none, all_parts, none_both, any_of_none}
 use Rattle.change_round_laws.specs.Described.{IsLeftAt, LeavesDescribed}
 use Rattle.change_round_laws.specs.SoundStatements.{named_by, AreSound, ChangesSoundly, GoOnSoundly, IsSoundGraph, StartsSoundly, made_of_graph}
 use Rattle.change_round_laws.proofs.AloneLaws.{changes_run}
@@ -264,15 +263,15 @@ module _ (each_may : EachMayCommit) (by_config : CommitsByConfiguration) (leaves
       commitless : list_any is_commit (opening_lines name args old plan (config_after h) ++ (drained_lines looks ++ lines_of_events (commit_events old new plan (config_after (h ++ opening_lines name args old plan (config_after h)))))) ≡ false
       commitless =
           let ev = commit_events old new plan (config_after (h ++ opening_lines name args old plan (config_after h))) in
-          none_both is_commit (opening_lines name args old plan (config_after h)) (drained_lines looks ++ lines_of_events ev) (none_mapped is_commit to.Close (λ p. refl) (ports_to_close old plan (config_after h)))
-          (none_both is_commit (drained_lines looks) (lines_of_events ev) (none_mapped is_commit drained_line (λ d. refl) (seen_in_all looks)) (commits_in_events ev))
+          none_both is_commit (opening_lines name args old plan (config_after h)) (drained_lines looks ++ lines_of_events ev) (any_of_none is_commit to.Close (λ p. refl) (ports_to_close old plan (config_after h)))
+          (none_both is_commit (drained_lines looks) (lines_of_events ev) (any_of_none is_commit drained_line (λ d. refl) (seen_in_all looks)) (commits_in_events ev))
 
       front_heads : count_by is_head (opening_lines name args old plan (config_after h) ++ (drained_lines looks ++ lines_of_events (commit_events old new plan (config_after (h ++ opening_lines name args old plan (config_after h)))))) ≡ 1
       front_heads =
           let ev = commit_events old new plan (config_after (h ++ opening_lines name args old plan (config_after h))) in
           one_head (to.Change name args) (map to.Close (ports_to_close old plan (config_after h)) ++ (drained_lines looks ++ lines_of_events ev)) refl
-          (none_both is_head (map to.Close (ports_to_close old plan (config_after h))) (drained_lines looks ++ lines_of_events ev) (none_mapped is_head to.Close (λ p. refl) (ports_to_close old plan (config_after h)))
-          (none_both is_head (drained_lines looks) (lines_of_events ev) (none_mapped is_head drained_line (λ d. refl) (seen_in_all looks)) (heads_in_events ev)))
+          (none_both is_head (map to.Close (ports_to_close old plan (config_after h))) (drained_lines looks ++ lines_of_events ev) (any_of_none is_head to.Close (λ p. refl) (ports_to_close old plan (config_after h)))
+          (none_both is_head (drained_lines looks) (lines_of_events ev) (any_of_none is_head drained_line (λ d. refl) (seen_in_all looks)) (heads_in_events ev)))
 
       whole_changes : changes (opening_lines name args old plan (config_after h) ++ ((drained_lines looks ++ lines_of_events (commit_events old new plan (config_after (h ++ opening_lines name args old plan (config_after h))))) ++ to.Commit ∷ []))
           ≡ map event.Close (ports_to_close old plan (config_after h)) ++ commit_events old new plan (config_after (h ++ opening_lines name args old plan (config_after h)))
@@ -340,10 +339,10 @@ module _ (each_may : EachMayCommit) (by_config : CommitsByConfiguration) (leaves
         let none_in : (t : HistoryLine → Bool) → ((p : ℕ) → t (to.Close p) ≡ false) → ((d : Seen) → t (drained_line d) ≡ false) → t (to.Pending within) ≡ false → ((d : Seen) → t (root_line d) ≡ false)
         → ((p : ℕ) → t (to.Reopen p) ≡ false) → t to.Abandon ≡ false → list_any t (map to.Close closed ++ (drained_lines w.looks ++ pending_lines within w.left closed)) ≡ false =
         λ t close look pend root reopen end_.
-        none_both t (map to.Close closed) (drained_lines w.looks ++ pending_lines within w.left closed) (none_mapped t to.Close close closed)
-        (none_both t (drained_lines w.looks) (pending_lines within w.left closed) (none_mapped t drained_line look (seen_in_all w.looks))
+        none_both t (map to.Close closed) (drained_lines w.looks ++ pending_lines within w.left closed) (any_of_none t to.Close close closed)
+        (none_both t (drained_lines w.looks) (pending_lines within w.left closed) (any_of_none t drained_line look (seen_in_all w.looks))
         (rw pend (none_both t (map root_line w.left ++ map to.Reopen closed) (to.Abandon ∷ [])
-        (none_both t (map root_line w.left) (map to.Reopen closed) (none_mapped t root_line root w.left) (none_mapped t to.Reopen reopen closed)) (rw end_ refl)))) in
+        (none_both t (map root_line w.left) (map to.Reopen closed) (any_of_none t root_line root w.left) (any_of_none t to.Reopen reopen closed)) (rw end_ refl)))) in
         let pends : list_any is_pending ls ≡ true =
         ap (list_any is_pending) whole ∙ list_any-append is_pending o (drained_lines w.looks ++ pending_lines within w.left closed)
         ∙ Rattle.std.proofs.lemmas.Bool.or_right (list_any is_pending o) (list_any is_pending (drained_lines w.looks ++ pending_lines within w.left closed))
@@ -490,7 +489,7 @@ module _ (each_may : EachMayCommit) (by_config : CommitsByConfiguration) (leaves
       let all : changes history ≡ changes first ++ changes f.stop = ap changes (sym f.history_is) ∙ changes_both first f.stop in
       let ports = live_ports (config_after first) in
       let commitless : list_any is_commit f.stop ≡ false =
-      ap (list_any is_commit) f.stops.are ∙ none_both is_commit (map to.Close ports) (map drained_line f.stops.seen) (none_mapped is_commit to.Close (λ p. refl) ports) (none_mapped is_commit drained_line (λ d. refl) f.stops.seen) in
+      ap (list_any is_commit) f.stops.are ∙ none_both is_commit (map to.Close ports) (map drained_line f.stops.seen) (any_of_none is_commit to.Close (λ p. refl) ports) (any_of_none is_commit drained_line (λ d. refl) f.stops.seen) in
       subst (Each (IsLeftAt statements)) f.history_is
       (each_joined (IsLeftAt statements) [] first f.stop
       (from_start f.parts (sym f.statements_are) (right_after [] f.parts f.right) (subst AreSound (sym f.statements_are) sound) (fronts_are_runs (changes first) (changes f.stop) (subst IsRun all run_so)))

@@ -29,9 +29,11 @@ use Rattle.quiesce_core.proofs.InductionLaws.{IsNext, further}
 use Rattle.quiesce_core.proofs.LegalLaws.{allowed}
 use Rattle.quiesce_core.proofs.RunLaws.{node_events_keep_the_configuration}
 use Rattle.base.proofs.OptionLaws.{Some-from_is_some}
+use Rattle.base.proofs.ListLaws.{none_both}
 use Rattle.quiesce_laws.specs.Lists.{In}
 use Rattle.quiesce_laws.proofs.MemberLaws.{selected}
-use Rattle.node_turn_laws.specs.Round.{Round, after_rounds, ended, give_turn, ends_transaction, live_nodes, round, stands_still}
+use Rattle.node_turn_laws.specs.Round.{Round, after_rounds, ended, give_turn, live_nodes, round, stands_still}
+use Rattle.quiesce_laws.specs.Events.{ends_transaction}
 use Rattle.node_turn_laws.specs.Turn.{turn}
 use Rattle.node_turn_laws.specs.World.{World}
 use Rattle.node_turn_laws.specs.Reached.{IsReached}
@@ -39,7 +41,6 @@ use Rattle.node_turn_laws.proofs.ReachedLaws.{holds_where_reached, turn_goes_on}
 use Rattle.change_spec.specs.Serial.{run_ends}
 use Rattle.change_round_laws.specs.Existing.{RunsEnd}
 use Rattle.change_round_laws.proofs.CourseLaws.{turn_config, turn_events}
-use Rattle.change_spec.proofs.TestLaws.{none_both}
 use Rattle.change_round_laws.proofs.GrowthLemmas.{total, total_both}
 
 -- what quiesce_laws says of the steps

@@ -4,11 +4,12 @@ use Rattle.std.specs.Prelude.{◌⊎◌, ◌==◌, All, filter}
 use Rattle.std.specs.List.{count_by, list_any}
 use Rattle.std.specs.List.Sorted.{IsStrictlyIncreasing}
 use Rattle.std.proofs.lemmas.Bool.{cases_Bool, not-true}
-use Rattle.std.proofs.lemmas.List.{append-nil, length-append}
+use Rattle.std.proofs.lemmas.List.{append-nil, length-append, map-append}
 use Rattle.std.proofs.lemmas.List.Elements.{All-append, All-cons, All-nil, All-head, All-tail}
 use Rattle.std.proofs.lemmas.List.Kept.{IsStrictlyIncreasing-filter}
 use Rattle.std.proofs.lemmas.Grind.{flat_map-append}
 use Rattle.base.proofs.MapLaws.{count_by-append}
+use Rattle.base.proofs.ListLaws.{all_parts}
 use Rattle.quiesce_laws.specs.Lists.{In}
 use Rattle.quiesce_core.specs.declared.event.Event.{Event}
 use Rattle.quiesce_core.specs.Runs.{IsRun, state_after}
@@ -25,7 +26,7 @@ use Rattle.change_spec.specs.Lawful.{IsOfItsKind}
 use Rattle.change_spec.specs.Members.{Member, by_node, of_history, lines}
 use Rattle.change_spec.specs.Scene.{AreSeen, Seen, drained_line}
 use Rattle.change_spec.specs.Serial.{Looks, look_once, looks_after, seen_at}
-use Rattle.change_spec.proofs.MemberLaws.{all_parts, events_of_nodes, events_parts, lines_of_nodes, lines_parts}
+use Rattle.change_spec.proofs.MemberLaws.{events_of_nodes, events_parts, lines_of_nodes, lines_parts}
 use Rattle.change_spec.proofs.SerialLaws.{ports_seen}
 use Rattle.change_round_laws.specs.Courses.{Course}
 use Rattle.change_round_laws.proofs.CourseLaws.{WentOn, course_machine, course_run, with_rounds, with_said}
@@ -81,12 +82,8 @@ counted_seen w p (x ∷ ds) =
 pub seen_more : (looks : List (List Seen)) (seen : List Seen) → seen_in_all (looks ++ seen ∷ []) ≡ seen_in_all looks ++ seen
 seen_more looks seen = flat_map-append (λ (s : List Seen). s) looks (seen ∷ []) ∙ ap (λ xs. seen_in_all looks ++ xs) (append-nil seen)
 
-map_both : {A B : Type 0} (f : A → B) (xs ys : List A) → map f (xs ++ ys) ≡ map f xs ++ map f ys
-map_both f [] ys = refl
-map_both f (x ∷ xs) ys = ap (λ zs. f x ∷ zs) (map_both f xs ys)
-
 lines_more : (looks : List (List Seen)) (seen : List Seen) → drained_lines (looks ++ seen ∷ []) ≡ drained_lines looks ++ map drained_line seen
-lines_more looks seen = ap (map drained_line) (seen_more looks seen) ∙ map_both drained_line (seen_in_all looks) seen
+lines_more looks seen = ap (map drained_line) (seen_more looks seen) ∙ map-append drained_line (seen_in_all looks) seen
 
 -- what looks find by the numbers of ports: each is seen or left, and in each look ports rise
 

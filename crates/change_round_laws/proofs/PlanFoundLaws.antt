@@ -10,10 +10,11 @@ use Rattle.std.proofs.lemmas.List.Elements.{All-contains, filter-append}
 use Rattle.std.proofs.lemmas.List.Folds.{Any-from_list_any}
 use Rattle.std.proofs.lemmas.Option.{get_or_from_slice_get, slice_get_within}
 use Rattle.std.proofs.lemmas.Slice.Eq.{bytes_eq-Decides}
-use Rattle.base.proofs.ContainsLaws.{Contains-flat_map, Contains-here, Contains-map, Contains-there, at_some_place, any_if}
+use Rattle.base.proofs.ContainsLaws.{Contains-flat_map, Contains-map, at_some_place, any_if, any_of}
 use Rattle.base.proofs.OptionLaws.{Some-from_is_some}
 use Rattle.base.proofs.PlaceLaws.{one_at}
-use Rattle.base.proofs.RangeLaws.{count_in, count_in-le, count_in_rises, range_all}
+use Rattle.base.proofs.RangeLaws.{count_in, count_in-le, count_in_rises, range_all, Contains-places}
+use Rattle.base.proofs.ListLaws.{list_all_if}
 use Rattle.config_graph.specs.Cycles.{depends_at, graph_wiring}
 use Rattle.config_graph.specs.Graph.{Graph, IsGraph, IsLinkWithin, provides_of, requires_of, target_of}
 use Rattle.config_graph.specs.Walks.{step}
@@ -30,11 +31,9 @@ use Rattle.change_plan.specs.Moves.{IsFit, IsGoneAt, MayMove, MayMoveAll}
 use Rattle.change_plan.specs.declared.plan_data.Move.{Move}
 use Rattle.change_plan.specs.declared.plan_data.Shift.{Shift}
 use Rattle.change_plan.proofs.MoveLaws.{one_gone, one_name}
-use Rattle.change_plan.proofs.SelectsLaws.{Contains-places}
 use Rattle.change_spec.specs.Planning.{all_shifts, can_be_planned, have_one_kind, is_fit, is_fit_as, is_led, is_shift, is_touched, leads_no_further, leads_to, leads_within, may_move, may_move_all, may_move_at, planned, rises, shifts, shifts_to}
 use Rattle.change_spec.specs.Statements.{Statement, start, change, run, finish, show}
 use Rattle.change_spec.proofs.PlanningLaws.{led_decides, planned_so, shift_decides}
-use Rattle.quiesce_laws.proofs.MemberLaws.{any_of}
 use Rattle.change_round_laws.specs.Existing.{HavePlans, HavePlansFrom}
 use Rattle.change_round_laws.specs.SoundStatements.{AreSound, GoOnSoundly, IsSoundGraph}
 
@@ -289,10 +288,6 @@ shifts_rise old new moves graph may a (suc n) =
     by : (own later : List ℕ) → LedTo (is_shift old new moves) a own → rises_from (a + 1) later ≡ true → rises_from a (own ++ later) ≡ true
     by own later (LedTo.nothing is) h = ap (λ xs. rises_from a (xs ++ later)) is ∙ from_lower a later h
     by own later (LedTo.this is) h = ap (λ xs. rises_from a (xs ++ later)) is ∙ from_this a later h
-
-list_all_if : {A : Type 0} (p : A → Bool) (xs : List A) → ((x : A) → Contains xs x → p x ≡ true) → list_all p xs ≡ true
-list_all_if p [] h = refl
-list_all_if p (x ∷ xs) h = and_from (p x) (list_all p xs) (h x (Contains-here x xs)) (list_all_if p xs (λ y there. h y (Contains-there x y xs there)))
 
 -- the tests find the plan
 pub plans_are_found : (old new : Graph) (moves : List Move) → IsGraph old → HasNoCycle (graph_wiring old) → MayMoveAll old new moves (length moves) → can_be_planned old new moves ≡ true

@@ -27,7 +27,8 @@ use Rattle.quiesce_core.specs.Rules.{is_live_port}
 use Rattle.quiesce_core.specs.State.{State, owner}
 use Rattle.quiesce_laws.specs.Drained.{is_drained}
 use Rattle.quiesce_laws.specs.Starts.{start_of}
-use Rattle.node_turn_laws.specs.Round.{FirstAt, after_rounds, ended, ends_transaction}
+use Rattle.node_turn_laws.specs.Round.{FirstAt, after_rounds, ended}
+use Rattle.quiesce_laws.specs.Events.{ends_transaction}
 use Rattle.node_turn_laws.specs.World.{World}
 use Rattle.node_turn_laws.proofs.ReachedLaws.{holds_where_reached}
 use Rattle.report_types.specs.declared.report.HistoryLine.{HistoryLine}

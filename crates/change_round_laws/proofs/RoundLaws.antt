@@ -10,7 +10,7 @@ use Rattle.std.proofs.lemmas.List.{append-nil}
 use Rattle.std.proofs.lemmas.List.Elements.{All-cons, All-nil, filter-append}
 use Rattle.std.proofs.lemmas.List.Sums.{fold_push}
 use Rattle.base.specs.Each.{Each, EachAfter}
-use Rattle.base.proofs.EachLaws.{each_at, each_weaker}
+use Rattle.base.proofs.EachLaws.{each_at, each_weaker, each_if}
 use Rattle.base.proofs.MapLaws.{map-map}
 use Rattle.base.proofs.PlaceLaws.{slice_get-there}
 use Rattle.base.proofs.RisingLaws.{places_more}
@@ -49,7 +49,7 @@ use Rattle.change_spec.specs.Members.{Member, of_history, event_of, events, made
 use Rattle.change_spec.specs.Opening.{fold_of_node}
 use Rattle.change_spec.specs.Serial.{IsPlayed, Played, Plays, Serial, is_left_undone, last_of, lines_played, log_of, report_of, unfinished_in, world_after}
 use Rattle.change_spec.specs.Statements.{Statement, start, change, run, finish, show, is_finish}
-use Rattle.change_spec.proofs.MemberLaws.{changes_are_lines, each_if, events_without_roots}
+use Rattle.change_spec.proofs.MemberLaws.{changes_are_lines, events_without_roots}
 use Rattle.change_round_laws.specs.Courses.{Course, IsToldAt}
 use Rattle.change_round_laws.specs.SoundStatements.{AreSound, GoOnSoundly}
 use Rattle.change_round_laws.proofs.AloneLaws.{changes_run}

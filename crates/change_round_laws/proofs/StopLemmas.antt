@@ -29,8 +29,8 @@ use Rattle.change_spec.specs.Members.{Member, by_node, of_history, lines_of_even
 use Rattle.quiesce_laws.specs.Steps.{live_ports}
 use Rattle.quiesce_laws.proofs.GateLaws.{live_listed}
 use Rattle.change_spec.specs.Serial.{after_changes, looks_after}
-use Rattle.change_spec.proofs.MemberLaws.{all_parts, events_of_nodes, events_parts}
-use Rattle.base.proofs.ListLaws.{count_by-some}
+use Rattle.change_spec.proofs.MemberLaws.{events_of_nodes, events_parts}
+use Rattle.base.proofs.ListLaws.{count_by-some, all_parts}
 use Rattle.change_round_laws.specs.Courses.{Course}
 use Rattle.change_round_laws.specs.Existing.{StopsEnd}
 use Rattle.change_round_laws.proofs.ClosingLaws.{shut, shut_at}

@@ -7,7 +7,7 @@ use Rattle.config_graph.specs.declared.node.Made.{Made}
 use Rattle.change_plan.specs.Refusals.{CanPlan}
 use Rattle.change_plan.specs.Room.{HasRoomFor}
 use Rattle.change_plan.specs.declared.plan_data.Move.{Move}
-use Rattle.change_spec.specs.Scripts.{more_made, nothing_above}
+use Rattle.change_spec.specs.Scripts.{more_made, nothing_made}
 use Rattle.change_spec.specs.Statements.{Statement, start, change, run, finish, show}
 
 -- to which graph a component elaborates, by a function of the file's name, the component's, and its arguments
@@ -17,10 +17,6 @@ elaborates_by elab file name args g = elab file name args ≡ Some g
 pub record IsSoundGraph (g : Graph) : Type 0 where
   pub is_graph : IsGraph g
   pub sound : Sound g
-
--- nothing is made yet
-abbrev pub nothing_made : Made
-nothing_made = nothing_above.made
 
 -- all that a graph has is made
 abbrev pub made_of_graph : Graph → Made

@@ -58,7 +58,7 @@ fn replace_and_tell<B: Board + Drop, L: Listener>(
 }
 
 /// Carries out one step. Says whether a change was given up so far.
-fn carry_out<B: Board + Drop, L: Listener>(
+fn carry_out_step<B: Board + Drop, L: Listener>(
     engine: &mut Engine<B>,
     listener: &mut L,
     given_up: bool,
@@ -119,7 +119,7 @@ pub fn run_statements<B: Board + Drop, L: Listener + Drop>(
     listener.committed(engine.graph())?;
     let mut given_up = false;
     for step in steps {
-        given_up = carry_out(&mut engine, &mut listener, given_up, step)?;
+        given_up = carry_out_step(&mut engine, &mut listener, given_up, step)?;
     }
     let (report, board) = engine.stop()?;
     Ok((report, board, listener))

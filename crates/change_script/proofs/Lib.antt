@@ -10,4 +10,3 @@ pub mod MoveLemmas
 pub mod ScriptWordLemmas
 pub mod ScriptFormLaws
 pub mod StatementLemmas
-pub mod LeftLemmas

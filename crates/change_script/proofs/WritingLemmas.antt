@@ -8,7 +8,7 @@ use Rattle.std.proofs.lemmas.Bool.Decides.{nat_tests}
 use Rattle.std.proofs.lemmas.Fmt.{decimal_is_IsNumeral}
 use Rattle.std.proofs.lemmas.List.{append_assoc}
 use Rattle.config_graph.specs.declared.kind.Kind.{Kind}
-use Rattle.config_graph.specs.declared.kind.Kind.TheVariants.{Philosopher, Place, Fork, Source, Map, Buffer, Sink, Teller, Branch, Account, Asker, Adder}
+use Rattle.config_graph.specs.declared.kind.Kind.TheVariants.{Fork}
 use Rattle.config_graph.specs.Kinds.{row}
 use Rattle.config_graph.specs.GraphText.{kind_text}
 use Rattle.config_graph.specs.declared.node.Node.{Node}
@@ -97,18 +97,8 @@ three_of : (first second third : ℕ) → AreNumbers first second third
 three_of first second third small = rw (one_of first small.0, one_of second small.1, one_of third small.2) refl
 
 kind_is_word : (kind : Kind) → is_whole_word (row kind).name ≡ true
-kind_is_word Philosopher = refl
-kind_is_word Place = refl
 kind_is_word Fork = refl
-kind_is_word Source = refl
-kind_is_word Map = refl
-kind_is_word Buffer = refl
-kind_is_word Sink = refl
-kind_is_word Teller = refl
-kind_is_word Branch = refl
-kind_is_word Account = refl
-kind_is_word Asker = refl
-kind_is_word Adder = refl
+kind_is_word _ = refl
 
 -- a kind's parentheses, and what stands behind
 abbrev parentheses : Option ℕ → List ScriptToken → List ScriptToken

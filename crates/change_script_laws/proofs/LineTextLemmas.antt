@@ -14,10 +14,10 @@ use Rattle.std.proofs.lemmas.List.Splits.{slice_split-cons_no, slice_split-cons_
 use Rattle.std.proofs.lemmas.List.Folds.{list_all-append}
 use Rattle.std.proofs.lemmas.List.Sums.{list_all-from_AllPass}
 use Rattle.config_graph.specs.declared.kind.Kind.{Kind}
-use Rattle.config_graph.specs.declared.kind.Kind.TheVariants.{Philosopher, Place, Fork, Source, Map, Buffer, Sink, Teller, Branch, Account, Asker, Adder}
 use Rattle.config_graph.specs.declared.node.Node.{Node}
 use Rattle.config_graph.specs.GraphText.{kind_text}
 use Rattle.config_graph.specs.Kinds.{row}
+use Rattle.config_graph.proofs.KindLaws.{is_letter, letter_is_not, kind_names_are_letters}
 use Rattle.darwin_lexer.specs.declared.token.TokenKind.TheVariants as kinds
 use Rattle.darwin_lexer.specs.Fronts.{front_of}
 use Rattle.darwin_lexer.specs.Keywords.{continues_name}
@@ -34,6 +34,7 @@ use Rattle.report_writing.specs.Writing.{spaced, with_three, with_one, from_word
 use Rattle.change_script.specs.Written.{IsNumber, AreNumbers, CanBeWritten}
 use Rattle.change_script_laws.specs.FileTexts.{is_one_line}
 use Rattle.change_script_laws.proofs.MarginLemmas.{drop_one_more}
+use Rattle.base.proofs.ListLaws.{list_all-weaker}
 
 -- neither a margin nor `#` is in front, and no margin at the end
 abbrev pub begins_well : List ℕ → Bool
@@ -138,18 +139,7 @@ neat_one verb a one begins small = neat_of verb (decimal a ∷ []) one begins (a
 -- ---- kinds
 
 kind_one : (kind : Kind) → is_one_line (row kind).name ≡ true
-kind_one Philosopher = refl
-kind_one Place = refl
-kind_one Fork = refl
-kind_one Source = refl
-kind_one Map = refl
-kind_one Buffer = refl
-kind_one Sink = refl
-kind_one Teller = refl
-kind_one Branch = refl
-kind_one Account = refl
-kind_one Asker = refl
-kind_one Adder = refl
+kind_one k = list_all-weaker is_letter (λ byte. not (byte == 10)) (λ b. letter_is_not 10 b (omega arith)) (row k).name (kind_names_are_letters k)
 
 arg_one : (arg : Option ℕ) → IfSome arg IsNumber → is_one_line (option_map_or decimal arg []) ≡ true
 arg_one None small = refl
@@ -163,14 +153,6 @@ kind_text_one kind arg small =
 
 kind_text_ends : (kind : Kind) (arg : Option ℕ) → ends_well (kind_text kind arg) ≡ true
 kind_text_ends kind arg = ends_on ((row kind).name ++ codes "(" ++ option_map_or decimal arg []) (codes ")") refl
-
--- ---- paths, by their parts
-
-all_of : (p q : List ℕ → Bool) → ((x : List ℕ) → p x ≡ true → q x ≡ true) → (xs : List (List ℕ)) → list_all p xs ≡ true → list_all q xs ≡ true
-all_of p q each [] all = refl
-all_of p q each (x ∷ xs) all =
-    let both = and_parts (p x) (list_all p xs) all in
-    and_from (q x) (list_all q xs) (each x both.0) (all_of p q each xs both.1)
 
 onto_all : (q : ℕ → Bool) (b : ℕ) (parts : List (List ℕ)) → list_all (λ part. list_all q part) (onto_first b parts) ≡ true → (q b ≡ true) × (list_all (λ part. list_all q part) parts ≡ true)
 onto_all q b [] all = ((and_parts (q b) true (and_parts (q b && true) true all).0).0, refl)
@@ -302,7 +284,7 @@ module _ (spelled : (text : List ℕ) → Means text (front_of text)) (named : (
 
   pub path_one : (path : List ℕ) → is_path path ≡ true → is_one_line path ≡ true
   path_one path is =
-      parts_all (λ b. not (b == 10)) (λ b. b == 46) (λ b dot. full_stop b dot) path (all_of is_segment is_one_line segment_one (segments path) is)
+      parts_all (λ b. not (b == 10)) (λ b. b == 46) (λ b dot. full_stop b dot) path (list_all-weaker is_segment is_one_line segment_one (segments path) is)
 
   pub event_neat : (event : Event) → CanBeWritten event → Neat (written event)
   event_neat (events.Begin a b c) can = neat_three (codes "begin") a b c refl refl can

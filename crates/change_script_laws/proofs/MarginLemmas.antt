@@ -10,6 +10,7 @@ use Rattle.std.proofs.lemmas.List.Splits.{slice_split_at, slice_split_none}
 use Rattle.std.proofs.lemmas.List.Sums.{AllPass-from_list_all, suffix_len-le-length}
 use Rattle.change_script.specs.Lines.{Line, is_margin, is_statement, lines, statements_from, statements_of, trimmed, without_left_margin, without_right_margin}
 use Rattle.change_script_laws.specs.FileTexts.{are_margins, is_one_line, said}
+use Rattle.base.proofs.FindLaws.{all_front}
 
 -- ---- a line and the lines behind it
 
@@ -34,15 +35,6 @@ line_said number line rest one =
 
 pub last_said : (number : ℕ) (line : List ℕ) → is_one_line line ≡ true → statements_from number line ≡ said number line
 last_said number line one = ap (statements_of number) (line_last line one)
-
--- ---- what stands at the ends
-
-pub all_front : (p : ℕ → Bool) (xs ys : List ℕ) → list_all p xs ≡ true → prefix_len p (xs ++ ys) ≡ length xs + prefix_len p ys
-all_front p [] ys all = let e : prefix_len p ys ≡ 0 + prefix_len p ys = omega arith in e
-all_front p (x ∷ xs) ys all =
-    let both = and_parts (p x) (list_all p xs) all in
-    let rest = all_front p xs ys both.1 in
-    cond-true _ _ _ both.0 ∙ (let e : 1 + prefix_len p (xs ++ ys) ≡ suc (length xs) + prefix_len p ys = omega arith in e)
 
 all_turned : (p : ℕ → Bool) (xs : List ℕ) → list_all p xs ≡ true → list_all p (reverse xs) ≡ true
 all_turned p [] all = refl

@@ -19,7 +19,7 @@ use Rattle.change_script.specs.Numbers.{is_number, number_fits}
 use Rattle.change_script.specs.Paths.{segments, name_len, name_part, index_part, index_number, ends_index, is_name, is_index, index_fits, is_segment, segment_fits, is_path, path_fits}
 use Rattle.change_script.specs.Tokens.{begins_word, is_arrow, is_word, is_word_byte}
 use Rattle.change_script_laws.proofs.LineTextLemmas.{digit_ascii}
-use Rattle.change_script_laws.proofs.MarginLemmas.{all_front}
+use Rattle.base.proofs.FindLaws.{all_front}
 
 -- ---- bytes of a word
 

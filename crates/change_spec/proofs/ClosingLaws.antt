@@ -6,6 +6,7 @@ use Rattle.std.proofs.lemmas.Bool.{both_ways}
 use Rattle.std.proofs.lemmas.List.Folds.{list_any_none}
 use Rattle.base.proofs.MapLaws.{All-filter_map}
 use Rattle.base.proofs.OptionLaws.{option_map_some}
+use Rattle.base.proofs.ListLaws.{none_both, any_of_none}
 use Rattle.config_graph.specs.Graph.{Graph, ports, target_of}
 use Rattle.config_graph.specs.declared.node.Port.{Port}
 use Rattle.config_graph.specs.declared.node.Target.{Target}
@@ -24,7 +25,6 @@ use Rattle.change_spec.specs.Changes.{IsCommitted, IsGivenUp, commit_lines, drai
 use Rattle.change_spec.specs.Follows.{start_lines}
 use Rattle.change_spec.specs.Members.{is_close, is_root, lines_of_events}
 use Rattle.change_spec.specs.Scene.{drained_line, root_line}
-use Rattle.change_spec.proofs.TestLaws.{none_both, none_mapped}
 
 abbrev pub closes : Event → Bool
 closes (event.Close p) = true
@@ -65,15 +65,15 @@ start_closes_none name args g =
     none_both is_close (lines_of_events (starts.start_of g)) (to.Commit ∷ [])
     (none_of_events (starts.start_of g)
     (none_both closes (map starts.make_of nodes ++ filter_map (starts.link_of g) all) (map starts.reopen_of all)
-    (none_both closes (map starts.make_of nodes) (filter_map (starts.link_of g) all) (none_mapped closes starts.make_of (λ x. refl) nodes) (links_close_none g all))
-    (none_mapped closes starts.reopen_of (λ x. refl) all))) refl
+    (none_both closes (map starts.make_of nodes) (filter_map (starts.link_of g) all) (any_of_none closes starts.make_of (λ x. refl) nodes) (links_close_none g all))
+    (any_of_none closes starts.reopen_of (λ x. refl) all))) refl
 
 -- what follows the closes of a change
 
 work_closes_none : (w : work.Work) → list_any closes (work.work_of w) ≡ false
 work_closes_none w =
-    none_both closes (map event.Unlink w.unlinks) (map event.Remove w.removes ++ map work.make_new w.makes) (none_mapped closes event.Unlink (λ x. refl) w.unlinks)
-    (none_both closes (map event.Remove w.removes) (map work.make_new w.makes) (none_mapped closes event.Remove (λ x. refl) w.removes) (none_mapped closes work.make_new (λ x. refl) w.makes))
+    none_both closes (map event.Unlink w.unlinks) (map event.Remove w.removes ++ map work.make_new w.makes) (any_of_none closes event.Unlink (λ x. refl) w.unlinks)
+    (none_both closes (map event.Remove w.removes) (map work.make_new w.makes) (any_of_none closes event.Remove (λ x. refl) w.removes) (any_of_none closes work.make_new (λ x. refl) w.makes))
 
 pub commit_closes_none : (old new : Graph) (plan : Plan) (c : Configuration) → list_any closes (commit_events old new plan c) ≡ false
 commit_closes_none old new plan c =
@@ -81,8 +81,8 @@ commit_closes_none old new plan c =
     let links = new_links new plan (change_all c does) in
     let ports = reopened_ports old new plan c in
     none_both closes (commit_steps old new plan c) (map event.Reopen ports)
-    (none_both closes does (map work.link_new links) (work_closes_none (commit.work old new plan c)) (none_mapped closes work.link_new (λ x. refl) links))
-    (none_mapped closes event.Reopen (λ x. refl) ports)
+    (none_both closes does (map work.link_new links) (work_closes_none (commit.work old new plan c)) (any_of_none closes work.link_new (λ x. refl) links))
+    (any_of_none closes event.Reopen (λ x. refl) ports)
 
 pub commit_lines_close_none : (old new : Graph) (plan : Plan) (c : Configuration) → list_any is_close (commit_lines old new plan c) ≡ false
 commit_lines_close_none old new plan c =
@@ -92,13 +92,13 @@ pub ends_close_none : (old new : Graph) (plan : Plan) (within : ℕ) (c : Config
     → IsCommitted old new plan within c rest ⊎ IsGivenUp closed within rest → list_any is_close rest ≡ false
 ends_close_none old new plan within c closed rest (inl e) =
     ap (list_any is_close) e.are
-    ∙ none_both is_close (drained_lines e.looks) (commit_lines old new plan c) (none_mapped is_close drained_line (λ d. refl) (seen_in_all e.looks))
+    ∙ none_both is_close (drained_lines e.looks) (commit_lines old new plan c) (any_of_none is_close drained_line (λ d. refl) (seen_in_all e.looks))
     (commit_lines_close_none old new plan c)
 ends_close_none old new plan within c closed rest (inr e) =
     ap (list_any is_close) e.are
-    ∙ none_both is_close (drained_lines e.looks) (pending_lines within e.left closed) (none_mapped is_close drained_line (λ d. refl) (seen_in_all e.looks))
+    ∙ none_both is_close (drained_lines e.looks) (pending_lines within e.left closed) (any_of_none is_close drained_line (λ d. refl) (seen_in_all e.looks))
     (none_both is_close (map root_line e.left ++ map to.Reopen closed) (to.Abandon ∷ [])
-    (none_both is_close (map root_line e.left) (map to.Reopen closed) (none_mapped is_close root_line (λ d. refl) e.left) (none_mapped is_close to.Reopen (λ p. refl) closed)) refl)
+    (none_both is_close (map root_line e.left) (map to.Reopen closed) (any_of_none is_close root_line (λ d. refl) e.left) (any_of_none is_close to.Reopen (λ p. refl) closed)) refl)
 
 pub reopen_lines : (ps : List ℕ) → lines_of_events (map event.Reopen ps) ≡ map to.Reopen ps
 reopen_lines [] = refl

@@ -8,7 +8,7 @@ use Rattle.std.proofs.lemmas.List.Folds.{list_any-append}
 use Rattle.base.specs.Each.{Each}
 use Rattle.base.proofs.ContainsLaws.{Contains-from_filter, Contains-here}
 use Rattle.base.proofs.EachLaws.{each_at}
-use Rattle.base.proofs.PlaceLaws.{heads_are, tails_are}
+use Rattle.base.proofs.PlaceLaws.{heads_are, tails_are, parted_at}
 use Rattle.config_graph.specs.Graph.{Graph}
 use Rattle.change_plan.specs.Plans.{IsPlanOf}
 use Rattle.change_plan.specs.declared.plan_data.Move.{Move}
@@ -25,7 +25,6 @@ use Rattle.change_spec.specs.Members.{is_close, is_pending}
 use Rattle.change_spec.specs.Scene.{config_after}
 use Rattle.change_spec.specs.Statements.{Statement, start, change, run, finish, show}
 use Rattle.change_spec.proofs.ClosingLaws.{start_closes_none, ends_close_none}
-use Rattle.change_spec.proofs.MemberLaws.{parted_at}
 
 -- a place in a list that is mapped
 

@@ -19,7 +19,7 @@ use Rattle.quiesce_core.proofs.RunLaws.{run_if}
 use Rattle.quiesce_core.proofs.TableLaws.{live_made}
 use Rattle.quiesce_core.specs.declared.event.Event.{Event}
 use Rattle.quiesce_laws.specs.Roots.{has_root}
-use Rattle.node_turn_laws.specs.Round.{ends_transaction}
+use Rattle.quiesce_laws.specs.Events.{ends_transaction}
 use Rattle.report_types.specs.declared.report.HistoryLine.{HistoryLine}
 use Rattle.report_types.specs.declared.report.HistoryLine.TheVariants as to
 use Rattle.report_types.specs.declared.report.Last.{Last}

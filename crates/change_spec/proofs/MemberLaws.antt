@@ -1,11 +1,10 @@
 -- Lists of members: their places and parts, their events and their lines, and what their configuration comes from.
-use Rattle.std.proofs.Common.{◌≡◌, ◌∙◌, Bool, true, false, ◌||◌, cond, List, [], ◌∷◌, ◌++◌, append_assoc, Option, Some, None, map, refl, ap, sym, subst, inl, inr}
-use Rattle.std.specs.Prelude.{◌⊎◌, filter, filter_map, fold, not, All, ℕ}
+use Rattle.std.proofs.Common.{◌≡◌, ◌∙◌, Bool, true, false, ◌||◌, cond, List, [], ◌∷◌, ◌++◌, append_assoc, Option, Some, None, map, refl, ap, sym}
+use Rattle.std.specs.Prelude.{filter, filter_map, fold, not, All, ℕ}
 use Rattle.std.specs.List.{cons_option, list_any}
 use Rattle.std.proofs.lemmas.Bool.{both_ways, or_parts}
 use Rattle.std.proofs.lemmas.List.{append-nil}
-use Rattle.std.proofs.lemmas.List.Elements.{All-cons, All-head, All-nil, All-tail, filter_map-append}
-use Rattle.base.specs.Each.{EachAfter}
+use Rattle.std.proofs.lemmas.List.Elements.{All-head, All-tail, filter_map-append}
 use Rattle.base.proofs.PlaceLaws.{heads_are, tails_are}
 use Rattle.quiesce_core.specs.declared.event.Event.{Event}
 use Rattle.quiesce_core.specs.Doers.{is_of_change}
@@ -20,31 +19,6 @@ use Rattle.change_spec.specs.Scene.{config_after}
 use Rattle.change_spec.specs.Follows.{Part, lines_of}
 use Rattle.component_trait.specs.States.{NodeState}
 use Rattle.report_types.specs.declared.report.Last.{Last}
-
--- what is shown at each place holds at each place
-pub each_if : {A : Type 0} (P : List A → A → Type 0) (before xs : List A) → ((ys zs : List A) (x : A) → xs ≡ ys ++ x ∷ zs → P (before ++ ys) x) → EachAfter P before xs
-each_if P before [] h = tt
-each_if P before (x ∷ xs) h = (
-  subst (λ ys. P ys x) (append-nil before) (h [] xs x refl),
-  each_if P (before ++ x ∷ []) xs (λ ys zs y e. subst (λ us. P us y) (sym (append_assoc before (x ∷ []) ys)) (h (x ∷ ys) zs y (ap (λ us. x ∷ us) e))),
-)
-
--- what all of a list that is put together have
-pub all_parts : {A : Type 0} (P : A → Type 0) (xs ys : List A) → All P (xs ++ ys) → All P xs × All P ys
-all_parts P [] ys h = (All-nil P, h)
-all_parts P (x ∷ xs) ys h = let w = all_parts P xs ys (All-tail P x (xs ++ ys) h) in (All-cons P x xs (All-head P x (xs ++ ys) h) w.0, w.1)
-
--- an element of a list that is put together stands in the first part or in the second
-pub parted_at : {A : Type 0} (x : List A) (e : A) (y b a : List A) → x ++ e ∷ y ≡ b ++ a → ((z : List A) × (b ≡ x ++ e ∷ z)) ⊎ ((z : List A) × (a ≡ z ++ e ∷ y) × (x ≡ b ++ z))
-parted_at [] e y [] a h = inr ([], sym h, refl)
-parted_at [] e y (c ∷ b) a h = inl (b, ap (λ k. k ∷ b) (sym (heads_are e c y (b ++ a) h)))
-parted_at (d ∷ x) e y [] a h = inr (d ∷ x, sym h, refl)
-parted_at {A} (d ∷ x) e y (c ∷ b) a h = by (heads_are d c (x ++ e ∷ y) (b ++ a) h) (parted_at x e y b a (tails_are d c (x ++ e ∷ y) (b ++ a) h))
-  where
-    by : d ≡ c → ((z : List A) × (b ≡ x ++ e ∷ z)) ⊎ ((z : List A) × (a ≡ z ++ e ∷ y) × (x ≡ b ++ z))
-        → ((z : List A) × (c ∷ b ≡ (d ∷ x) ++ e ∷ z)) ⊎ ((z : List A) × (a ≡ z ++ e ∷ y) × (d ∷ x ≡ (c ∷ b) ++ z))
-    by same (inl (z, is)) = inl (z, ap (λ k. k ∷ b) (sym same) ∙ ap (λ ks. d ∷ ks) is)
-    by same (inr (z, is, front)) = inr (z, is, ap (λ k. k ∷ x) same ∙ ap (λ ks. c ∷ ks) front)
 
 pub events_parts : (m k : List Member) → events (m ++ k) ≡ events m ++ events k
 events_parts m k = filter_map-append event_in m k

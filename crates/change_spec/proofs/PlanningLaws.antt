@@ -9,9 +9,9 @@ use Rattle.std.proofs.lemmas.List.Folds.{list_any_at}
 use Rattle.std.proofs.lemmas.List.Kept.{IsStrictlyIncreasing-filter}
 use Rattle.std.proofs.lemmas.Option.{none-some, same_Some, slice_get_within}
 use Rattle.std.proofs.lemmas.Slice.Eq.{bytes_eq-Decides}
-use Rattle.base.proofs.ContainsLaws.{Contains-filter, Contains-flat_map, Contains-from_filter, Contains-map, any_if}
+use Rattle.base.proofs.ContainsLaws.{Contains-filter, Contains-flat_map, Contains-from_filter, Contains-map, any_if, any_of}
 use Rattle.base.proofs.FindLaws.{find-some}
-use Rattle.base.proofs.RangeLaws.{all_in_range, any_in_range, range_has}
+use Rattle.base.proofs.RangeLaws.{all_in_range, any_in_range, range_has, Contains-places}
 use Rattle.config_graph.specs.Cycles.{depends_at, graph_wiring}
 use Rattle.config_graph.specs.Graph.{Graph, begins_at, link_at, requires_at, target_of}
 use Rattle.config_graph.specs.Wiring.{Reach}
@@ -27,9 +27,7 @@ use Rattle.change_plan.specs.Plans.{HasStepsBetween, IsPlanOf}
 use Rattle.change_plan.specs.Touched.{Frozen, HasNewTarget, IsTouched, SameTarget}
 use Rattle.change_plan.specs.declared.plan_data.Move.{Move}
 use Rattle.change_plan.specs.declared.plan_data.Shift.{Shift}
-use Rattle.change_plan.proofs.SelectsLaws.{Contains-places}
 use Rattle.change_spec.specs.Planning.{all_shifts, are_one, can_be_planned, gone_links, gone_nodes, have_one_kind, is_fit, is_fit_as, is_frozen, is_gone, is_gone_at, is_kept_link, is_lacking, is_led, is_node, is_relinked, is_relinked_as, is_same_link, is_same_target, is_shift, is_touched, is_twin, leads_elsewhere, leads_no_further, leads_to, leads_within, may_move, may_move_all, may_move_at, planned, rises, shifts, shifts_to}
-use Rattle.quiesce_laws.proofs.MemberLaws.{any_of}
 use Rattle.change_spec.proofs.TestLaws.{range_rises, rise_if, selects_by}
 use Rattle.base.proofs.ListLaws.{all_have}
 

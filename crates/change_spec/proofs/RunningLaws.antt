@@ -4,6 +4,7 @@ use Rattle.std.proofs.Common.{◌≡◌, ◌∙◌, ℕ, true, false, not, ◌&&
 use Rattle.std.specs.List.{count_by, list_any}
 use Rattle.std.proofs.lemmas.Bool.{not-false}
 use Rattle.base.specs.Each.{Each}
+use Rattle.base.proofs.EachLaws.{each_if}
 use Rattle.quiesce_core.specs.declared.event.Event.{Event}
 use Rattle.quiesce_core.specs.declared.event.Event.TheVariants as event
 use Rattle.quiesce_core.specs.Runs.{IsRun, is_end_of, is_open_after}
@@ -14,7 +15,7 @@ use Rattle.quiesce_laws.proofs.QuiescenceLaws.{quiescent_at}
 use Rattle.report_types.specs.declared.report.HistoryLine.TheVariants as to
 use Rattle.change_spec.specs.Lawful.{IsEndedOnce, IsQuiescentAt}
 use Rattle.change_spec.specs.Members.{Member, of_history, events, state_at}
-use Rattle.change_spec.proofs.MemberLaws.{each_if, events_parts}
+use Rattle.change_spec.proofs.MemberLaws.{events_parts}
 
 quiescent_in : (before after : List Member) (x : Member) → IsRun (events before ++ events (x ∷ after)) → IsQuiescentAt before x
 quiescent_in before after (of_history (to.Link p n x)) run =

@@ -5,6 +5,7 @@ use Rattle.std.specs.List.{list_any}
 use Rattle.std.proofs.lemmas.Bool.{both_ways, cases_Bool, not-true}
 use Rattle.base.specs.Each.{Each, EachAfter}
 use Rattle.base.proofs.EachLaws.{each_at}
+use Rattle.base.proofs.ListLaws.{all_parts}
 use Rattle.config_graph.specs.Graph.{Graph}
 use Rattle.change_plan.specs.declared.plan_data.Plan.{Plan}
 use Rattle.quiesce_laws.specs.Steps.{is_shaping, live_ports}
@@ -28,7 +29,7 @@ use Rattle.change_spec.specs.Members.{Member, of_history, event_of, events, is_c
 use Rattle.change_spec.specs.Scene.{config_after, drained_line, root_line}
 use Rattle.change_spec.specs.Statements.{Statement, start, change, run, finish, show}
 use Rattle.change_spec.proofs.GraphLemmas.{graph_is_one}
-use Rattle.change_spec.proofs.MemberLaws.{all_parts, events_parts, lines_parts, none_happens}
+use Rattle.change_spec.proofs.MemberLaws.{events_parts, lines_parts, none_happens}
 
 -- whether the configuration was shaped since the last commit, behind a line
 abbrev shaped_by : Bool → HistoryLine → Bool

@@ -10,7 +10,7 @@ use Rattle.std.specs.declared.cmp.Ordering.TheVariants.{Less}
 use Rattle.std.proofs.lemmas.Bool.{and_from, and_parts, both_ways, eqb-true}
 use Rattle.std.proofs.lemmas.List.Kept.{AllPairs-cons}
 use Rattle.std.proofs.lemmas.Option.{none-some, same_Some, slice_get_within}
-use Rattle.base.proofs.ContainsLaws.{Contains-at, at_some_place}
+use Rattle.base.proofs.ContainsLaws.{Contains-at, at_some_place, any_of}
 use Rattle.base.proofs.FindLaws.{find-some}
 use Rattle.base.proofs.RangeLaws.{all_in_range, any_in_range}
 use Rattle.config_graph.specs.Cycles.{IsLinked}
@@ -27,7 +27,6 @@ use Rattle.quiesce_core.proofs.ConfigurationLaws.{linked_made}
 use Rattle.change_spec.specs.Planning.{are_one, is_node}
 use Rattle.change_spec.specs.Standing.{are_links, are_links_listed, comes_before, has_link, is_graph_of, is_in_graph, is_less, is_link_listed, is_linked_somewhere, is_listed, is_live_as, is_somewhere, is_target, leads_so, paths_rise, stands}
 use Rattle.change_spec.proofs.Checking.{all_by}
-use Rattle.quiesce_laws.proofs.MemberLaws.{any_of}
 use Rattle.base.proofs.ListLaws.{all_have}
 
 less : (o : Ordering) → is_less o ≡ true → o ≡ Less

@@ -7,6 +7,7 @@ use Rattle.std.proofs.lemmas.List.{append-nil}
 use Rattle.std.proofs.lemmas.List.Elements.{All-head}
 use Rattle.std.proofs.lemmas.Option.{same_Some}
 use Rattle.base.proofs.PlaceLaws.{heads_are, tails_are}
+use Rattle.base.proofs.ListLaws.{all_parts, none_both}
 use Rattle.config_graph.specs.Kinds.{row}
 use Rattle.quiesce_word.specs.Phases.{is_idle}
 use Rattle.quiesce_core.specs.Alters.{gate_next}
@@ -35,8 +36,7 @@ use Rattle.report_types.specs.declared.report.HistoryLine.TheVariants as to
 use Rattle.change_spec.specs.Lawful.{IsOfItsKind, StoodOpen}
 use Rattle.change_spec.specs.Members.{Member, by_node, of_history, event_in, event_of, events, lines}
 use Rattle.change_spec.specs.Roots.{StoodSinceClose}
-use Rattle.change_spec.proofs.MemberLaws.{all_parts, events_parts}
-use Rattle.change_spec.proofs.TestLaws.{none_both}
+use Rattle.change_spec.proofs.MemberLaws.{events_parts}
 
 -- ---- the last close of a port
 

@@ -1,6 +1,6 @@
 -- The stop closes every live port, and each is found drained: so nothing is open at the end.
-use Rattle.std.proofs.Common.{◌≡◌, ◌∙◌, ℕ, ◌<◌, Bool, true, false, ◌&&◌, ◌||◌, not, cond, List, [], ◌∷◌, ◌++◌, append_assoc, length, map, refl, ap, sym, subst, arith, lt-ltb}
-use Rattle.std.specs.Prelude.{◌==◌, filter, filter_map, nat_lt, All}
+use Rattle.std.proofs.Common.{◌≡◌, ◌∙◌, ℕ, ◌<◌, Bool, true, false, ◌&&◌, ◌||◌, not, List, [], ◌∷◌, ◌++◌, append_assoc, length, map, refl, ap, sym, subst, arith, lt-ltb}
+use Rattle.std.specs.Prelude.{◌==◌, filter_map, nat_lt, All}
 use Rattle.std.specs.List.{list_any, range_with_len}
 use Rattle.std.proofs.lemmas.Bool.{and_from, both_ways, eq-eqb, eqb-true, or_parts, or_right}
 use Rattle.std.proofs.lemmas.List.Elements.{filter-append}
@@ -29,21 +29,9 @@ use Rattle.change_spec.specs.Lawful.{IsDrainedAt, IsOfItsKind, Merge}
 use Rattle.change_spec.specs.Members.{Member, of_history, event_of, events, is_root, lines, state_at, without_roots}
 use Rattle.change_spec.specs.Scene.{Seen, config_after, drained_line}
 use Rattle.change_spec.specs.Statements.{Statement}
-use Rattle.change_spec.proofs.TestLaws.{counted_some}
-use Rattle.base.proofs.ListLaws.{count_by-some}
-use Rattle.change_spec.proofs.MemberLaws.{all_parts, LineIn, Split, config_of_lines, events_parts, events_without_roots, line_there, none_happens, split}
-
-kept_here : {A : Type 0} (t u : A → Bool) (x : A) (xs left : List A) (b d : Bool) → t x ≡ b → u x ≡ d → (list_any (λ y. t y && u y) xs ≡ true → list_any u left ≡ true)
-    → list_any (λ y. t y && u y) (x ∷ xs) ≡ true → list_any u (cond b (x ∷ left) left) ≡ true
-kept_here t u x xs left true true e f rest h = ap (λ b. b || list_any u left) f
-kept_here t u x xs left true false e f rest h =
-    ap (λ b. b || list_any u left) f
-    ∙ rest (sym (ap (λ b. (b && u x) || list_any (λ y. t y && u y) xs) e ∙ ap (λ b. b || list_any (λ y. t y && u y) xs) f) ∙ h)
-kept_here t u x xs left false d e f rest h = rest (sym (ap (λ b. (b && u x) || list_any (λ y. t y && u y) xs) e) ∙ h)
-
-pub any_kept : {A : Type 0} (t u : A → Bool) (xs : List A) → list_any (λ x. t x && u x) xs ≡ true → list_any u (filter t xs) ≡ true
-any_kept t u [] h = absurd (both_ways false refl h)
-any_kept t u (x ∷ xs) h = kept_here t u x xs (filter t xs) (t x) (u x) refl refl (any_kept t u xs) h
+use Rattle.base.proofs.ListLaws.{count_by-some, all_parts, any_kept}
+use Rattle.base.proofs.CountLaws.{counted_some}
+use Rattle.change_spec.proofs.MemberLaws.{LineIn, Split, config_of_lines, events_parts, events_without_roots, line_there, none_happens, split}
 
 -- the lines of a stop
 

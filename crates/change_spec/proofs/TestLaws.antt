@@ -1,11 +1,9 @@
 -- Tests that decide, of lists and of parts of lists.
-use Rattle.std.proofs.Common.{◌≡◌, ◌∙◌, ℕ, zero, suc, ◌+◌, ◌<◌, get_or, ◌≤◌, Bool, true, false, ◌||◌, cond, List, [], ◌∷◌, ◌++◌, filter, map, refl, ap, subst, arith, Decides}
+use Rattle.std.proofs.Common.{◌≡◌, ℕ, zero, suc, ◌+◌, ◌<◌, get_or, Bool, true, false, cond, List, [], ◌∷◌, filter, refl, subst, arith, Decides}
 use Rattle.std.specs.Prelude.{nat_lt}
-use Rattle.std.specs.List.{count_by, list_any, range_with_len}
+use Rattle.std.specs.List.{range_with_len}
 use Rattle.std.specs.List.Sorted.{IsStrictlyIncreasing}
 use Rattle.std.proofs.lemmas.Bool.{and_parts, both_ways, ltb-true}
-use Rattle.std.proofs.lemmas.List.Folds.{list_any-append}
-use Rattle.std.proofs.lemmas.List.Sums.{sum_by-cons}
 use Rattle.std.proofs.lemmas.List.FromFn.{get_or-range_with_len, length-range_with_len}
 use Rattle.change_plan.specs.Selects.{Selects}
 use Rattle.change_plan.specs.Selects.Selects.{ends, skips, takes}
@@ -37,24 +35,3 @@ pub range_rises : (a n : ℕ) → IsStrictlyIncreasing (range_with_len a n)
 range_rises a n k low =
     let below : k + 1 < n = omega (arith, low, length-range_with_len a n) in
     omega (arith, get_or-range_with_len a n k 0 (omega (arith, below)), get_or-range_with_len a n (k + 1) 0 below)
-
--- counts of those that pass a test
-
-pub counted_some : {A : Type 0} (t : A → Bool) (xs : List A) → 1 ≤ count_by t xs → list_any t xs ≡ true
-counted_some t [] h = absurd (omega (arith, h))
-counted_some t (x ∷ xs) h = by (t x) refl (counted_some t xs)
-  where
-    by : (b : Bool) → t x ≡ b → (1 ≤ count_by t xs → list_any t xs ≡ true) → list_any t (x ∷ xs) ≡ true
-    by true e rest = ap (λ b. b || list_any t xs) e
-    by false e rest =
-        let one = sum_by-cons (λ y. cond (t y) 1 0) x xs ∙ ap (λ b. cond b 1 0 + count_by t xs) e in
-        ap (λ b. b || list_any t xs) e ∙ rest (omega (arith, one, h))
-
--- tests that none of a list passes
-
-pub none_both : {A : Type 0} (t : A → Bool) (xs ys : List A) → list_any t xs ≡ false → list_any t ys ≡ false → list_any t (xs ++ ys) ≡ false
-none_both t xs ys a b = list_any-append t xs ys ∙ (λ i. a i || b i)
-
-pub none_mapped : {A B : Type 0} (t : B → Bool) (f : A → B) → ((x : A) → t (f x) ≡ false) → (xs : List A) → list_any t (map f xs) ≡ false
-none_mapped t f h [] = refl
-none_mapped t f h (x ∷ xs) = (λ i. h x i || list_any t (map f xs)) ∙ none_mapped t f h xs

@@ -24,10 +24,10 @@ use Rattle.change_spec.specs.Told.{Told, no_more, counted, shown_graph, looked, 
 use Rattle.change_spec.proofs.Checking.{all_by}
 use Rattle.change_spec.proofs.PlanningLaws.{moves_lead_so, planned_so}
 use Rattle.change_spec.proofs.StandingLaws.{graph_by}
-use Rattle.quiesce_laws.proofs.MemberLaws.{any_of}
 use Rattle.change_spec.proofs.TestLaws.{rise_if}
 use Rattle.change_spec.proofs.MemberLaws.{lines_more}
 use Rattle.base.proofs.ListLaws.{all_have, count_by-none}
+use Rattle.base.proofs.ContainsLaws.{any_of}
 
 abbrev all_ports : List ℕ → List Seen → List ℕ
 all_ports ports seen = ports ++ map (λ (d : Seen). d.port) seen

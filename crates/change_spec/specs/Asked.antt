@@ -7,7 +7,7 @@ use Rattle.config_graph.specs.declared.node.Made.{Made}
 use Rattle.change_plan.specs.Plans.{IsPlanOf}
 use Rattle.change_plan.specs.Refusals.{CanPlan}
 use Rattle.change_plan.specs.Room.{HasRoomFor}
-use Rattle.change_spec.specs.Scripts.{more_made}
+use Rattle.change_spec.specs.Scripts.{more_made, nothing_made}
 use Rattle.change_spec.specs.Statements as statements
 use Rattle.change_spec.specs.Statements.{Statement}
 use Rattle.change_spec.specs.declared.steps.Replacement.{Replacement}
@@ -30,9 +30,6 @@ statements_of s steps = statements.start s.name s.args s.graph ∷ map statement
 pub record Above : Type 0 where
   pub graph : Graph
   pub made : Made
-
-abbrev pub nothing_made : Made
-nothing_made = record { nodes = 0; ports = 0 }
 
 -- the graph that was named last, by a step or else before it
 abbrev pub graph_behind : Graph → Step → Graph

@@ -11,7 +11,7 @@ use Rattle.quiesce_core.specs.Runs.{can_run, done_by}
 use Rattle.quiesce_core.specs.State.{empty, exchange, is_live}
 use Rattle.quiesce_core.specs.declared.event.Event.{Event}
 use Rattle.quiesce_laws.specs.Drained.{is_drained}
-use Rattle.node_turn_laws.specs.Round.{ends_transaction}
+use Rattle.quiesce_laws.specs.Events.{ends_transaction}
 use Rattle.report_types.specs.declared.report.HistoryLine.TheVariants as to
 use Rattle.report_types.specs.declared.report.Last.{Last}
 use Rattle.report_types.specs.declared.report.Last.TheVariants as last

@@ -16,9 +16,8 @@ use Rattle.quiesce_core.specs.Runs.{IsRun, done_by, is_begin_of, is_end_of, stat
 use Rattle.quiesce_core.specs.Settled.{Quiescent}
 use Rattle.quiesce_core.specs.State.{exchange, gate, is_live, owner}
 use Rattle.quiesce_laws.specs.Drained.{is_drained}
-use Rattle.quiesce_laws.specs.Events.{is_ask_of, is_give_of, is_hear_of, is_more_of, is_take_of}
+use Rattle.quiesce_laws.specs.Events.{is_ask_of, is_give_of, is_hear_of, is_more_of, is_take_of, ends_transaction}
 use Rattle.quiesce_laws.specs.Roots.{has_root}
-use Rattle.node_turn_laws.specs.Round.{ends_transaction}
 use Rattle.report_types.specs.declared.report.HistoryLine.{HistoryLine}
 use Rattle.report_types.specs.declared.report.HistoryLine.TheVariants as to
 use Rattle.report_types.specs.declared.report.Last.{Last}

@@ -26,6 +26,10 @@ abbrev pub nothing_above : Above
 nothing_above =
     record { file = []; graph = record { nodes = []; links = [] }; made = record { nodes = 0; ports = 0 } }
 
+-- nothing is made yet
+abbrev pub nothing_made : Made
+nothing_made = nothing_above.made
+
 abbrev pub more_made : Made → ℕ → ℕ → Made
 more_made made nodes wanted_ports = record { nodes = made.nodes + nodes; ports = made.ports + wanted_ports }
 

@@ -17,7 +17,7 @@ use Rattle.quiesce_core.specs.declared.event.Event.TheVariants.{End}
 use Rattle.quiesce_core.proofs.RunLaws.{runs_are_well_formed}
 use Rattle.quiesce_core.proofs.WordLaws.{port_words_decode}
 use Rattle.quiesce_laws.proofs.SerialLaws.{tallied}
-use Rattle.node_turn_laws.specs.Round.{ends_transaction}
+use Rattle.quiesce_laws.specs.Events.{ends_transaction}
 use Rattle.txn_records.specs.declared.entry.Entry.{Entry}
 use Rattle.txn_records.specs.declared.entry.Entry.TheVariants.{Looked}
 use Rattle.txn_records.specs.Looks.{ended_in_word}

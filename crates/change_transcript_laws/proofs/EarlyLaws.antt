@@ -8,6 +8,7 @@ use Rattle.std.proofs.lemmas.List.Elements.{All-tail, filter-append}
 use Rattle.base.specs.Each.{Each}
 use Rattle.base.proofs.EachLaws.{each_at}
 use Rattle.base.proofs.PlaceLaws.{tails_are}
+use Rattle.base.proofs.ListLaws.{all_parts}
 use Rattle.quiesce_laws.specs.Steps.{is_shaping}
 use Rattle.quiesce_laws.proofs.TurningLaws.{no_node_shapes}
 use Rattle.quiesce_core.specs.Runs.{IsRun, state_after}
@@ -24,7 +25,7 @@ use Rattle.change_spec.specs.Follows.{Follows}
 use Rattle.change_spec.specs.Lawful.{IsOfItsKind, Merge, unfinished_of}
 use Rattle.change_spec.specs.Members.{Member, by_node, event_of, events, is_commit, is_root, lines, of_history, without_roots}
 use Rattle.change_spec.specs.Statements.{Statement}
-use Rattle.change_spec.proofs.MemberLaws.{all_parts, at_line, events_of_nodes, events_parts, events_without_roots, lines_parts, none_happens}
+use Rattle.change_spec.proofs.MemberLaws.{at_line, events_of_nodes, events_parts, events_without_roots, lines_parts, none_happens}
 use Rattle.change_transcript_laws.specs.Pieces.{IsTranscript, config_at}
 use Rattle.change_transcript_laws.specs.Reports.{IsReportOfTranscript}
 use Rattle.change_spec.specs.Resting.{AreByNodes, FinishedEarly, RestedAtOnce, RestedIfShort}

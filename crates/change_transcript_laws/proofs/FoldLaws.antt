@@ -35,22 +35,7 @@ use Rattle.change_transcript_laws.proofs.ItemLemmas.{AreFair, fair_events}
 use Rattle.change_transcript_laws.proofs.LawfulLaws.{events_are}
 use Rattle.change_transcript_laws.proofs.MergeLaws.{slots_made}
 use Rattle.base.proofs.RangeLaws.{range_at}
-
--- ---- lists
-
-find_agree : {A : Type 0} (f g : A → Bool) (xs : List A) → ((x : A) → f x ≡ g x) → find f xs ≡ find g xs
-find_agree f g [] h = refl
-find_agree f g (x ∷ xs) h = ap (λ b. cond b (Some x) (find f xs)) (h x) ∙ ap (λ o. cond (g x) (Some x) o) (find_agree f g xs h)
-
--- the first that passes of those that are kept
-find_kept : {A : Type 0} (kept test : A → Bool) (xs : List A) → find test (filter kept xs) ≡ find (λ x. cond (kept x) (test x) false) xs
-find_kept kept test [] = refl
-find_kept {A} kept test (x ∷ xs) = by (kept x) (find_kept kept test xs)
-  where
-    by : (b : Bool) → find test (filter kept xs) ≡ find (λ y. cond (kept y) (test y) false) xs
-        → find test (cond b (x ∷ filter kept xs) (filter kept xs)) ≡ cond (cond b (test x) false) (Some x) (find (λ y. cond (kept y) (test y) false) xs)
-    by true rest = ap (λ o. cond (test x) (Some x) o) rest
-    by false rest = rest
+use Rattle.base.proofs.FindLaws.{find_agree, find_kept}
 
 -- ---- which line makes a node from another
 

@@ -9,9 +9,8 @@ use Rattle.std.proofs.lemmas.List.Folds.{list_any-append}
 use Rattle.std.proofs.lemmas.List.Sums.{sum_by-cons}
 use Rattle.std.proofs.lemmas.Option.{slice_get_within}
 use Rattle.base.proofs.MapLaws.{count_by-append}
-use Rattle.base.proofs.PlaceLaws.{heads_are, slice_get-append_front, tails_are}
+use Rattle.base.proofs.PlaceLaws.{heads_are, slice_get-append_front, tails_are, slice_get-append_back}
 use Rattle.config_graph.specs.Graph.{Graph}
-use Rattle.config_graph.proofs.NumberingLaws.{slice_get-append_back}
 use Rattle.quiesce_laws.specs.Steps.{change_all}
 use Rattle.quiesce_core.specs.Live.{IsGraphOf}
 use Rattle.quiesce_core.specs.State.{empty}

@@ -10,6 +10,7 @@ use Rattle.base.specs.Each.{Each}
 use Rattle.base.proofs.EachLaws.{each_parts}
 use Rattle.base.proofs.MapLaws.{count_by-append}
 use Rattle.base.proofs.PlaceLaws.{heads_are, tails_are}
+use Rattle.base.proofs.ListLaws.{all_parts}
 use Rattle.quiesce_word.specs.Words as words
 use Rattle.quiesce_word.specs.Phases.{is_idle}
 use Rattle.quiesce_word.specs.declared.word.Word.{Word}
@@ -31,7 +32,7 @@ use Rattle.report_types.specs.declared.report.HistoryLine.TheVariants as to
 use Rattle.change_spec.specs.Lawful.{IsOfItsKind, StoodOpen}
 use Rattle.change_spec.specs.Members as members
 use Rattle.change_spec.specs.Members.{Member, of_history, event_of, is_close, is_root, without_roots}
-use Rattle.change_spec.proofs.MemberLaws.{all_parts, events_parts, events_without_roots, none_happens}
+use Rattle.change_spec.proofs.MemberLaws.{events_parts, events_without_roots, none_happens}
 use Rattle.txn_records.specs.declared.entry.Entry.{Entry}
 use Rattle.txn_records.specs.declared.entry.Entry.TheVariants.{Did, Looked}
 use Rattle.txn_records.specs.Looks.{is_drained_word, serial_of}

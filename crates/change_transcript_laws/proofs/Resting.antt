@@ -1,15 +1,15 @@
 -- Where all is at rest at once, no node can do anything: it could but begin a transaction, and what is done wants none.
-use Rattle.std.proofs.Common.{◌≡◌, ◌∙◌, ℕ, Bool, true, false, cond, List, [], ◌∷◌, length, Option, Some, None, refl, ap, arith}
-use Rattle.std.specs.Prelude.{◌+◌, ◌==◌, fold}
+use Rattle.std.proofs.Common.{◌≡◌, ◌∙◌, ℕ, Bool, true, false, List, ◌∷◌, Option, Some, None, refl, ap}
+use Rattle.std.specs.Prelude.{fold}
 use Rattle.std.specs.Option.{option_map_or}
-use Rattle.std.proofs.lemmas.Bool.{both_ways, eqb-true, leb-true, le-ltb}
+use Rattle.std.proofs.lemmas.Bool.{both_ways}
 use Rattle.component_trait.specs.Fold.{fold_from, fold_next, where_so, is_request}
 use Rattle.component_trait.specs.Moves as moves
-use Rattle.component_trait.specs.States.{Kept, NodeState}
+use Rattle.component_trait.specs.States.{NodeState}
 use Rattle.component_trait.specs.Tables as tables
 use Rattle.component_trait.specs.declared.next.Ask.{Ask as AskFor}
 use Rattle.component_trait.proofs.FoldLaws.{fold_none}
-use Rattle.config_graph.specs.declared.kind.Kind.{Kind}
+use Rattle.component_trait.proofs.WantLaws.{wants_none}
 use Rattle.config_graph.specs.declared.kind.Kind.TheVariants as kind
 use Rattle.quiesce_word.specs.Phases.{is_idle}
 use Rattle.quiesce_word.proofs.PhaseLaws.{answered_busy, asked_busy, more_busy, serving_busy}
@@ -23,25 +23,6 @@ use Rattle.quiesce_core.specs.declared.event.Event.TheVariants.{Begin, Call, Tak
 use Rattle.quiesce_core.specs.declared.state.Service.{Service}
 use Rattle.quiesce_core.proofs.StateLaws.{taken_is}
 use Rattle.quiesce_core.proofs.StabilityLaws.{busy_is_live}
-
--- what is done wants no transaction of its own
-wants_none : (k : Kind) (a : ℕ) (s : Kept) → tables.is_done k a s ≡ true → tables.wants k a s ≡ None
-wants_none kind.Philosopher a s h = ap (λ b. cond b (Some (tables.request 0 0)) None) (le-ltb s.count a (leb-true a s.count h))
-wants_none kind.Source a s h = ap (λ b. cond b (Some (tables.request 0 (s.count + 1))) None) (le-ltb s.count a (leb-true a s.count h))
-wants_none kind.Teller a s h = ap (λ b. cond b (Some (tables.request 0 (s.count + 1))) None) (le-ltb s.count a (leb-true a s.count h))
-wants_none kind.Asker a s h = ap (λ b. cond b (Some (tables.request 0 (s.count + 1))) None) (le-ltb s.count a (leb-true a s.count h))
-wants_none kind.Buffer a s h = by s.items h
-  where
-    by : (items : List ℕ) → (length items == 0) ≡ true → tables.wants kind.Buffer a (record { count = s.count; total = s.total; items = items }) ≡ None
-    by [] h = refl
-    by (x ∷ items) h = absurd (let e = eqb-true (length (x ∷ items)) 0 h in omega (arith, e))
-wants_none kind.Place a s h = refl
-wants_none kind.Fork a s h = refl
-wants_none kind.Map a s h = refl
-wants_none kind.Sink a s h = refl
-wants_none kind.Branch a s h = refl
-wants_none kind.Account a s h = refl
-wants_none kind.Adder a s h = refl
 
 pub done_wants_none : (s : NodeState) → moves.is_done s ≡ true → moves.wants s ≡ None
 done_wants_none s h = wants_none s.kind s.arg s.kept h

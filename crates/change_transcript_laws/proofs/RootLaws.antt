@@ -25,8 +25,8 @@ use Rattle.change_spec.specs.Lawful.{StoodOpen, StoodOpenWhereSaid}
 use Rattle.change_spec.specs.Members.{Member, event_of, is_close, is_pending, is_root, line_of}
 use Rattle.change_spec.specs.Scene.{Seen}
 use Rattle.change_spec.specs.Statements.{Statement, start, change, run, finish, show}
-use Rattle.change_spec.proofs.TestLaws.{counted_some}
 use Rattle.base.proofs.ListLaws.{count_by-some}
+use Rattle.base.proofs.CountLaws.{counted_some}
 use Rattle.txn_records.specs.declared.entry.Entry.{Entry}
 use Rattle.txn_records.specs.declared.entry.Entry.TheVariants.{Did, Looked, Sighted, Scanned}
 use Rattle.txn_records.specs.Looks.{is_drained_word, serial_of}
@@ -220,12 +220,6 @@ by_lines p (l ∷ ls) = by (event_of l) (by_lines p ls)
         → list_any (reopens p) (cons_option o (filter_map event_of ls)) ≡ (option_map_or (reopens p) o false || list_any (reopens_line p) ls)
     by None rest = rest
     by (Some e) rest = ap (λ b. reopens p e || b) rest
-
--- closes and looks are no other events
-abbrev is_other : HistoryLine → Bool
-is_other (to.Close p) = false
-is_other (to.Drained p k) = false
-is_other _ = true
 
 none_looks : (test : HistoryLine → Bool) → ((p k : ℕ) → test (to.Drained p k) ≡ false) → (found : List Found) → any_line test (map look_item found) ≡ false
 none_looks test h [] = refl

@@ -1,15 +1,13 @@
 -- Which seat comes back, and when.
-use Rattle.std.proofs.Common.{◌≡◌, ◌≤◌, ℕ, Bool, true, false, List, [], ◌∷◌, Option, Some, None, Result, Err, IfSome, IsTrue, is_some, if◌then◌else◌, refl, sym, subst, ap, ◌∙◌}
-use Rattle.std.specs.Prelude.{◌==◌}
+use Rattle.std.proofs.Common.{◌≡◌, ◌≤◌, ℕ, false, List, [], ◌∷◌, Option, Some, None, Err, IfSome, IsTrue, is_some, refl, sym, subst, ap, ◌∙◌}
 use native.Mathlib.Omega.{arith}
-use Rattle.command_answers.specs.Answers.{no_memory_line, run_status}
+use Rattle.command_answers.specs.Answers.{no_memory_line}
 use Rattle.command_answers.specs.Statuses.{is_of_run}
 use Rattle.command_answers.specs.declared.status.Status.{Status}
 use Rattle.command_answers.specs.declared.status.Status.TheVariants as status
-use Rattle.command_words.specs.CommandLine.{Asks, SaysObservers, SaysThreads}
+use Rattle.command_words.specs.CommandLine.{SaysObservers}
 use Rattle.command_words.specs.declared.words.Command.TheVariants as commands
 use Rattle.command_program.specs.Refusals.{EndsNoRun}
-use Rattle.command_program.specs.declared.answer.Answer.{Answer}
 use Rattle.command_program.specs.declared.answer.Stop.{Stop}
 use Rattle.command_program.specs.declared.answer.Stop.TheVariants as stops
 use Rattle.command_spec.specs.Outcomes.{IsRunStatus}
@@ -37,16 +35,3 @@ of_back P seat None is holds = tt
 few_seen : (options : List (List ℕ)) (observers : ℕ) → SaysObservers options observers → observers ≤ 4
 few_seen [] observers said = subst (λ n. n ≤ 4) (sym said) (omega arith)
 few_seen (option ∷ words) observers said = subst (λ n. n ≤ 4) (sym said.4) said.3.2
-
-few_said : (options : List (List ℕ)) (workers observers : ℕ) → SaysThreads options workers observers → (workers ≤ 8) × (observers ≤ 4)
-few_said [] workers observers said = (subst (λ n. n ≤ 8) (sym said.0) (omega arith), subst (λ n. n ≤ 4) (sym said.1) (omega arith))
-few_said (option ∷ []) workers observers said = absurd said.1
-few_said (option ∷ count ∷ words) workers observers said = (subst (λ n. n ≤ 8) (sym said.1.1) said.1.0.2, few_seen words observers said.1.2)
-
-pub few_workers : (words : List (List ℕ)) (script : List ℕ) (workers observers : ℕ) → Asks words (commands.Live script workers observers) → workers ≤ 8
-few_workers [] script workers observers asks = absurd asks
-few_workers (word ∷ body) script workers observers asks = (few_said asks.1.0 workers observers asks.1.3).0
-
-pub few_observers : (words : List (List ℕ)) (script : List ℕ) (workers observers : ℕ) → Asks words (commands.Live script workers observers) → observers ≤ 4
-few_observers [] script workers observers asks = absurd asks
-few_observers (word ∷ body) script workers observers asks = (few_said asks.1.0 workers observers asks.1.3).1

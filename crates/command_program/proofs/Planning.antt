@@ -1,12 +1,8 @@
 -- What the parts of planning answer, as refusals and as changes.
-use Rattle.std.proofs.Common.{◌≡◌, ◌≢◌, false, ◌⊎◌, inl, inr, ℕ, List, [], Result, IfOk, refl, sym, subst}
+use Rattle.std.proofs.Common.{ℕ, List, Result, IfOk, sym, subst}
 use Rattle.std.proofs.lemmas.Result.{IfOk-weaker}
 use Rattle.config_graph.specs.Graph.{Graph}
-use Rattle.config_graph.specs.declared.node.Made.{Made}
-use Rattle.change_plan.specs.Refusals.{IsRefusal}
-use Rattle.change_plan.specs.declared.error.PlanError.{PlanError}
-use Rattle.change_plan.specs.declared.error.PlanError.TheVariants.{NoMemory}
-use Rattle.command_answers.specs.DescriptionFaults.{MayRefuse, fault_words, is_no_memory}
+use Rattle.command_answers.specs.DescriptionFaults.{MayRefuse, fault_words}
 use Rattle.command_answers.specs.declared.error.DescriptionFault.{DescriptionFault}
 use Rattle.command_answers.specs.declared.error.DescriptionFault.TheVariants as fault
 use Rattle.command_answers.specs.declared.status.Status.{Status}
@@ -27,15 +23,6 @@ pub of_line :
     {E : Type 0} (P : Status → List ℕ → Type 0) (s : Status) (line : List ℕ) (r : Result Answer E) → P s line → IfOk r (IsLine s line)
     → IfOk r (λ answer. P answer.status answer.text.items)
 of_line P s line r holds = IfOk-weaker r (IsLine s line) (λ answer. P answer.status answer.text.items) (λ answer is. rw (is.status_is, is.text_is) holds)
-
--- a refusal of a plan without moves
-pub full_words :
-    (old new : Graph) (made : Made) (e : PlanError) → (e ≡ NoMemory) ⊎ IsRefusal old new [] made e → MayRefuse (IsFull old new made) (fault.Plan e)
-full_words old new made e (inl memory) plain = absurd (is_memory e memory plain)
-  where
-    is_memory : (e : PlanError) → e ≡ NoMemory → is_no_memory (fault.Plan e) ≢ false
-    is_memory e none = rw none (λ is. cc)
-full_words old new made e (inr refuses) plain = record { fault = e; refuses = refuses; named = refl }
 
 pub plan_refused :
     (text : List ℕ) (call target : TopCall) (old new : Graph) (words : List (List ℕ)) → Starts text call.top call.args old → HasGraph text target.top target.args new

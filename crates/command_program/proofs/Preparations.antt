@@ -4,7 +4,8 @@ use Rattle.std.specs.Global.{Vec}
 use Rattle.std.specs.Option.{option_map}
 use Rattle.std.proofs.lemmas.List.{append-nil}
 use Rattle.cfg_io.specs.Shelf.{Files}
-use Rattle.change_spec.specs.Asked.{CanDoAll, after_start, nothing_made}
+use Rattle.change_spec.specs.Asked.{CanDoAll, after_start}
+use Rattle.change_spec.specs.Scripts.{nothing_made}
 use Rattle.change_spec.specs.declared.steps.Start.{Start}
 use Rattle.change_spec.specs.declared.steps.Step.{Step}
 use Rattle.change_script.specs.ScriptFiles.{IsScript}

@@ -8,10 +8,10 @@ use Rattle.change_plan.specs.Plans.{IsPlanOf}
 use Rattle.change_plan.specs.Refusals.{CanPlan}
 use Rattle.darwin_types.specs.Checked.{description}
 use Rattle.darwin_types.specs.declared.checked.Checked.{Checked}
-use Rattle.change_spec.specs.Scripts.{more_made}
+use Rattle.change_spec.specs.Scripts.{more_made, nothing_made}
 use Rattle.change_spec.specs.Statements.{Statement}
 use Rattle.command_spec.specs.Lines.{Progress}
-use Rattle.change_spec.specs.Asked.{CanDoAll, CanStart, after_start, graph_behind, nothing_made, statements_of}
+use Rattle.change_spec.specs.Asked.{CanDoAll, CanStart, after_start, graph_behind, statements_of}
 use Rattle.change_spec.specs.declared.steps.Replacement.{Replacement}
 use Rattle.change_spec.specs.declared.steps.Start.{Start}
 use Rattle.change_spec.specs.declared.steps.Step.{Step}

@@ -5,7 +5,8 @@ ghost use Rattle.config_graph.specs.Sound.{Sound};
 ghost use Rattle.change_plan.specs.Room.{HasRoomFor};
 ghost use Rattle.change_parts.specs.Carrying.{CanCarryOutAll};
 ghost use Rattle.change_parts.specs.Rolls.{IsRoll, roll_statements, stage_left};
-ghost use Rattle.command_spec.specs.Plans.{HasSteps, IsRollText, made_of_graph, nothing_made};
+ghost use Rattle.command_spec.specs.Plans.{HasSteps, IsRollText, made_of_graph};
+ghost use Rattle.change_spec.specs.Scripts.{nothing_made};
 ghost use Rattle.command_answers.specs.DescriptionFaults.{MayRefuse};
 ghost use Rattle.command_program.specs.Planning.{IsFull};
 

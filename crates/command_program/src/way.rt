@@ -2,10 +2,10 @@
 
 ghost use Rattle.std.specs.Prelude.{◌≡◌, ◌^◌, ◌<◌, [], IfSome, IsSome, OnOk, length, string_bytes, sum_by};
 ghost use Rattle.config_graph.specs.Graph.{IsGraph, requires_at};
-ghost use Rattle.change_spec.specs.Scripts.{more_made};
+ghost use Rattle.change_spec.specs.Scripts.{more_made, nothing_made};
 ghost use Rattle.change_plan.specs.Room.{HasRoom, HasRoomFor};
 ghost use Rattle.command_program.specs.Ways.{HasAdded, HasDescribed, last_graph, made_with_graph, with_start};
-ghost use Rattle.change_spec.specs.Asked.{nothing_made, graph_behind, made_with_change};
+ghost use Rattle.change_spec.specs.Asked.{graph_behind, made_with_change};
 ghost use Rattle.change_spec.specs.declared.steps.Step.TheVariants as to_do;
 
 use change_spec::{Replacement, Start, Step};

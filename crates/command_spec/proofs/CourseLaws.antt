@@ -26,7 +26,7 @@ use Rattle.command_spec.specs.Descriptions.{IsChecked, IsGraphOfCall, IsDescript
 use Rattle.command_spec.specs.Descriptions as descriptions
 use Rattle.command_spec.specs.Fetches.{Fetch, fetch_of, report_fetch}
 use Rattle.command_spec.specs.Leads.{falls_short, LeadBy, ScriptLeads}
-use Rattle.command_spec.specs.Lines.{RunLine, calls, does, GraphUse, draws, starts, changes, Progress, begun, with_description, with_called_graph, with_statement, Allows, by_elaboration, by_deed, CallLeads, Aim, drawing, planning, replaying, running, IsChangeOf, Concludes, behind, reporting, FollowsLines, uses}
+use Rattle.command_spec.specs.Lines.{RunLine, calls, does, GraphUse, draws, starts, changes, Progress, begun, with_description, with_called_graph, with_statement, Allows, by_elaboration, by_deed, CallLeads, Aim, drawing, planning, replaying, IsChangeOf, Concludes, behind, reporting, FollowsLines, uses}
 use Rattle.command_spec.specs.Plans.{Starts, RefusesStart, has_no_graph, is_full, HasChange, RefusesPlan, starts_not, leads_nowhere, gets_full, made_of_graph}
 use Rattle.command_spec.specs.Queries.{IsRefused, AnswersQuery, IsTextBy}
 use Rattle.command_spec.specs.OneFile.{DescriptionAnswers, cannot_read, is_too_long, answered, EventsAnswers, cannot_read_events, events_file_too_long, events_file_at_fault, ScriptAnswers, cannot_read_script, script_file_too_long, script_file_at_fault, ReportAnswers, cannot_read_report, report_too_long, report_at_fault, upgraded, JudgementAnswers, judges_no_file, judges_no_long_file, judges_no_fault, judged}
@@ -378,13 +378,6 @@ module _ (IsReport IsAlso : List Statement → Report → Type 0) (Shows : Repor
   reports_widen name _ _ (leads_on bytes _ _ (refused words why)) = leads_on bytes [] (refusal (script name words)) (refused words why)
   reports_widen name _ _ (leads_on bytes _ _ (gives parsed fetches answer is follows)) =
       leads_on bytes fetches answer (gives parsed fetches answer is (widen_lines begun (lines_of_script parsed.lines) fetches answer follows))
-
--- or memory runs out behind its lines
-pub script_ran_short :
-    (aim : Aim) (name : List ℕ) (fetches : List Fetch) (end : Progress) → ScriptLeads name fetches end → course_of_script (behind aim) name fetches (refusal no_memory)
-script_ran_short aim name fetches end leads =
-    subst (λ fs. course_of_script (behind aim) name fs (refusal no_memory)) (append-nil fetches)
-    (script_leads (behind aim) name fetches [] (refusal no_memory) end leads not_made)
 
 -- what is answered of a report that statements judge
 pub judgement :

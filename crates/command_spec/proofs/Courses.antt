@@ -10,7 +10,7 @@ use Rattle.change_plan.specs.Refusals.{CanPlan, IsRefusal}
 use Rattle.change_script.specs.declared.event_files.EventFile.{EventFile}
 use Rattle.command_answers.specs.Answers.{Answer, ShowsAnswer, refusal, description, read_fault, no_memory, graph, parts, plan, rolled, status_of, text_of}
 use Rattle.command_words.specs.declared.words.TopCall.{TopCall}
-use Rattle.change_spec.specs.Scripts.{more_made}
+use Rattle.change_spec.specs.Scripts.{more_made, nothing_made}
 use Rattle.command_spec.specs.declared.fetched.Fetched.{Fetched}
 use Rattle.command_spec.specs.declared.fetched.Fetched.TheVariants.{Held, TooLong, Failed}
 use Rattle.command_spec.specs.declared.query.Cut.{Cut}
@@ -23,7 +23,7 @@ use Rattle.command_spec.specs.Descriptions.{IsChecked, IsGraphOfCall, HasGraph, 
 use Rattle.command_spec.specs.Descriptions as descriptions
 use Rattle.command_spec.specs.Fetches.{Fetch, fetch_of}
 use Rattle.command_spec.specs.Lines.{GraphUse, draws, starts, changes, Progress, begun, with_description, with_called_graph, Forbids, IsCallRefusal, by_elaboration, by_deed, CallLeads, Aim, drawing, planning, replaying, IsChangeOf, Concludes, behind, FollowsLines}
-use Rattle.command_spec.specs.Plans.{Starts, RefusesStart, has_no_graph, is_full, RefusesPlan, starts_not, leads_nowhere, gets_full, nothing_made, made_of_graph}
+use Rattle.command_spec.specs.Plans.{Starts, RefusesStart, has_no_graph, is_full, RefusesPlan, starts_not, leads_nowhere, gets_full, made_of_graph}
 use Rattle.command_answers.specs.declared.status.Status.{Status}
 use Rattle.change_parts.specs.Rolls.{stage_left}
 use Rattle.command_spec.specs.Queries.{IsRefused, AnswersQuery, IsTextBy}

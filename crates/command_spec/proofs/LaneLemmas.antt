@@ -5,7 +5,6 @@ use Rattle.std.specs.List.{list_all, range_with_len}
 use Rattle.std.proofs.lemmas.Bool.{and_parts, cases_lt}
 use Rattle.std.proofs.lemmas.List.FromFn.{get_or-range_with_len, length-range_with_len}
 use Rattle.command_words.specs.BigFiles.{script}
-use Rattle.change_plan.proofs.SelectsLaws.{Contains-places}
 use Rattle.command_spec.specs.Fetches.{file_limit}
 use Rattle.command_words.specs.CommandLine.{Asks}
 use Rattle.command_words.specs.declared.words.Command.TheVariants as commands
@@ -14,6 +13,7 @@ use Rattle.elaborator.specs.Paths.{Path}
 use Rattle.elaborator.specs.FaultCases.{Query}
 use Rattle.elaborator.proofs.ElaborationTestLaws.{cases, is_clear}
 use Rattle.base.proofs.ListLaws.{all_have}
+use Rattle.base.proofs.RangeLaws.{Contains-places}
 use Rattle.command_spec.proofs.FewCreated.{nodes_below}
 use Rattle.command_spec.specs.MadeTrees.{made_tree}
 

@@ -1,9 +1,6 @@
 -- What bytes give is one: one graph, one plan, one outcome of events, and so one status and one text.
-use Rattle.std.proofs.Common.{◌≡◌, ◌∙◌, ◌<◌, ℕ, List, [], Option, sym, ap, subst, arith}
-use Rattle.std.specs.Prelude.{Contains}
-use Rattle.std.specs.List.Sorted.{IsStrictlyIncreasing}
-use Rattle.std.proofs.lemmas.List.Kept.{AllPairs-from_increasing}
-use Rattle.base.proofs.OrderedLaws.{one_order}
+use Rattle.std.proofs.Common.{◌≡◌, ◌∙◌, ℕ, List, [], Option, sym, ap, subst}
+use Rattle.base.proofs.RisingLaws.{one_rising}
 use Rattle.config_graph.specs.Graph.{Graph, IsGraph}
 use Rattle.config_graph.specs.GraphText.{graph_text}
 use Rattle.quiesce_core.specs.Start.{started}
@@ -31,13 +28,6 @@ use Rattle.command_spec.specs.declared.query.Query.{Query}
 use Rattle.command_spec.specs.declared.query.Query.TheVariants as queries
 use Rattle.command_spec.proofs.GraphLaws.{GraphOrFault, has_bounds}
 use Rattle.command_spec.proofs.Planning.{one_graph}
-
--- numbers that rise are told by which they are
-one_rising :
-    (xs ys : List ℕ) → IsStrictlyIncreasing xs → IsStrictlyIncreasing ys → ((n : ℕ) → Contains xs n → Contains ys n)
-    → ((n : ℕ) → Contains ys n → Contains xs n) → xs ≡ ys
-one_rising xs ys rise rise' all all' =
-    one_order (λ (x y : ℕ). x < y) (λ x y low high. omega (arith, low, high)) xs ys (AllPairs-from_increasing xs rise) (AllPairs-from_increasing ys rise') all all'
 
 -- ---- changes
 

@@ -19,7 +19,8 @@ use Rattle.elaborator.specs.Instances.{Instance, top_instance}
 use Rattle.std.proofs.lemmas.Option.{same_Some, slice_get_within}
 use Rattle.command_words.specs.declared.words.TopCall.{TopCall}
 use Rattle.command_spec.specs.Descriptions.{HasGraph}
-use Rattle.command_spec.specs.Plans.{Starts, RefusesStart, has_no_graph, is_full, HasChange, RefusesPlan, starts_not, leads_nowhere, gets_full, nothing_made, made_of_graph}
+use Rattle.command_spec.specs.Plans.{Starts, RefusesStart, has_no_graph, is_full, HasChange, RefusesPlan, starts_not, leads_nowhere, gets_full, made_of_graph}
+use Rattle.change_spec.specs.Scripts.{nothing_made}
 use Rattle.command_spec.proofs.Readings as readings
 
 -- ---- room is full or not

@@ -8,7 +8,7 @@ use Rattle.report_types.specs.declared.report.Report.{Report}
 use Rattle.command_answers.specs.declared.status.Status.{Status}
 use Rattle.command_answers.specs.declared.status.Status.TheVariants as status
 use Rattle.command_answers.specs.Answers as values
-use Rattle.command_answers.specs.Answers.{Answer, status_of, text_of}
+use Rattle.command_answers.specs.Answers.{status_of, text_of}
 use Rattle.command_spec.specs.Known.{AsksOf}
 use Rattle.command_words.specs.declared.words.Command.{Command}
 use Rattle.command_words.specs.declared.words.Command.TheVariants as commands
@@ -22,24 +22,12 @@ use Rattle.command_spec.specs.Outcomes.{AsksToRun, ReadFrom, Flattened, Parted, 
 use Rattle.report_writing.specs.Reports.{report_text}
 use Rattle.command_spec.specs.Schedules.{Schedule, threads}
 use Rattle.command_spec.proofs.Watching.{unwatched}
-use Rattle.command_spec.specs.Runs.{Written, whole, stopped, Run, RunsWith, Runs}
+use Rattle.command_spec.specs.Runs.{Written, whole, stopped, Run, Runs}
 use Rattle.command_spec.specs.declared.query.Query.{Query}
 use Rattle.command_spec.proofs.Flattening as flattening
 use Rattle.command_spec.proofs.Inverting.{from_script, OfStep, ran}
 use Rattle.command_spec.proofs.ScriptEnds.{for_memory, for_sink, no_run, reported, script_ends}
 use Rattle.command_spec.proofs.Stepping as stepping
-
--- a run with an answer of a kind is a run
-pub runs_with : (Is : Answer → Type 0) (knows : Command → Bool) (seen : Run) → RunsWith Is knows seen → Runs knows seen
-runs_with Is knows seen run = record {
-  fetches = run.fetches;
-  answer = run.answer;
-  is = tt;
-  answers = run.answers;
-  noted = run.noted;
-  told = run.told;
-  written = run.written;
-}
 
 -- What a run of a script has written, by the course of its reports: the report of which so much is so, by bytes that show it.
 module _ (IsReport : List Statement → Report → Type 0) (Shows : Report → List ℕ → Type 0) (seen : Run) (name : List ℕ) (fetches : List Fetch) (told : AllByRecursion (Gave seen.files) fetches) where

@@ -1,9 +1,8 @@
 -- The lines of a history that follows a script: what a script gives of them, and what the events of the change give.
-use Rattle.std.proofs.Common.{◌≡◌, ◌∙◌, ℕ, ℤ, zero, suc, ◌+◌, ◌<◌, Bool, true, false, cond, List, [], ◌∷◌, ◌++◌, length, map, Option, Some, None, inl, inr, refl, sym, ap, subst, arith}
-use Rattle.std.specs.Prelude.{⊤, ◌⊎◌, ◌==◌, All, IfSome, filter_map, slice_get, option_map, unwrap_or}
+use Rattle.std.proofs.Common.{◌≡◌, ◌∙◌, ℕ, ℤ, ◌+◌, ◌<◌, Bool, true, false, cond, List, [], ◌∷◌, ◌++◌, length, map, Option, Some, None, inl, inr, refl, sym, ap, subst, arith}
+use Rattle.std.specs.Prelude.{⊤, ◌⊎◌, ◌==◌, IfSome, filter_map, option_map, unwrap_or}
 use Rattle.std.specs.List.{AllByRecursion, cons_option, count_by, enumerate_from, list_any, range_with_len}
 use Rattle.std.proofs.lemmas.Bool.{cases_Bool, eqb-true, eq-eqb}
-use Rattle.std.proofs.lemmas.List.Elements.{All-head, All-tail}
 use Rattle.std.proofs.lemmas.List.Sums.{sum_by-cons}
 use Rattle.base.specs.Each.{EachAfter}
 use Rattle.config_graph.specs.Graph.{Graph, ports, target_of}
@@ -38,46 +37,8 @@ use Rattle.change_spec.specs.Statements.{Statement, start, change, run, finish, 
 use Rattle.command_spec.specs.Telling.{AreStated, HasWords, IsCall, IsStated}
 use Rattle.command_spec.proofs.NumberLemmas.{HasNumbers}
 use Rattle.base.proofs.ListLaws.{AllByRecursion-append}
-
--- ---- lists
-
-pub all_split : {A : Type 0} (P : A → Type 0) (xs ys : List A) → AllByRecursion P (xs ++ ys) → AllByRecursion P xs × AllByRecursion P ys
-all_split P [] ys all = (tt, all)
-all_split P (x ∷ xs) ys all = let parts = all_split P xs ys all.1 in ((all.0, parts.0), parts.1)
-
-pub all_mapped : {A B : Type 0} (P : B → Type 0) (f : A → B) (xs : List A) → ((x : A) → P (f x)) → AllByRecursion P (map f xs)
-all_mapped P f [] has = tt
-all_mapped P f (x ∷ xs) has = (has x, all_mapped P f xs has)
-
-all_onto : {A B : Type 0} (P : B → Type 0) (f : A → B) (xs : List A) → AllByRecursion (λ x. P (f x)) xs → AllByRecursion P (map f xs)
-all_onto P f [] all = tt
-all_onto P f (x ∷ xs) all = (all.0, all_onto P f xs all.1)
-
-all_of_map : {A B : Type 0} (P : B → Type 0) (f : A → B) (xs : List A) → AllByRecursion P (map f xs) → AllByRecursion (λ x. P (f x)) xs
-all_of_map P f [] all = tt
-all_of_map P f (x ∷ xs) all = (all.0, all_of_map P f xs all.1)
-
-all_chosen : {A B : Type 0} (P : B → Type 0) (f : A → Option B) (xs : List A) → ((x : A) → IfSome (f x) P) → AllByRecursion P (filter_map f xs)
-all_chosen P f [] has = tt
-all_chosen {A} {B} P f (x ∷ xs) has = by (f x) (has x) (all_chosen P f xs has)
-  where
-    by : (o : Option B) → IfSome o P → AllByRecursion P (filter_map f xs) → AllByRecursion P (cons_option o (filter_map f xs))
-    by None h rest = rest
-    by (Some y) h rest = (h, rest)
-
-pub all_at : {A : Type 0} (P : A → Type 0) (xs : List A) (i : ℕ) (x : A) → AllByRecursion P xs → slice_get xs i ≡ Some x → P x
-all_at P [] i x all at = absurd (cc at)
-all_at P (y ∷ xs) zero x all at = subst P (cc at) all.0
-all_at P (y ∷ xs) (suc i) x all at = all_at P xs i x all.1 at
-
-pub all_follow : {A : Type 0} (P Q : A → Type 0) → ((x : A) → P x → Q x) → (xs : List A) → AllByRecursion P xs → AllByRecursion Q xs
-all_follow P Q follows [] all = tt
-all_follow P Q follows (x ∷ xs) all = (follows x all.0, all_follow P Q follows xs all.1)
-
--- ---- what is seen
-
-more_counted : {A : Type 0} (test : A → Bool) (x : A) (xs : List A) → 0 < count_by test xs → 0 < count_by test (x ∷ xs)
-more_counted test x xs some = omega (arith, some, sum_by-cons (λ y. cond (test y) 1 0) x xs)
+use Rattle.base.proofs.AllLaws.{all_split, all_mapped, all_onto, all_of_map, all_chosen, all_at, all_follow, all_by_recursion}
+use Rattle.base.proofs.CountLaws.{more_counted}
 
 all_counted : (seen : List Seen) → AllByRecursion (λ (d : Seen). 0 < count_by (λ (x : Seen). x.port == d.port) seen) seen
 all_counted [] = tt
@@ -193,10 +154,6 @@ made_words : (old new : Graph) (plan : Plan) (c : Configuration) (k : ℕ) (js :
     → AllByRecursion MakesWord (map work_.make_new (makes_from old new plan c k js))
 made_words old new plan c k [] words all = tt
 made_words old new plan c k (j ∷ js) words all = (created_word new old j words all.0, made_words old new plan c (k + 1) js words all.1)
-
-all_by_recursion : {A : Type 0} (P : A → Type 0) (xs : List A) → All P xs → AllByRecursion P xs
-all_by_recursion P [] all = tt
-all_by_recursion P (x ∷ xs) all = (All-head P x xs all, all_by_recursion P xs (All-tail P x xs all))
 
 commit_makes : (old new : Graph) (moves : List Move) (plan : Plan) (c : Configuration) → IsPlanOf old new moves plan → HasWords new → AllByRecursion MakesWord (commit_events old new plan c)
 commit_makes old new moves plan c is_plan words =

@@ -8,6 +8,7 @@ use Rattle.std.proofs.lemmas.List.Elements.{All-cons, All-from_recursion, All-he
 use Rattle.base.specs.Each.{EachAfter}
 use Rattle.base.proofs.PlaceLaws.{heads_are, tails_are}
 use Rattle.base.proofs.FindLaws.{found_has}
+use Rattle.base.proofs.AllLaws.{all_follow}
 use Rattle.component_trait.specs.States.{NodeState}
 use Rattle.quiesce_core.specs.declared.event.Event.{Event}
 use Rattle.quiesce_core.specs.declared.event.Event.TheVariants as events
@@ -33,7 +34,6 @@ use Rattle.change_spec.specs.Members as members
 use Rattle.change_spec.specs.Members.{Member, is_pending, made_slot}
 use Rattle.command_spec.specs.Telling.{StateFits}
 use Rattle.command_spec.proofs.NumberLemmas.{HasNumbers, numbers, slot_number}
-use Rattle.command_spec.proofs.TellingLines.{all_follow}
 
 -- ---- events
 

@@ -23,8 +23,8 @@ use Rattle.change_spec.specs.Follows.{Follows, IsRight, IsStop, Part, lines_of}
 use Rattle.change_spec.specs.Members.{is_pending, line_of, lines_of_events}
 use Rattle.change_spec.specs.Scene.{Seen, config_after, drained_line, root_line}
 use Rattle.change_spec.specs.Statements.{Statement, start, change, run, finish, show}
-use Rattle.command_spec.proofs.TellingLines.{all_mapped}
 use Rattle.base.proofs.ListLaws.{AllByRecursion-append}
+use Rattle.base.proofs.AllLaws.{all_mapped}
 
 -- ---- places
 

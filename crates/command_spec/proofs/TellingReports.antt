@@ -1,12 +1,11 @@
 -- A consistent report of statements as a script gives them is one that can be written, and read again.
-use Rattle.std.proofs.Common.{◌≡◌, ◌∙◌, ℕ, zero, suc, ◌<◌, ◌==◌, Bool, true, false, not, cond, List, [], ◌∷◌, ◌++◌, append_assoc, length, set, Option, Some, None, refl, sym, ap, subst}
-use Rattle.std.specs.Prelude.{All, Contains, IfSome, IsTrue, filter, filter_map, find}
+use Rattle.std.proofs.Common.{◌≡◌, ◌∙◌, ℕ, ◌<◌, ◌==◌, Bool, true, false, not, cond, List, [], ◌∷◌, ◌++◌, append_assoc, length, set, Option, Some, None, refl, sym, ap, subst}
+use Rattle.std.specs.Prelude.{All, IfSome, IsTrue, filter, filter_map, find}
 use Rattle.std.specs.List.{AllByRecursion, cons_option, list_all, list_any, range_with_len}
 use Rattle.std.specs.Option.{option_map_or}
 use Rattle.std.proofs.lemmas.Bool.{and_parts, both_ways, eqb-true}
 use Rattle.std.proofs.lemmas.List.Elements.{All-from_recursion}
 use Rattle.base.specs.Each.{EachAfter}
-use Rattle.base.proofs.ContainsLaws.{Contains-here, Contains-there}
 use Rattle.config_graph.specs.Graph.{Graph}
 use Rattle.config_graph.specs.declared.node.Node.{Node}
 use Rattle.quiesce_core.specs.declared.event.Event.{Event}
@@ -35,28 +34,24 @@ use Rattle.change_spec.specs.Members as members
 use Rattle.change_spec.specs.Members.{Member, by_node, of_history, event_of, made_slot, state_at, without_roots}
 use Rattle.change_spec.specs.Statements.{Statement, is_finish}
 use Rattle.change_spec.specs.Scene.{config_after}
-use Rattle.change_spec.proofs.MemberLaws.{all_parts, changes_are_lines, config_of_lines, events_parts, events_without_roots, lines_parts}
+use Rattle.change_spec.proofs.MemberLaws.{changes_are_lines, config_of_lines, events_parts, events_without_roots, lines_parts}
 use Rattle.change_round_laws.proofs.AloneLaws.{changes_run}
 use Rattle.change_round_laws.proofs.LineLaws.{changes, config_of}
 use Rattle.change_round_laws.proofs.RoundLaws as rounds
 use Rattle.command_spec.specs.Telling.{AreStated, CountFits, NumbersFit}
 use Rattle.command_spec.proofs.NumberLemmas.{serial_number}
-use Rattle.command_spec.proofs.TellingLines.{HasEventNumbers, IsSaid, MakesWord, all_at, all_split, history_numbers, history_said}
+use Rattle.command_spec.proofs.TellingLines.{HasEventNumbers, IsSaid, MakesWord, history_numbers, history_said}
 use Rattle.command_spec.proofs.TellingLogs.{IsNextSlot, logs_are, next_slots, numbers_of_run, slots_are_numbers, slots_made, status_small}
 use Rattle.command_spec.proofs.TellingOpens.{OpensBehind, history_opens}
 use Rattle.command_spec.proofs.TellingTexts.{HasSerial, HasTold, can_stand}
-use Rattle.base.proofs.ListLaws.{AllByRecursion-push}
+use Rattle.base.proofs.ListLaws.{AllByRecursion-push, all_parts}
 use Rattle.base.proofs.FindLaws.{found_has}
+use Rattle.base.proofs.AllLaws.{all_split, all_at, all_put, all_contained}
 
 -- ---- the paths of the nodes of a configuration
 
 abbrev SlotHasWord : Slot → Type 0
 SlotHasWord m = IsWord m.node.path
-
-all_put : {A : Type 0} (P : A → Type 0) (xs : List A) (k : ℕ) (x : A) → AllByRecursion P xs → P x → AllByRecursion P (set xs k x)
-all_put P [] k x all has = tt
-all_put P (y ∷ xs) zero x all has = (has, all.1)
-all_put P (y ∷ xs) (suc k) x all has = (all.0, all_put P xs k x all.1 has)
 
 words_next : (c : Configuration) (e : Event) → MakesWord e → AllByRecursion SlotHasWord c.slots → AllByRecursion SlotHasWord (change_next c e).slots
 words_next c (events.Make n node from) word all = AllByRecursion-push SlotHasWord c.slots (record { node = node; first_port = length c.gates; from = from; live = true }) all word
@@ -82,10 +77,6 @@ made_words (l ∷ lines) all = by (event_of l) (word_of_line l all.0) (made_word
     by : (o : Option Event) → IfSome o MakesWord → AllByRecursion MakesWord (filter_map event_of lines) → AllByRecursion MakesWord (cons_option o (filter_map event_of lines))
     by None h rest = rest
     by (Some e) h rest = (h, rest)
-
-all_contained : {A : Type 0} (P : A → Type 0) (xs : List A) → ((x : A) → Contains xs x → P x) → AllByRecursion P xs
-all_contained P [] has = tt
-all_contained P (x ∷ xs) has = (has x (Contains-here x xs), all_contained P xs (λ y there. has y (Contains-there x y xs there)))
 
 -- the graph at a place can be shown
 can_be_shown : (before : List Member) (g : Graph) → IsRun (members.events before) → All IsOfItsKind before → AllByRecursion IsSaid (members.lines before) → IsGraphOf (state_at before).config g → CanBeShown g

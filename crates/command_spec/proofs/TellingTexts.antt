@@ -9,7 +9,6 @@ use Rattle.std.proofs.lemmas.Fmt.{decimal_by_steps}
 use Rattle.config_graph.specs.GraphText.{kind_text}
 use Rattle.config_graph.specs.Kinds.{row}
 use Rattle.config_graph.specs.declared.kind.Kind.{Kind}
-use Rattle.config_graph.specs.declared.kind.Kind.TheVariants.{Philosopher, Place, Fork, Source, Map, Buffer, Sink, Teller, Branch, Account, Asker, Adder}
 use Rattle.config_graph.specs.declared.node.Node.{Node}
 use Rattle.report_types.specs.declared.report.HistoryLine.{HistoryLine}
 use Rattle.report_types.specs.declared.report.HistoryLine.TheVariants as to
@@ -18,7 +17,7 @@ use Rattle.report_writing.specs.Writing.{from_words, spaced}
 use Rattle.change_script.specs.StatementTexts.{IsInteger}
 use Rattle.change_script.specs.Written.{IsNumber}
 use Rattle.report_lines.specs.ReportLines.{lacks}
-use Rattle.report_lines.proofs.TextLaws.{lacks_append}
+use Rattle.report_lines.proofs.TextLaws.{lacks_append, kind_name_lacks}
 use Rattle.report_texts.specs.Limits.{line_keeps}
 use Rattle.report_texts.specs.ReportTexts.{CanBeShown, CanStand, IsOneLine, IsWord}
 use Rattle.report_texts.specs.declared.version.Version.TheVariants as versions
@@ -72,20 +71,6 @@ system_line verb name args first call =
     (lacks_append 10 (verb ++ codes " ") name (lacks_append 10 verb (codes " ") first refl) call.one_line) refl)
     (args_line args call.integers)) refl
 
-kind_line : (kind : Kind) → OnOneLine (row kind).name
-kind_line Philosopher = refl
-kind_line Place = refl
-kind_line Fork = refl
-kind_line Source = refl
-kind_line Map = refl
-kind_line Buffer = refl
-kind_line Sink = refl
-kind_line Teller = refl
-kind_line Branch = refl
-kind_line Account = refl
-kind_line Asker = refl
-kind_line Adder = refl
-
 argument_line : (arg : Option ℕ) → IfSome arg IsNumber → OnOneLine (option_map_or decimal arg [])
 argument_line None small = refl
 argument_line (Some a) small = small_line a small
@@ -93,7 +78,7 @@ argument_line (Some a) small = small_line a small
 typed_line : (kind : Kind) (arg : Option ℕ) → IfSome arg IsNumber → OnOneLine (kind_text kind arg)
 typed_line kind arg small =
     lacks_append 10 (((row kind).name ++ codes "(") ++ option_map_or decimal arg []) (codes ")")
-    (lacks_append 10 ((row kind).name ++ codes "(") (option_map_or decimal arg []) (lacks_append 10 (row kind).name (codes "(") (kind_line kind) refl) (argument_line arg small)) refl
+    (lacks_append 10 ((row kind).name ++ codes "(") (option_map_or decimal arg []) (lacks_append 10 (row kind).name (codes "(") (kind_name_lacks 10 (omega arith) kind) refl) (argument_line arg small)) refl
 
 source_line : (from : Option ℕ) → IfSome from IsNumber → AllByRecursion OnOneLine (from_words from)
 source_line None small = tt

@@ -60,11 +60,11 @@ use Rattle.command_answers.specs.declared.status.Status.{Status}
 use Rattle.command_answers.specs.declared.status.Status.TheVariants as status
 use Rattle.command_words.specs.declared.words.TopCall.{TopCall}
 use Rattle.command_spec.specs.Descriptions.{IsChecked, IsTextRefusal, by_lexer, by_grammar, by_nesting, by_names, HasGraph, IsDescriptionRefusal, by_text, by_elaboration, place_at}
-use Rattle.command_spec.specs.Plans.{Starts, RefusesStart, has_no_graph, is_full, HasChange, RefusesPlan, starts_not, leads_nowhere, gets_full, nothing_made, made_of_graph}
+use Rattle.command_spec.specs.Plans.{Starts, RefusesStart, has_no_graph, is_full, HasChange, RefusesPlan, starts_not, leads_nowhere, gets_full, made_of_graph}
 use Rattle.command_spec.specs.Queries.{IsRefused, AnswersQuery, IsTextBy}
 use Rattle.command_answers.specs.Answers.{roll_status}
 use Rattle.command_answers.specs.PartTexts.{roll_text}
-use Rattle.change_spec.specs.Scripts.{more_made}
+use Rattle.change_spec.specs.Scripts.{more_made, nothing_made}
 use Rattle.change_parts.specs.Rolls.{IsRoll, roll_statements, stage_left}
 use Rattle.command_spec.proofs.Courses.{first_made}
 use Rattle.command_spec.specs.Replays.{IsReplayed, one_denied, all_steps, HasReplay}

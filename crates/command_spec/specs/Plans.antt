@@ -4,7 +4,7 @@
 use Rattle.std.specs.Prelude.{◌≡◌, ℕ, ℤ, List, [], length, Option}
 use Rattle.config_graph.specs.Graph.{Graph, ports}
 use Rattle.config_graph.specs.declared.node.Made.{Made}
-use Rattle.change_spec.specs.Scripts.{nothing_above}
+use Rattle.change_spec.specs.Scripts.{nothing_made}
 use Rattle.change_plan.specs.PlanText.{plan_text}
 use Rattle.change_plan.specs.Plans.{IsPlanOf}
 use Rattle.change_plan.specs.Refusals.{CanPlan, IsRefusal}
@@ -20,10 +20,6 @@ use Rattle.command_answers.specs.Answers.{roll_status}
 use Rattle.command_answers.specs.PartTexts.{parts_text, roll_text}
 use Rattle.command_answers.specs.RefusalLines.{plan_words}
 use Rattle.command_answers.specs.declared.status.Status.{Status}
-
--- what was made before a start
-abbrev pub nothing_made : Made
-nothing_made = nothing_above.made
 
 -- what a start with a graph makes
 abbrev pub made_of_graph : Graph → Made

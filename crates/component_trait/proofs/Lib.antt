@@ -2,4 +2,5 @@ pub mod BoundLaws
 pub mod FoldLaws
 mod FollowLemmas
 mod Logs
-mod WantLemmas
+pub mod WantLaws
+pub mod TableLaws

@@ -39,7 +39,7 @@ pub fn logs_are_bounded()
 
 /// A law: what a node wants stays what it wants through all that it does in a service. So until its transaction ends
 /// it wants the same, at the same port.
-#[tactic(auto, using(crate::proofs::WantLemmas::wanted_after_take))]
+#[tactic(auto, using(crate::proofs::WantLaws::wanted_after_take))]
 pub fn what_is_wanted_stays()
     ensures take { (s : NodeState) (v : ℕ) (x : Ask) → moves.wants s ≡ Some x →
         moves.wants (moves.after_take s v) ≡ Some x }
@@ -51,7 +51,7 @@ pub fn what_is_wanted_stays()
 
 /// A law: the service of a node that wants something asks nothing. So no port is both one that its service calls and
 /// one that it wants, and an end is handed in to one of the two alone.
-#[tactic(auto, using(crate::proofs::WantLemmas::asks_nothing))]
+#[tactic(auto, using(crate::proofs::WantLaws::asks_nothing))]
 pub fn who_wants_asks_nothing()
     ensures { (s : NodeState) (x : Ask) → moves.wants s ≡ Some x → asked_by (moves.next s) ≡ None }
 {}

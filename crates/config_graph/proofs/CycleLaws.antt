@@ -1,16 +1,14 @@
 -- Lemmas on the nodes to which nodes lead, on ways and on cycles.
-use Rattle.std.proofs.Common.{◌≡◌, ◌<◌, ◌≤◌, ℕ, zero, suc, Bool, true, false, List, Option, Some, None, option_map, slice_get, length, IfSome, refl, sym, ◌∙◌, ap, arith}
+use Rattle.std.proofs.Common.{◌≡◌, ◌<◌, ◌≤◌, ℕ, Bool, true, false, List, Option, Some, None, option_map, slice_get, length, IfSome, refl, sym, ◌∙◌, ap, arith}
 use Rattle.std.specs.Prelude.{if◌then◌else◌}
 use Rattle.std.proofs.Common.{eqb, ◌||◌, subst}
 use Rattle.std.specs.Prelude.{All}
-use Rattle.std.specs.List.{range_with_len}
-use Rattle.std.proofs.lemmas.List.FromFn.{length-range_with_len, get_or-range_with_len}
 use Rattle.std.specs.Option.{option_map_or}
 use Rattle.std.proofs.lemmas.Bool.{false≢true}
 use Rattle.std.proofs.lemmas.Bool.Decides.{nat_tests}
 use Rattle.config_graph.specs.Kinds.{row, depends_on, is_depended_on}
 use Rattle.config_graph.specs.Graph.{Graph, IsLinkWithin, provides_at, provides_of, requires_at, requires_of, target_of}
-use Rattle.config_graph.specs.Cycles.{FirstOnCycle, OnCycle, IsLinked, depends_at, is_depended_at, leads_by, graph_wiring}
+use Rattle.config_graph.specs.Cycles.{OnCycle, IsLinked, depends_at, is_depended_at, leads_by, graph_wiring}
 use Rattle.config_graph.specs.Walks.{onward, step}
 use Rattle.config_graph.specs.Wiring.{MayCall, CallPath, HasNoCycle}
 use Rattle.config_graph.specs.declared.kind.Kind.{Kind}
@@ -20,6 +18,7 @@ use Rattle.config_graph.specs.declared.node.Target.{Target}
 use Rattle.config_graph.proofs.KindLaws.{depended_by_first, depended_if}
 use Rattle.config_graph.proofs.LinkLaws.{target_within}
 use Rattle.config_graph.proofs.NumberingLaws.{within_list}
+use Rattle.base.proofs.OptionLaws.{ForSome-from_IfSome}
 
 one_of_one : (r : ℕ) → ((eqb 0 r || false) || false) ≡ true → r < 1
 one_of_one r h = grind (arith, nat_tests)
@@ -127,19 +126,6 @@ MayCall-ends g graph i j h =
 pub no_cycle : (g : Graph) → ((i : ℕ) → i < length g.nodes → ¬ OnCycle g i) → HasNoCycle (graph_wiring g)
 no_cycle g h i way = h i (CallPath-within g i i way) way
 
--- where no node is the first on a cycle, none is on one
-pub no_first : (g : Graph) → ((i : ℕ) → ¬ FirstOnCycle g i) → HasNoCycle (graph_wiring g)
-no_first g none i way = below (suc i) i (omega arith) way
-  where
-    below : (n j : ℕ) → j < n → ¬ OnCycle g j
-    below zero j low way = absurd (omega (arith, low))
-    below (suc n) j low way = none j (record { on_cycle = way; first = λ k less. below n k (omega (arith, low, less)) })
-
--- a condition on the value in an option, as a callee asks for it
-pub ForSome-from_IfSome : {A : Type 0} (o : Option A) (P Q : A → Type 0) → IfSome o P → ((x : A) → P x → Q x) → (x : A) → o ≡ Some x → Q x
-ForSome-from_IfSome None P Q h f x e = cc
-ForSome-from_IfSome (Some y) P Q h f x e = let same : y ≡ x = cc in f x (subst P same h)
-
 IfSome-at : {A : Type 0} (o : Option A) (P : A → Type 0) (x : A) → IfSome o P → o ≡ Some x → P x
 IfSome-at o P x h e = ForSome-from_IfSome o P P h (λ y p. p) x e
 
@@ -152,8 +138,3 @@ leads_only g i count P all h j leads =
 -- how many services the node at an index requires and provides
 pub requires_is : (nodes : List Node) (i count : ℕ) (n : Node) → slice_get nodes i ≡ Some n → count ≡ requires_of n → count ≡ requires_at nodes i
 requires_is nodes i count n at_i h = h ∙ sym (ap (λ o. option_map_or requires_of o 0) at_i)
-
-pub range_below : (n count : ℕ) → count ≡ n → All (λ i. i < n) (range_with_len 0 count)
-range_below n count same k d h =
-    let low : k < count = rw length-range_with_len at h in
-    rw get_or-range_with_len (omega arith)

@@ -1,5 +1,5 @@
 -- What the list of the ports that are linked to a provision tells: which ports they are, and that their numbers rise.
-use Rattle.std.proofs.Common.{◌≡◌, ◌⊎◌, ◌↔◌, ℕ, zero, suc, ◌+◌, ◌<◌, ◌≤◌, Bool, true, false, cond, ◌&&◌, eqb, List, [], ◌∷◌, length, get_or, map, Option, Some, None, slice_get, option_map, refl, sym, ◌∙◌, ap, subst, inl, inr, arith, find, filter, filter_map, Contains, add-one, zero-add}
+use Rattle.std.proofs.Common.{◌≡◌, ◌⊎◌, ◌↔◌, ℕ, zero, suc, ◌+◌, ◌<◌, ◌≤◌, Bool, true, false, cond, ◌&&◌, eqb, List, [], ◌∷◌, length, get_or, map, Option, Some, None, slice_get, option_map, refl, sym, ◌∙◌, ap, subst, inl, inr, arith, filter, filter_map, Contains, add-one, zero-add}
 use Rattle.std.specs.Prelude.{All}
 use Rattle.std.specs.List.Sorted.{IsStrictlyIncreasing}
 use Rattle.std.specs.List.{cons_option}
@@ -16,7 +16,7 @@ use Rattle.std.proofs.lemmas.List.Sums.{length-filter, count_by-le-length}
 use Rattle.config_graph.proofs.NumberingLaws.{port_below}
 use Rattle.config_graph.proofs.OrderLaws.{All-ordered, one_link-in_order}
 use Rattle.base.proofs.ContainsLaws.{Contains-filter_map, Contains-here}
-use Rattle.base.proofs.FindLaws.{Contains-find, find_passes}
+use Rattle.base.proofs.FindLaws.{Contains-find, find_passes, find_first}
 
 -- an element of a list is its first or one of the rest
 Contains-cases : {A : Type 0} (x y : A) (ys : List A) → Contains (y ∷ ys) x → (y ≡ x) ⊎ Contains ys x
@@ -48,13 +48,6 @@ map_filter_in f p (x ∷ xs) a h passes = by (p x) refl (λ g. map_filter_in f p
     by true e rest (inr later) = Contains-append_right (f x ∷ []) (map f (filter p xs)) (f a) (rest later)
     by false e rest (inl same) = absurd (false≢true (sym e ∙ ap p same ∙ passes))
     by false e rest (inr later) = rest later
-
--- the first element that passes
-find_first : {A : Type 0} (p : A → Bool) (xs : List A) (k : ℕ) (d : A) → k < length xs → p (get_or xs k d) ≡ true → ((j : ℕ) → j < k → p (get_or xs j d) ≡ false) → find p xs ≡ Some (get_or xs k d)
-find_first p [] k d low passes before = absurd (omega arith)
-find_first p (x ∷ xs) zero d low passes before = ap (λ b. cond b (Some x) (find p xs)) passes
-find_first p (x ∷ xs) (suc k) d low passes before =
-    ap (λ b. cond b (Some x) (find p xs)) (before 0 (omega arith)) ∙ find_first p xs k d (omega arith) passes (λ j h. before (suc j) (omega arith))
 
 -- where no two links begin at one port, a link is its port's
 pub link_at-own : (links : List Link) (l : Link) → OneLinkAPort links → Contains links l → link_at links l.from l.require ≡ Some l

@@ -1,15 +1,18 @@
 -- The table of kinds: how many services and requirements a kind has, which of them depend on which, and how much a service does.
-use Rattle.std.proofs.Common.{◌≡◌, ℕ, zero, suc, Some, true, false, refl, Option, None, [], rules}
-use Rattle.std.proofs.lemmas.Bool.{both_ways}
+use Rattle.std.proofs.Common.{◌≡◌, ℕ, zero, suc, Some, true, false, refl, Option, None, [], rules, Bool, not, ◌&&◌, eqb, ap, inl, inr, ◌⊎◌, ◌+◌, slice_get}
+use Rattle.std.proofs.lemmas.Bool.{both_ways, and_parts, ne_eqb}
 use Rattle.std.proofs.Math.Bool.{or-false}
-use Rattle.config_graph.specs.Kinds.{row, kind_named, calls_of, depends_on, is_depended_on, mores_of}
+use Rattle.config_graph.specs.Kinds.{row, kind_named, calls_of, depends_on, is_depended_on, mores_of, Provision, kinds}
 use Rattle.config_graph.specs.declared.kind.Kind.{Kind}
 use Rattle.config_graph.specs.declared.kind.Kind.TheVariants.{Philosopher, Place, Fork, Source, Map, Buffer, Sink, Teller, Branch, Account, Asker, Adder}
 use Rattle.std.proofs.Common.{◌≤◌, ◌<◌, arith, length}
 use Rattle.std.specs.Option.{option_map_or}
 use Rattle.config_graph.specs.Graph.{requires_of}
 use Rattle.config_graph.specs.declared.node.Node.{Node}
-use Rattle.std.specs.Prelude.{unwrap_or}
+use Rattle.std.specs.Prelude.{unwrap_or, nat_le}
+use Rattle.std.specs.List.{list_all}
+use Rattle.std.proofs.lemmas.Option.{slice_get_within}
+use Rattle.base.proofs.NumberLaws.{at_most}
 
 -- each kind is found by its name
 pub kind_named-name : (k : Kind) → kind_named (row k).name ≡ Some k
@@ -167,3 +170,40 @@ depended_within Place r h = search rules
 depended_within Map r h = search rules
 depended_within Branch r h = search rules
 depended_within _ r h = absurd (both_ways false refl h)
+
+-- the letters from a to z
+abbrev pub is_letter : ℕ → Bool
+is_letter b = nat_le 97 b && nat_le b 122
+
+-- a kind's name is of letters, and so is each name of its provisions
+pub kind_names_are_letters : (k : Kind) → list_all is_letter (row k).name ≡ true
+kind_names_are_letters Fork = refl
+kind_names_are_letters _ = refl
+
+pub provision_names_are_letters : (k : Kind) → list_all (λ (p : Provision). list_all is_letter p.name) (row k).provides ≡ true
+provision_names_are_letters Fork = refl
+provision_names_are_letters _ = refl
+
+-- no letter is a byte below them, as a blank, a sign or a line feed
+pub letter_is_not : (at b : ℕ) → at < 97 → is_letter b ≡ true → not (eqb b at) ≡ true
+letter_is_not at b low letter =
+    let first = at_most 97 b (and_parts (nat_le 97 b) (nat_le b 122) letter).0 in
+    ap not (ne_eqb b at (λ same. omega (arith, first, same)))
+
+-- each kind stands at its number among all, and there are few
+pub kind_at_number : (k : Kind) → slice_get kinds (row k).number ≡ Some k
+kind_at_number Fork = refl
+kind_at_number _ = refl
+
+pub few_kinds : (k : Kind) → (row k).number + 1 < 16
+few_kinds Fork = omega arith
+few_kinds _ = omega arith
+
+-- a kind is a buffer or it isn't
+pub buffer_or : (k : Kind) → (k ≡ Buffer) ⊎ (k ≡ Buffer → ⊥)
+buffer_or Buffer = inl refl
+buffer_or _ = inr (λ e. cc)
+
+-- no kind has a second provision
+pub only_provision : (k : Kind) (n : ℕ) (p : Provision) → slice_get (row k).provides n ≡ Some p → n ≡ 0
+only_provision k n p at = omega (arith, one_provision k, slice_get_within (row k).provides n p at)

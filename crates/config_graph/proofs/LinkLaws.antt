@@ -1,14 +1,12 @@
 -- Lemmas on links, the ports at which they begin and the provisions at which they end.
-use Rattle.std.proofs.Common.{◌≡◌, ◌≢◌, ℕ, zero, suc, ◌+◌, ◌<◌, Bool, true, false, cond, ◌&&◌, eqb, List, [], ◌∷◌, ◌++◌, map, length, take, set, get_or, Option, Some, None, slice_get, option_map, refl, sym, ◌∙◌, ap, subst, arith, find, filter, All}
+use Rattle.std.proofs.Common.{◌≡◌, ◌≢◌, ℕ, ◌+◌, ◌<◌, Bool, true, false, cond, ◌&&◌, eqb, List, [], ◌∷◌, ◌++◌, map, length, take, set, get_or, Option, Some, None, slice_get, option_map, refl, sym, ◌∙◌, ap, subst, arith, find, filter, All}
 use Rattle.std.proofs.lemmas.Bool.{eqb-true, eq-eqb, true≢false, and_parts}
 use Rattle.std.proofs.lemmas.List.Elements.{filter-append}
-use Rattle.std.proofs.lemmas.List.Folds.{find-append}
 use Rattle.std.proofs.lemmas.List.{map-append, map-set, take_more, get_or_default}
-use Rattle.std.specs.Option.{option_or}
 use Rattle.config_graph.specs.Graph.{begins_at, ends_at, link_at, target_of, incoming_ports, requires_of, provides_of, requires_at, provides_at, ports, port_number, IsLinkWithin, OneLinkAPort}
 use Rattle.std.proofs.Common.{zero-add, length-take, get_or-take, append-nil, IfSome}
 use Rattle.std.proofs.Math.ListN.{get_or-map}
-use Rattle.std.proofs.lemmas.Option.{slice_get-get_or, slice_get-map, get_or_from_slice_get}
+use Rattle.std.proofs.lemmas.Option.{slice_get-get_or}
 use Rattle.config_graph.specs.Indexes.{targets, incoming}
 use Rattle.config_graph.specs.Numbering.{provisions, provision_number}
 use Rattle.config_graph.proofs.NumberingLaws.{get-numbered, place-numbered}
@@ -16,8 +14,8 @@ use Rattle.config_graph.specs.declared.node.Node.{Node}
 use Rattle.config_graph.specs.declared.node.Port.{Port}
 use Rattle.config_graph.specs.declared.node.Target.{Target}
 use Rattle.config_graph.specs.declared.node.Link.{Link}
-use Rattle.base.proofs.FindLaws.{Contains-find}
-use Rattle.base.proofs.MapLaws.{map_same}
+use Rattle.base.proofs.FindLaws.{Contains-find, find_none, find_last, find_not_last}
+use Rattle.base.proofs.MapLaws.{set-map_at, table_read}
 
 -- a link begins at its port, and at no other
 pub begins_there : (i r : ℕ) (l : Link) → begins_at i r l ≡ true → (l.from ≡ i) × (l.require ≡ r)
@@ -27,18 +25,6 @@ begins_there i r l h =
 
 pub begins_here : (i r : ℕ) (l : Link) → l.from ≡ i → l.require ≡ r → begins_at i r l ≡ true
 begins_here i r l a b = ap (λ x. x && eqb l.require r) (eq-eqb l.from i a) ∙ eq-eqb l.require r b
-
-pub find_none : {A : Type 0} (p : A → Bool) (xs : List A) → ((k : ℕ) (d : A) → k < length xs → p (get_or xs k d) ≡ false) → find p xs ≡ None
-find_none p [] h = refl
-find_none p (y ∷ ys) h =
-    ap (λ b. cond b (Some y) (find p ys)) (h 0 y (omega arith)) ∙ find_none p ys (λ k d l. h (suc k) d (omega arith))
-
-pub set-map_at : {A B : Type 0} (f g : A → B) (xs : List A) (q : ℕ) (v : B) → ((a : A) → slice_get xs q ≡ Some a → v ≡ g a) → ((k : ℕ) (a : A) → slice_get xs k ≡ Some a → k ≢ q → f a ≡ g a) → set (map f xs) q v ≡ map g xs
-set-map_at f g [] q v here others = refl
-set-map_at f g (x ∷ xs) zero v here others =
-    λ i. here x refl i ∷ map_same f g xs (λ k a e. others (suc k) a e (λ s. absurd (omega (arith, s)))) i
-set-map_at f g (x ∷ xs) (suc q) v here others =
-    λ i. others 0 x refl (λ s. absurd (omega (arith, s))) i ∷ set-map_at f g xs q v here (λ k a e ne. others (suc k) a e (λ s. ne (omega (arith, s)))) i
 
 -- the port of a requirement, and the provision, at their numbers
 pub get-ports : (nodes : List Node) (i r : ℕ) → r < requires_at nodes i → slice_get (ports nodes) (port_number nodes i r) ≡ Some (record { node = i; require = r })
@@ -74,28 +60,8 @@ provision_number-place nodes q t h =
     let place = place-numbered provides_of (λ j x. record { node = j; provide = x }) 0 nodes q t h in
     place.number ∙ ap (λ i. provision_number nodes i place.index) (sym (zero-add place.node)) ∙ sym (ap (λ x. provision_number nodes x.node x.provide) place.is)
 
--- what a table by port, or by provision, has at a number
-pub table_read : {A B : Type 0} (f : A → B) (xs : List A) (table : List B) (q : ℕ) (a : A) (b : B) → table ≡ map f xs → slice_get xs q ≡ Some a → b ≡ get_or table q b → b ≡ f a
-table_read f xs table q a b table_is at_q b_is =
-    let at_table : slice_get table q ≡ Some (f a) =
-    ap (λ t. slice_get t q) table_is ∙ slice_get-map f xs q ∙ ap (option_map f) at_q in
-    b_is ∙ get_or_from_slice_get table q (f a) b at_table
-
 ends_here : (l : Link) → ends_at l.to l.provide l ≡ true
 ends_here l = ap (λ x. x && eqb l.provide l.provide) (eq-eqb l.to l.to refl) ∙ eq-eqb l.provide l.provide refl
-
--- `find` in a list with one element more
-find_last : {A : Type 0} (p : A → Bool) (xs : List A) (x : A) → find p xs ≡ None → p x ≡ true → find p (xs ++ x ∷ []) ≡ Some x
-find_last p xs x before here =
-    find-append p xs (x ∷ []) ∙ ap (λ o. option_or o (find p (x ∷ []))) before ∙ ap (λ b. cond b (Some x) None) here
-
-find_not_last : {A : Type 0} (p : A → Bool) (xs : List A) (x : A) → p x ≡ false → find p (xs ++ x ∷ []) ≡ find p xs
-find_not_last {A = A} p xs x here =
-    find-append p xs (x ∷ []) ∙ ap (λ b. option_or (find p xs) (cond b (Some x) None)) here ∙ or_none (find p xs)
-  where
-    or_none : (o : Option A) → option_or o None ≡ o
-    or_none None = refl
-    or_none (Some y) = refl
 
 -- of two links at different ports, neither begins at the other's
 pub begins_apart : (k l : Link) → begins_at k.from k.require l ≡ false → begins_at l.from l.require k ≡ false

@@ -11,20 +11,16 @@ use Rattle.config_graph.specs.declared.numbering.Start.{Start}
 use Rattle.std.specs.List.{enumerate_from, range_with_len}
 use Rattle.std.specs.Option.{option_map_or}
 use Rattle.std.proofs.lemmas.Bool.{cases_lt}
-use Rattle.std.proofs.lemmas.List.FromFn.{map-range_with_len_more, length-map-range_with_len, get_or-map-range_with_len}
+use Rattle.std.proofs.lemmas.List.FromFn.{length-map-range_with_len, get_or-map-range_with_len}
 use Rattle.std.proofs.lemmas.List.Sums.{sum_by-cons, sum_by_more}
 use Rattle.std.proofs.lemmas.Option.{slice_get-get_or}
-use Rattle.base.proofs.PlaceLaws.{slice_get-append_front}
+use Rattle.base.proofs.PlaceLaws.{slice_get-append_front, slice_get-append_back}
+use Rattle.base.proofs.RangeLaws.{row_more}
 use Rattle.config_graph.proofs.KindLaws.{one_provision}
 use Rattle.config_graph.proofs.KindLaws.{two_requires}
 use Rattle.std.proofs.Common.{◌*◌}
 use Rattle.std.proofs.lemmas.List.{length-map}
 use Rattle.std.proofs.lemmas.List.FromFn.{length-range_with_len}
-
-pub slice_get-append_back : {A : Type 0} (xs ys : List A) (i j : ℕ) → i ≡ length xs + j → slice_get (xs ++ ys) i ≡ slice_get ys j
-slice_get-append_back [] ys i j h = let e : i ≡ j = omega arith in ap (slice_get ys) e
-slice_get-append_back (x ∷ xs) ys zero j h = absurd (omega arith)
-slice_get-append_back (x ∷ xs) ys (suc i) j h = slice_get-append_back xs ys i j (omega arith)
 
 -- the number of places of node i
 abbrev pub count_at : {N : Type 0} → (N → ℕ) → List N → ℕ → ℕ
@@ -112,11 +108,6 @@ module _ {N A : Type 0} (f : N → ℕ) (mk : ℕ → ℕ → A) where
       let more : take (i + 1) xs ≡ take i xs ++ get_or xs i d ∷ [] = take_more xs i d h in
       let long : 0 + length (take i xs) ≡ i = rw length-take (omega arith) in
       ap (numbered f mk 0) more ∙ numbered-append f mk 0 (take i xs) (get_or xs i d) ∙ ap (λ j. numbered f mk 0 (take i xs) ++ map (mk j) (range_with_len 0 (f (get_or xs i d)))) long
-
--- one place more of a node
-pub row_more : {A : Type 0} (mk : ℕ → A) (old so_far : List A) (r : ℕ) → so_far ≡ old ++ map mk (range_with_len 0 r) → so_far ++ mk r ∷ [] ≡ old ++ map mk (range_with_len 0 (r + 1))
-row_more mk old so_far r h =
-    ap (λ t. t ++ mk r ∷ []) h ∙ append_assoc old (map mk (range_with_len 0 r)) (mk r ∷ []) ∙ ap (λ t. old ++ t) (sym (map-range_with_len_more mk 0 r r (omega arith)))
 
 -- the ports of one node more
 pub ports_more : (nodes : List Node) (i m : ℕ) (n : Node) (old new : List Port) → i < length nodes → n ≡ get_or nodes i n → m ≡ requires_of n → old ≡ ports (take i nodes) → new ≡ old ++ ports_of i m → new ≡ ports (take (i + 1) nodes)

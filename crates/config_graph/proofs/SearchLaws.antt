@@ -8,7 +8,7 @@ use Rattle.std.proofs.lemmas.List.{get_or_default, length-replicate}
 use Rattle.std.proofs.lemmas.List.FromFn.{length-range_with_len, get_or-range_with_len}
 use Rattle.std.proofs.lemmas.List.Folds.{sum_by-replicate}
 use Rattle.std.proofs.lemmas.Option.{slice_get-get_or}
-use Rattle.std.proofs.lemmas.List.Elements.{All-cons, All-push, Contains-append_left, Contains-push, filter_map-append}
+use Rattle.std.proofs.lemmas.List.Elements.{All-push, Contains-append_left, Contains-push, filter_map-append}
 use Rattle.std.proofs.lemmas.List.Sums.{sum_by-set}
 use Rattle.std.proofs.Math.ListN.{get_or-eq_default}
 use Rattle.config_graph.specs.Graph.{Graph, IsLinkWithin, requires_at}
@@ -275,16 +275,6 @@ clear_falls bits j links old popped new clear added taken =
   where
     grows : (u : ℕ) → u * (links + 1) + new < (u + 1) * (links + 1) + old
     grows u = omega arith
-
--- what holds of all elements of a list holds of the last and of those before it
-pub All-last : (P : ℕ → Type 0) (xs : List ℕ) (x : ℕ) → All P (xs ++ x ∷ []) → P x
-All-last P [] x all = all 0 x (omega arith)
-All-last P (y ∷ xs) x all = All-last P xs x (λ k d low. all (suc k) d (omega arith))
-
-pub All-before_last : (P : ℕ → Type 0) (xs : List ℕ) (x : ℕ) → All P (xs ++ x ∷ []) → All P xs
-All-before_last P [] x all = λ k d low. absurd (omega arith)
-All-before_last P (y ∷ xs) x all =
-    All-cons P y xs (all 0 y (omega arith)) (All-before_last P xs x (λ k d low. all (suc k) d (omega arith)))
 
 -- ---- whether a way leads from a node to another
 

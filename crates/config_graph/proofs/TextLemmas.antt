@@ -1,19 +1,14 @@
 -- Lemmas on the text of a graph, as it is written line by line.
-use Rattle.std.proofs.Common.{◌≡◌, ℕ, ◌+◌, ◌<◌, ◌≤◌, List, [], ◌∷◌, ◌++◌, length, take, get_or, sym, ◌∙◌, ap, arith, append_assoc, append-nil}
+use Rattle.std.proofs.Common.{◌≡◌, ℕ, ◌+◌, ◌<◌, ◌≤◌, List, [], ◌++◌, length, take, get_or, sym, ◌∙◌, ap, arith, append_assoc}
 use Rattle.std.specs.Prelude.{flat_map}
-use Rattle.std.specs.List.{enumerate_from, range_with_len}
-use Rattle.std.proofs.lemmas.Grind.{flat_map-append}
+use Rattle.std.specs.List.{enumerate_from}
 use Rattle.std.proofs.lemmas.List.{take_all}
 use Rattle.std.proofs.lemmas.List.FromFn.{length-enumerate_from, get_or-enumerate_from}
 use Rattle.config_graph.specs.Graph.{Graph, requires_of}
 use Rattle.config_graph.specs.GraphText.{graph_text, node_line, node_lines, port_line, port_lines}
 use Rattle.config_graph.specs.declared.node.Node.{Node}
 use Rattle.base.proofs.LinesLaws.{lines_more}
-use Rattle.base.proofs.RisingLaws.{places_more}
-
-flat_map_range_more : {A : Type 0} (f : ℕ → List A) (n : ℕ) → flat_map f (range_with_len 0 (n + 1)) ≡ flat_map f (range_with_len 0 n) ++ f n
-flat_map_range_more f n =
-    ap (flat_map f) (places_more n) ∙ flat_map-append f (range_with_len 0 n) (n ∷ []) ∙ ap (λ t. flat_map f (range_with_len 0 n) ++ t) (append-nil (f n))
+use Rattle.base.proofs.RangeLaws.{flat_map_range_more}
 
 -- a text after one port more
 pub port_lines_more : (g : Graph) (i : ℕ) (n : Node) (r : ℕ) (old so_far new : List ℕ) → so_far ≡ old ++ port_lines g i n r → new ≡ so_far ++ port_line g i n r → new ≡ old ++ port_lines g i n (r + 1)

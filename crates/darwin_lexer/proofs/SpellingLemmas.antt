@@ -4,7 +4,7 @@ use Rattle.std.specs.List.{starts_with, prefix_len, find, AllPass, AllByRecursio
 use Rattle.std.specs.Str.{bytes_eq}
 use Rattle.std.specs.Char.{is_ascii_digit}
 use Rattle.std.specs.Str.Parse.{digits_value}
-use Rattle.std.proofs.lemmas.Bool.{cond_both, cond-true, cond-false, false≢true}
+use Rattle.std.proofs.lemmas.Bool.{cond_both, false≢true}
 use Rattle.std.proofs.lemmas.Bool.Decides.{nat_tests, Decides-eqb}
 use Rattle.std.proofs.lemmas.List.{get_or-take, drop-drop, drop_all, length-take-le, take-append-drop}
 use Rattle.std.proofs.lemmas.List.Sums.{prefix_len-le-length, prefix_len_passes, prefix_len_stops, AllPass-from_list_all}
@@ -23,17 +23,7 @@ use Rattle.darwin_lexer.specs.Fronts.{through_close, closed_or_open, block_comme
 use Rattle.darwin_lexer.proofs.FrontLemmas.{prefix_within, find_passes, starts_long}
 use Rattle.darwin_lexer.specs.Spelling.{Spells, KeepsLimit, IsLongest, opens_line_comment, opens_block_comment, closes_at, IsLineComment, IsBlockComment, NeverCloses, Means}
 use Rattle.base.proofs.NumberLaws.{at_most, above}
-use Rattle.base.proofs.FindLaws.{found_has}
-
-all_fail : {X : Type 0} (test : X → Bool) (xs : List X) → find test xs ≡ None → AllByRecursion (λ x. test x ≡ false) xs
-all_fail test [] none_found = tt
-all_fail test (x ∷ xs) none_found = cond_both (test x) (Some x) (find test xs) (λ o. o ≡ None → AllByRecursion (λ x. test x ≡ false) (x ∷ xs))
-    (λ passes is. absurd (let no_way : ⊥ = cc in no_way)) (λ fails is. (fails, all_fail test xs is)) none_found
-
-find_front : {X : Type 0} (test : X → Bool) (xs ys : List X) (x : X) → find test xs ≡ Some x → find test (xs ++ ys) ≡ Some x
-find_front test [] ys x found = absurd (let no_way : ⊥ = cc in no_way)
-find_front test (y ∷ xs) ys x found = cond_both (test y) (Some y) (find test xs) (λ o. o ≡ Some x → find test ((y ∷ xs) ++ ys) ≡ Some x)
-    (λ passes is. cond-true _ _ _ passes ∙ is) (λ fails is. cond-false _ _ _ fails ∙ find_front test xs ys x is) found
+use Rattle.base.proofs.FindLaws.{found_has, find_front, find_fails}
 
 -- every keyword and sign is in its table
 
@@ -138,7 +128,7 @@ word_spelled word letters = go (keyword_of word) refl
     go None is = record {
       begins = letters.0;
       goes_on = letters.1;
-      own = λ keyword same. false≢true (sym (keyword_fails (is_word word) keyword (all_fail (is_word word) keywords is)) ∙ (bytes_eq-Decides (keyword_bytes keyword) word).1 (sym same));
+      own = λ keyword same. false≢true (sym (keyword_fails (is_word word) keyword (find_fails (is_word word) keywords is)) ∙ (bytes_eq-Decides (keyword_bytes keyword) word).1 (sym same));
     }
     go (Some keyword) is = found_is word keyword is
 
@@ -233,7 +223,7 @@ sign_longest text sign other found begins = go (find (fits text) two_byte_signs)
     go None is = ⊎_elim
         (λ short. omega (arith, short, (sign_length sign).0))
         (λ fails. absurd (false≢true (sym fails ∙ begins)))
-        (short_or_fails (fits text) other (all_fail (fits text) two_byte_signs is))
+        (short_or_fails (fits text) other (find_fails (fits text) two_byte_signs is))
     go (Some two) is =
         let first : find (fits text) signs ≡ Some two = find_front (fits text) two_byte_signs one_byte_signs two is in
         let same : two ≡ sign = cc in
@@ -251,7 +241,7 @@ sign_means text some no_blank no_line no_block no_letter no_digit = go (sign_at 
       no_block_comment = no_block;
       no_token = λ kind n within spelled.
           let signed = only_sign text kind n no_letter no_digit spelled in
-          let fails = sign_fails (fits text) signed.0 (all_fail (fits text) signs is) in
+          let fails = sign_fails (fits text) signed.0 (find_fails (fits text) signs is) in
           false≢true (sym fails ∙ sign_starts text n signed.0 signed.1);
     }
     go (Some found) is =

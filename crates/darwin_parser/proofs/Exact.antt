@@ -11,7 +11,7 @@ use Rattle.darwin_parser.specs.Language.{Lang, Joined}
 use Rattle.darwin_parser.specs.Reading.{Reader, Outcome, and_then, expect}
 use Rattle.darwin_parser.proofs.KindSets.{apart, apart_is, apart_not, class_of, implied, implies, member, member_right, self_implied, sum_first, sum_of, sum_second, within, within_is, within_left, within_not, within_right, within_self_at}
 use Rattle.std.proofs.lemmas.Bool.{and_parts, false≢true}
-use Rattle.base.proofs.BoolLaws.{no_is_yes}
+use Rattle.base.proofs.BoolLaws.{no_is_yes, ⊎-swap}
 
 -- a list is empty only where that is allowed, and else begins with one of these kinds
 abbrev pub StartsOr : List TokenKind → Bool → List Token → Type 0
@@ -290,10 +290,6 @@ module _ {A B : Type 0} (kind : TokenKind) (p : Reader A) where
       → Exact F n C L (λ tokens. and_then (and_then (p tokens) (λ a rest. and_then (expect kind rest) (λ _ more. Ok (a, more)))) f)
   exact_before f x = exact_reads x (λ tokens. rule_first (p tokens) f)
 
-pub swap : {P Q : Type 0} → P ⊎ Q → Q ⊎ P
-swap (inl p) = inr p
-swap (inr q) = inl q
-
 module _ {A : Type 0} (L M : ℕ → Lang A) where
   pub begun_left : (i : ℕ) (front : List Token) → Begun (L i) front → Begun (λ tokens a. L i tokens a ⊎ M i tokens a) front
   begun_left i front b = record { others = b.others; value = b.value; spelled = inl b.spelled }
@@ -339,7 +335,7 @@ module _ {A : Type 0} (L M : ℕ → Lang A) where
 pub right_answer : {A : Type 0} (L M : ℕ → Lang A) (C2 C : List TokenKind) (tokens : List Token) (o : Outcome A) → within C2 C ≡ true
     → ((i : ℕ) (u v : List Token) (b : A) → L i u b → Stops C v → SameHead (u ++ v) tokens → ⊥) → Answer C2 M tokens o → Answer C (λ i tokens a. L i tokens a ⊎ M i tokens a) tokens o
 right_answer L M C2 C tokens o e dead m =
-    answer_same (λ i tokens a. M i tokens a ⊎ L i tokens a) (λ i tokens a. L i tokens a ⊎ M i tokens a) (λ i w a. swap) (λ i w a. swap) C tokens o (left_answer M L C2 C tokens o e dead m)
+    answer_same (λ i tokens a. M i tokens a ⊎ L i tokens a) (λ i tokens a. L i tokens a ⊎ M i tokens a) (λ i w a. ⊎-swap) (λ i w a. ⊎-swap) C tokens o (left_answer M L C2 C tokens o e dead m)
 
 -- what begins otherwise can't stand where one of these kinds comes next
 pub dead_on : (F S C : List TokenKind) (n : Bool) (u v tokens : List Token) → apart F S ≡ true → (n ≡ true → within S C ≡ true) → StartsOr S false tokens → StartsOr F n u → Stops C v → SameHead (u ++ v) tokens → ⊥
@@ -482,7 +478,7 @@ exact_nest test S F1 {F2 = F2} {C2 = C2} {n2 = n2} {M = M} {N = N} empty starts 
 
 -- the second stands first in the grammar
 pub exact_other : {A : Type 0} {F C : List TokenKind} {n : Bool} {L M : ℕ → Lang A} {p : Reader A} → Exact F n C (λ i tokens a. L i tokens a ⊎ M i tokens a) p → Exact F n C (λ i tokens a. M i tokens a ⊎ L i tokens a) p
-exact_other e = exact_same e (λ i w a. swap) (λ i w a. swap)
+exact_other e = exact_same e (λ i w a. ⊎-swap) (λ i w a. ⊎-swap)
 
 pub shared_split : {A B : Type 0} (L : Lang A) (M N : A → Lang B) (w : List Token) (b : B) (front rest : List Token) (a : A) → w ≡ front ++ rest → L front a → M a rest b ⊎ N a rest b → Joined L M w b ⊎ Joined L N w b
 shared_split L M N w b front rest a e l (inl m) = inl (record { front = front; rest = rest; value = a; whole = e; begins = l; goes_on = m })

@@ -1,9 +1,9 @@
 -- The instances made in an instance, and how they are found by their paths.
-use Rattle.std.proofs.Common.{◌≡◌, ◌∙◌, ℕ, zero, suc, ◌<◌, true, Option, Some, None, refl, ap, sym, subst, eqb, arith}
+use Rattle.std.proofs.Common.{◌≡◌, ◌∙◌, ℕ, zero, suc, ◌<◌, true, Some, None, ap, sym, subst, arith}
 use Rattle.std.specs.List.{Contains, find, slice_get}
-use Rattle.std.specs.Option.{option_eq, option_map}
+use Rattle.std.specs.Option.{option_map}
 use Rattle.std.specs.Str.{bytes_eq}
-use Rattle.std.proofs.lemmas.Bool.{false_from_ne_true, eqb-true, eq-eqb}
+use Rattle.std.proofs.lemmas.Bool.{false_from_ne_true}
 use Rattle.std.proofs.lemmas.Slice.Eq.{bytes_eq-Decides}
 use Rattle.std.proofs.lemmas.Option.{slice_get-map, none-some}
 use Rattle.darwin_parser.specs.Tree.{Tree}
@@ -84,17 +84,3 @@ find-no_child e kept m path i at not_there =
         let maker : x.maker ≡ Some m = ap (λ (y : NumberedInstance). y.maker) from.2 in
         let its_path : x.path ≡ path = ap (λ (y : NumberedInstance). y.instance.path) from.2 ∙ sym same in
         not_there n x (below_top n x from.1 maker) from.1 its_path maker
-
--- two optional numbers that are equal as the code tells it
-pub same_option : (a b : Option ℕ) → option_eq eqb a b ≡ true → a ≡ b
-same_option None None e = refl
-same_option None (Some b) e = cc
-same_option (Some a) None e = cc
-same_option (Some a) (Some b) e = ap Some (eqb-true a b e)
-
-pub same_option_back : (a b : Option ℕ) → a ≡ b → option_eq eqb a b ≡ true
-same_option_back a b e = subst (λ o. option_eq eqb a o ≡ true) e (itself a)
-  where
-    itself : (o : Option ℕ) → option_eq eqb o o ≡ true
-    itself None = refl
-    itself (Some n) = eq-eqb n n refl

@@ -8,10 +8,11 @@ use Rattle.darwin_parser.specs.Tree.{Tree}
 use Rattle.elaborator.specs.Instances.{Instance, children_in, instance_of, path_of, made_in, levels, instances, count_in, total, Inst}
 use Rattle.elaborator.specs.Instances.Inst.{at_top, below}
 use Rattle.elaborator.specs.Faults.{Twice, CountsMore}
-use Rattle.elaborator.proofs.TwiceLaws.{split_at, twice_there, twice_places}
+use Rattle.elaborator.proofs.TwiceLaws.{twice_there, twice_places}
 use Rattle.elaborator.proofs.SpreadLemmas.{levels-suc, levels-zero}
 use Rattle.elaborator.proofs.InstanceLaws.{IsSingle, instances-listed, its_path, next_depths, path_made, twice_cases, twice-filter_map, twice_front}
 use Rattle.base.proofs.ContainsLaws.{Contains-cons_cases, Contains-from_filter_map, Contains-from_flat_map, Contains-here, Contains-nil, Contains-one, Contains-there, at_some_place}
+use Rattle.base.proofs.PlaceLaws.{split_at}
 
 -- ---- lists in which no element stands twice
 

@@ -29,7 +29,7 @@ use Rattle.elaborator.specs.Graph.{node_of, IsNode, port_at, Linked, IsLink, IsE
 use Rattle.elaborator.specs.Links.{link_to, IsTargeted, AreFirstLinks, AreLinks}
 use Rattle.elaborator.proofs.RankLemmas.{rank, rank_falls}
 use Rattle.elaborator.proofs.NodeLemmas.{node_path}
-use Rattle.elaborator.proofs.LinkLemmas.{both_sides, one_provision}
+use Rattle.elaborator.proofs.LinkLemmas.{both_sides}
 use Rattle.elaborator.proofs.InstanceLaws.{instances-listed}
 use Rattle.elaborator.proofs.SingleLemmas.{IsBoundOnce, one_node, linked_once}
 use Rattle.base.proofs.OrderedLaws.{before_all, rest_rises}
@@ -40,6 +40,7 @@ use Rattle.base.proofs.ContainsLaws.{Contains-at, Contains-cons_cases, Contains-
 use Rattle.base.proofs.TellLaws.{any_or_none, told_by}
 use Rattle.base.specs.Telling.{CanTell}
 use Rattle.config_graph.proofs.PathLaws.{one_place}
+use Rattle.config_graph.proofs.KindLaws.{only_provision}
 
 -- ---- what can be told
 
@@ -306,7 +307,7 @@ module _ (tree : Tree) (top : Instance) (once : IsBoundOnce tree top) where
   -- a kind has one provision at most
   first_provision : (from require : ℕ) (t : Target) → IsLink tree top nodes.list (link_to from require t) → t ≡ at_node t.node
   first_provision from require t is =
-      let number = one_provision is.to.kind t.provide is.linked.provided is.linked.provides_it in
+      let number = only_provision is.to.kind t.provide is.linked.provided is.linked.provides_it in
       λ k. record { node = t.node; provide = number k }
 
   one_target : (from require : ℕ) (t u : Target) → IsLink tree top nodes.list (link_to from require t) → IsLink tree top nodes.list (link_to from require u) → u ≡ t

@@ -34,10 +34,11 @@ use Rattle.elaborator.proofs.HashLemmas.{hashed-top}
 use Rattle.elaborator.proofs.PlainLemmas.{plain-sizes}
 use Rattle.elaborator.proofs.NamingLemmas.{made_named}
 use Rattle.elaborator.proofs.TwiceLaws.{twice_at, twice_before, twice_places}
-use Rattle.elaborator.proofs.GrowthLemmas.{AreApart, earlier_or_same, grown-top, grown-open, grown-sound, grown-complete, grown-distinct, once-made}
+use Rattle.elaborator.proofs.GrowthLemmas.{AreApart, grown-top, grown-open, grown-sound, grown-complete, grown-distinct, once-made}
 use Rattle.elaborator.proofs.SpreadLemmas.{total-within, spread-top, spread-open, front-above, depth-next}
 use Rattle.base.proofs.ContainsLaws.{Contains-at, Contains-from_map, Contains-map, at_some_place}
 use Rattle.base.proofs.PlaceLaws.{one_at, slice_get-append_cases, slice_get-before, slice_get-behind, slice_get-map_at, slice_get-map_some, slice_get-set_cases, slice_get-set_other, slice_get-set_same}
+use Rattle.base.proofs.NumberLaws.{earlier_or_same}
 
 -- ---- faults
 

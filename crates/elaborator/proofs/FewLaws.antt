@@ -10,6 +10,7 @@ use Rattle.std.proofs.lemmas.Option.{get_or_from_slice_get, slice_get_within}
 use Rattle.base.proofs.BytesLaws.{bytes_eq_self}
 use Rattle.base.proofs.ContainsLaws.{Contains-cons_cases, Contains-filter_map, Contains-here, Contains-there, at_some_place}
 use Rattle.base.proofs.MapLaws.{length-filter_map}
+use Rattle.base.proofs.PlaceLaws.{split_at}
 use Rattle.config_graph.specs.Graph.{Graph, PathsRise}
 use Rattle.config_graph.specs.declared.node.Node.{Node}
 use Rattle.config_graph.proofs.PathLaws.{bytes_eq-below}
@@ -24,7 +25,7 @@ use Rattle.elaborator.specs.Instances.{Instance, children_in, count_in, instance
 use Rattle.elaborator.specs.declared.error.ElabError.TheVariants as error
 use Rattle.elaborator.proofs.CountLaws.{counted-all}
 use Rattle.elaborator.proofs.InstanceLaws.{instances-listed, single-if_none, top_depth, twice_front}
-use Rattle.elaborator.proofs.TwiceLaws.{split_at, twice_places, twice_there}
+use Rattle.elaborator.proofs.TwiceLaws.{twice_places, twice_there}
 
 -- ---- different elements of a list are no more than it has
 

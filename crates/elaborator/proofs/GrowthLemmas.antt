@@ -1,5 +1,5 @@
 -- The instances as they are made: what holds of them goes on to hold when one more is opened.
-use Rattle.std.proofs.Common.{◌≡◌, ◌∙◌, ◌⊎◌, inl, inr, ℕ, zero, suc, ◌+◌, ◌<◌, List, [], ◌∷◌, ◌++◌, length, map, Some, None, refl, sym, ap, subst, arith}
+use Rattle.std.proofs.Common.{◌≡◌, ◌∙◌, inl, inr, ℕ, zero, suc, ◌+◌, ◌<◌, List, [], ◌∷◌, ◌++◌, length, map, Some, None, refl, sym, ap, subst, arith}
 use Rattle.std.specs.List.{Contains, slice_get}
 use Rattle.std.proofs.lemmas.Option.{none-some, same_Some, slice_get_within}
 use Rattle.darwin_parser.specs.Tree.{Tree}
@@ -13,14 +13,7 @@ use Rattle.elaborator.proofs.ChildLaws.{depth-made}
 use Rattle.elaborator.proofs.TwiceLaws.{twice_places}
 use Rattle.base.proofs.ContainsLaws.{Contains-at, at_some_place}
 use Rattle.base.proofs.PlaceLaws.{one_at, slice_get-append_cases, slice_get-before, slice_get-behind, slice_get-front, slice_get-map_at, slice_get-map_some}
-
--- a place before the one at hand, or that one
-pub earlier_or_same : (m k : ℕ) → m < k + 1 → (m < k) ⊎ (m ≡ k)
-earlier_or_same zero zero lt = inr refl
-earlier_or_same zero (suc k) lt = inl (omega arith)
-earlier_or_same (suc m) zero lt = absurd (omega (arith, lt))
-earlier_or_same (suc m) (suc k) lt =
-    elim (earlier_or_same m k (omega (arith, lt))) [ inl before ↦ inl (omega (arith, before)) | inr same ↦ inr (ap suc same) ]
+use Rattle.base.proofs.NumberLaws.{earlier_or_same}
 
 -- ---- one more instance is opened
 

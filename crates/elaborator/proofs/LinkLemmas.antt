@@ -1,5 +1,5 @@
 -- The links of an expansion: which port of a node a chain reaches.
-use Rattle.std.proofs.Common.{◌≡◌, ◌∙◌, ℕ, zero, suc, ◌<◌, false, List, Option, Some, None, length, get_or, refl, ap, sym, subst, arith}
+use Rattle.std.proofs.Common.{◌≡◌, ◌∙◌, ℕ, ◌<◌, false, List, Option, Some, None, length, get_or, refl, ap, sym, subst, arith}
 use Rattle.std.specs.List.{slice_get}
 use Rattle.std.specs.Option.{is_some, option_map}
 use Rattle.std.specs.Str.{bytes_eq}
@@ -8,10 +8,9 @@ use Rattle.std.proofs.lemmas.List.{length-map}
 use Rattle.std.proofs.lemmas.List.Quantifiers.{position-Some}
 use Rattle.std.proofs.lemmas.Slice.Eq.{bytes_eq-Decides}
 use Rattle.config_graph.specs.declared.kind.Kind.{Kind}
-use Rattle.config_graph.specs.declared.kind.Kind.TheVariants.{Philosopher, Place, Fork, Source, Map, Buffer, Sink, Teller, Branch, Account, Asker, Adder}
 use Rattle.config_graph.specs.declared.node.Node.{Node}
 use Rattle.config_graph.specs.declared.node.Target.{Target}
-use Rattle.config_graph.specs.Kinds.{row, Provision}
+use Rattle.config_graph.specs.Kinds.{row}
 use Rattle.darwin_parser.specs.declared.tree.Side.{Side}
 use Rattle.darwin_parser.specs.declared.tree.Side.TheVariants.{Provide, Require}
 use Rattle.darwin_parser.specs.Tree.{Name, PortDecl, port_of}
@@ -31,22 +30,7 @@ use Rattle.elaborator.specs.declared.chains.PortId.{PortId}
 use Rattle.elaborator.specs.declared.nodes.Nodes.{Nodes}
 use Rattle.elaborator.proofs.IndexLemmas.{same_numbered}
 use Rattle.base.proofs.OptionLaws.{None-from_is_some, option_map_some}
-
--- no kind has a second provision
-pub one_provision : (k : Kind) (n : ℕ) (p : Provision) → slice_get (row k).provides n ≡ Some p → n ≡ 0
-one_provision k zero p at = refl
-one_provision Philosopher (suc n) p at = absurd (none-some p at)
-one_provision Place (suc n) p at = absurd (none-some p at)
-one_provision Fork (suc n) p at = absurd (none-some p at)
-one_provision Source (suc n) p at = absurd (none-some p at)
-one_provision Map (suc n) p at = absurd (none-some p at)
-one_provision Buffer (suc n) p at = absurd (none-some p at)
-one_provision Sink (suc n) p at = absurd (none-some p at)
-one_provision Teller (suc n) p at = absurd (none-some p at)
-one_provision Branch (suc n) p at = absurd (none-some p at)
-one_provision Account (suc n) p at = absurd (none-some p at)
-one_provision Asker (suc n) p at = absurd (none-some p at)
-one_provision Adder (suc n) p at = absurd (none-some p at)
+use Rattle.base.proofs.PlaceLaws.{value_read}
 
 -- a port of an instance that isn't indexed, by its side and its name
 pub record Plain (e : Expanded) (id : PortId) (i : Instance) (side : Side) (name : Name) : Type 0 where
@@ -103,10 +87,6 @@ decl_read e n k x i d made at within read =
     let same = same_instance e n x i made at in
     let inside : k < length x.component.now.ports.items = omega (arith, within, ap (λ (j : Instance). length j.component.ports) same, length-map x.component.now.ports.items port_of) in
     ap (λ (j : Instance). slice_get j.component.ports k) same ∙ slice_get-map port_of x.component.now.ports.items k ∙ ap (option_map port_of) (slice_get_read x.component.now.ports.items _ k d refl inside read)
-
--- a value that the code read
-pub value_read : {A : Type 0} (xs : List A) (k : ℕ) (v : A) → k < length xs → v ≡ get_or xs k v → slice_get xs k ≡ Some v
-value_read xs k v within read = slice_get_read xs _ k v refl within read
 
 -- ---- the provision of a node that a port is
 

@@ -15,6 +15,7 @@ use Rattle.elaborator.specs.Instances.{Instance, child_path, instance_of, path_o
 use Rattle.elaborator.specs.Expansion.{instance_in}
 use Rattle.elaborator.specs.Opening.{IsNoted}
 use Rattle.elaborator.specs.declared.instance.Instance as code
+use Rattle.base.proofs.MapLaws.{filter_map-Some, filter_map-None}
 
 -- the children that are left begin with the one at hand
 pub next : {A B : Type 0} (f : A → B) (xs : List A) (k : ℕ) (x : A) → k < length xs → x ≡ get_or xs k x → map f (drop k xs) ≡ f x ∷ map f (drop (k + 1) xs)
@@ -29,12 +30,6 @@ pub faults-next :
     → flat_map faults (map child_of (drop k xs)) ≡ flat_map faults (map child_of (drop (k + 1) xs))
 faults-next faults xs k x within is none =
     ap (flat_map faults) (next child_of xs k x within is) ∙ ap (λ fs. fs ++ flat_map faults (map child_of (drop (k + 1) xs))) none
-
-pub filter_map-Some : {A B : Type 0} (f : A → Option B) (x : A) (xs : List A) (y : B) → Some y ≡ f x → filter_map f (x ∷ xs) ≡ y ∷ filter_map f xs
-filter_map-Some f x xs y is = rw (← is)
-
-pub filter_map-None : {A B : Type 0} (f : A → Option B) (x : A) (xs : List A) → None ≡ f x → filter_map f (x ∷ xs) ≡ filter_map f xs
-filter_map-None f x xs is = rw (← is)
 
 pub instances-push :
     (f : Child → Option Instance) (all rest : List Child) (x : Child) (made pushed : List code.Instance) (j : code.Instance)

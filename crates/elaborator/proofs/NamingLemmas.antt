@@ -1,8 +1,8 @@
 -- Components and ports by their names.
-use Rattle.std.proofs.Common.{◌≡◌, ◌∙◌, ℕ, suc, ◌<◌, ℤ, eqb, Bool, true, false, cond, ltb, List, [], Option, Some, None, length, map, position, bytes_eq, refl, ap, sym, subst, inl, inr}
-use Rattle.std.specs.List.{Contains, position_or_len, slice_get}
+use Rattle.std.proofs.Common.{◌≡◌, ◌∙◌, ℕ, suc, ℤ, eqb, Bool, true, false, List, [], Option, Some, None, length, map, position, bytes_eq, refl, ap, sym, subst}
+use Rattle.std.specs.List.{Contains, slice_get}
 use Rattle.std.specs.Option.{option_map}
-use Rattle.std.proofs.lemmas.Bool.{lt-ltb, le-ltb, cases_lt, eq-eqb}
+use Rattle.std.proofs.lemmas.Bool.{eq-eqb}
 use Rattle.std.proofs.lemmas.Option.{none-some, same_Some, slice_get-map}
 use Rattle.std.proofs.lemmas.Slice.Eq.{bytes_eq-Decides}
 use Rattle.darwin_parser.specs.declared.tree.Component as code
@@ -22,15 +22,6 @@ use Rattle.base.proofs.OptionLaws.{made_of_two}
 
 abbrev pub component_name : code.Component → Name
 component_name c = c.name
-
-pub position_within : {A : Type 0} (p : A → Bool) (xs : List A) (k : ℕ) → position p xs ≡ Some k → k < length xs
-position_within p xs k is = by (position_or_len p xs) (length xs) is
-  where
-    by : (m n : ℕ) → cond (ltb m n) (Some m) None ≡ Some k → k < n
-    by m n is = elim (cases_lt m n) [
-      | inl lt ↦ subst (λ a. a < n) (same_Some m k (rw (lt-ltb m n lt) at is)) lt
-      | inr le ↦ absurd (none-some k (rw (le-ltb m n le) at is))
-    ]
 
 pub component-none : (cs : List code.Component) (name : Name) → position (λ c. bytes_eq name (component_name c)) cs ≡ None → component_named (map component_of cs) name ≡ None
 component-none cs name none =

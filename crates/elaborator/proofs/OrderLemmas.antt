@@ -21,20 +21,10 @@ use Rattle.elaborator.specs.NodeOrder.{AreListed, IsInOrder}
 use Rattle.elaborator.specs.declared.nodes.Listed.{Listed}
 use Rattle.elaborator.proofs.IndexLemmas.{same_numbered}
 use Rattle.base.proofs.BytesLaws.{before_the_other}
-use Rattle.base.proofs.ContainsLaws.{Contains-at, Contains-here, Contains-nil, Contains-one, at_some_place}
+use Rattle.base.proofs.ContainsLaws.{Contains-at, Contains-here, Contains-one, at_some_place}
 use Rattle.base.proofs.OptionLaws.{option_map_some}
 use Rattle.base.proofs.PlaceLaws.{slice_get-map_at}
 use Rattle.base.proofs.NumberLaws.{eqb_flips}
-
--- ---- the list
-
-pub listed-none : (e : Expanded) → AreListed e 0 []
-listed-none e = record {
-  stands = λ x has. absurd (Contains-nil x has);
-  all = λ m i below numbered is. absurd (omega (arith, below));
-  rising = λ i j d low high. absurd (omega (arith, high));
-  few = omega arith;
-}
 
 -- an instance that is no node
 pub listed-skip :

@@ -1,9 +1,8 @@
 -- The ports of a primitive component of a description without faults have no sizes.
-use Rattle.std.proofs.Common.{◌≡◌, ℕ, zero, suc, Bool, true, false, ◌&&◌, List, [], ◌∷◌, Option, Some, None, refl, ap, subst}
-use Rattle.std.specs.List.{Contains, list_all, slice_get}
+use Rattle.std.proofs.Common.{◌≡◌, ℕ, Bool, true, false, ◌&&◌, [], Option, Some, None, refl, ap}
+use Rattle.std.specs.List.{Contains, slice_get}
 use Rattle.std.specs.Option.{is_none}
 use Rattle.std.proofs.lemmas.Bool.{false≢true}
-use Rattle.std.proofs.lemmas.Option.{none-some, same_Some}
 use Rattle.std.specs.Cmp.{first_so, second_so}
 use Rattle.config_graph.specs.declared.kind.Kind.{Kind}
 use Rattle.config_graph.specs.Kinds.{kind_named}
@@ -15,13 +14,9 @@ use Rattle.darwin_types.specs.Primitive.{ports_of_kind, is_port_of, has_only_por
 use Rattle.darwin_types.specs.Scope.{component_named, is_primitive, has}
 use Rattle.darwin_walk.specs.Instance.{index_value}
 use Rattle.base.proofs.FindLaws.{Contains-find}
+use Rattle.base.proofs.ListLaws.{list_all-at}
 use Rattle.elaborator.specs.Instances.{Instance}
 use Rattle.elaborator.specs.Expansion.{AreSizes}
-
-all_at : {A : Type 0} (p : A → Bool) (xs : List A) (k : ℕ) (x : A) → list_all p xs ≡ true → slice_get xs k ≡ Some x → p x ≡ true
-all_at p [] k x all at = absurd (none-some x at)
-all_at p (y ∷ ys) zero x all at = subst (λ z. p z ≡ true) (same_Some y x at) (first_so (p y) (list_all p ys) all)
-all_at p (y ∷ ys) (suc k) x all at = all_at p ys k x (second_so (p y) (list_all p ys) all) at
 
 is_none-None : (o : Option Expr) → is_none o ≡ true → o ≡ None
 is_none-None None is = refl
@@ -37,7 +32,7 @@ plain_port tree no_fault c declared primitive k d at = by_kind (kind_named c.nam
         let only =
         first_so (has_only_ports_of kind c) (has_ports_on Provide kind c)
         (first_so (has_only_ports_of kind c && has_ports_on Provide kind c) (has_ports_on Require kind c) ports) in
-        is_none-None d.size (first_so (is_none d.size) (has (ports_of_kind kind d.side) d.name) (all_at (is_port_of kind) c.ports k d only at))
+        is_none-None d.size (first_so (is_none d.size) (has (ports_of_kind kind d.side) d.name) (list_all-at (is_port_of kind) c.ports k d only at))
 
     by_kind : (o : Option Kind) → kind_named c.name ≡ o → d.size ≡ None
     by_kind None named = absurd (no_fault _ (types.within c _ declared (unknown_kind primitive named)))

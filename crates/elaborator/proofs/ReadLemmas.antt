@@ -10,8 +10,9 @@ use Rattle.config_graph.specs.Graph.{requires_of, requires_at}
 use Rattle.elaborator.specs.Numbering.{Expanded}
 use Rattle.elaborator.specs.NodeOrder.{AreNodesOf}
 use Rattle.elaborator.specs.declared.nodes.Nodes.{Nodes}
-use Rattle.elaborator.proofs.LinkLemmas.{value_read, kind_read}
+use Rattle.elaborator.proofs.LinkLemmas.{kind_read}
 use Rattle.elaborator.proofs.PortLemmas.{numbered_within}
+use Rattle.base.proofs.PlaceLaws.{value_read}
 
 pub kind_within : (e : Expanded) (ns : List Node) (n : Nodes) (a : ℕ) → AreNodesOf e ns n → a < length n.instances.items → a < length n.kinds.items
 kind_within e ns n a are within =

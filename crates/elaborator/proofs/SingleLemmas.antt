@@ -8,6 +8,7 @@ use Rattle.std.proofs.lemmas.Bool.Decides.{Decides-int_eq}
 use Rattle.std.proofs.lemmas.Option.{none-some, same_Some}
 use Rattle.std.proofs.lemmas.Slice.Eq.{bytes_eq-Decides}
 use Rattle.config_graph.specs.declared.node.Node.{Node}
+use Rattle.config_graph.proofs.KindLaws.{only_provision}
 use Rattle.darwin_parser.specs.declared.tree.Side.{Side}
 use Rattle.darwin_parser.specs.declared.tree.Side.TheVariants.{Provide, Require}
 use Rattle.darwin_parser.specs.Tree.{Name, Tree}
@@ -20,7 +21,7 @@ use Rattle.elaborator.proofs.ChildLaws.{depth-made}
 use Rattle.elaborator.proofs.BoundLemmas.{Form, across, outward, inward, Where, inner, outer, parts, stands_where, form}
 use Rattle.elaborator.proofs.RankLemmas.{expanded_composite}
 use Rattle.elaborator.proofs.NodeLemmas.{node_parts, node_path}
-use Rattle.elaborator.proofs.LinkLemmas.{one_provision, both_sides}
+use Rattle.elaborator.proofs.LinkLemmas.{both_sides}
 use Rattle.elaborator.proofs.InstanceLaws.{IsSingle, path_made, told-by_level, told-below}
 use Rattle.base.proofs.ContainsLaws.{Contains-from_flat_map}
 
@@ -217,4 +218,4 @@ linked_once tree top s a b c require provide other l m =
     let z = port_at m.to.instance Provide m.provided.name in
     let ends = one_end tree top s (port_at l.from.instance Require l.required) y l.leads z (subst (λ x. BoundThrough tree top x z) start m.leads) (node_last tree top s b l.to l.provided.name) (node_last tree top s c m.to m.provided.name) in
     let to = one_node tree top s b c l.to m.to (ap (λ (x : Port). x.path) ends) in
-    (same_Some b c (sym l.to.is_node ∙ ap node_of to ∙ m.to.is_node), one_provision b.kind provide l.provided l.provides_it ∙ sym (one_provision c.kind other m.provided m.provides_it))
+    (same_Some b c (sym l.to.is_node ∙ ap node_of to ∙ m.to.is_node), only_provision b.kind provide l.provided l.provides_it ∙ sym (only_provision c.kind other m.provided m.provides_it))

@@ -12,11 +12,10 @@ use Rattle.elaborator.specs.NodeOrder.{nodes_in, AreNodesOf}
 use Rattle.elaborator.specs.declared.instance.Instance as code_instance
 use Rattle.elaborator.specs.declared.instance.Expansion.{Expansion}
 use Rattle.elaborator.specs.declared.nodes.Nodes.{Nodes}
-use Rattle.elaborator.proofs.LinkLemmas.{value_read}
 use Rattle.elaborator.proofs.NodeLemmas.{nodes_in-push, node_of_kind, node_there, one_number}
 use Rattle.elaborator.proofs.TargetLemmas.{node_read}
 use Rattle.base.proofs.OptionLaws.{option_map_some}
-use Rattle.base.proofs.PlaceLaws.{slice_get-set_other}
+use Rattle.base.proofs.PlaceLaws.{slice_get-set_other, value_read}
 
 -- from a place on, the instances of nodes are as they were
 abbrev pub AreKept : List ℕ → ℕ → List code_instance.Instance → List code_instance.Instance → Type 0

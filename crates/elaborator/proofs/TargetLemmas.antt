@@ -31,10 +31,12 @@ use Rattle.elaborator.proofs.IndexLemmas.{same_numbered, port_functional}
 use Rattle.elaborator.proofs.WholeLemmas.{instances_of, instance_stands, numbered_at}
 use Rattle.elaborator.proofs.FollowLemmas.{Indexed, end_reached, end_found}
 use Rattle.elaborator.proofs.NodeLemmas.{node_parts, node_path}
-use Rattle.elaborator.proofs.LinkLemmas.{both_sides, one_provision, Plain, plain, plain_port, value_read, kind_read}
+use Rattle.elaborator.proofs.LinkLemmas.{both_sides, Plain, plain, plain_port, kind_read}
 use Rattle.elaborator.proofs.PortLemmas.{same_instance}
 use Rattle.base.proofs.ContainsLaws.{Contains-at, Contains-flat_map, Contains-from_flat_map, at_some_place}
+use Rattle.base.proofs.PlaceLaws.{value_read}
 use Rattle.config_graph.proofs.PathLaws.{one_place}
+use Rattle.config_graph.proofs.KindLaws.{only_provision}
 
 -- ---- the ports of a chain
 
@@ -116,7 +118,7 @@ one_provided e ns n are id t u p q =
     let instance = same_numbered e id.instance p.instance q.instance p.numbered q.numbered in
     let node : p.node ≡ q.node = same_Some p.node q.node (sym p.is_node ∙ ap node_of instance ∙ q.is_node) in
     let place = one_place ns are.paths_rise t.node u.node q.node (p.stands ∙ ap Some node) q.stands in
-    let number : t.provide ≡ u.provide = one_provision p.node.kind t.provide p.provision p.provided ∙ sym (one_provision q.node.kind u.provide q.provision q.provided) in
+    let number : t.provide ≡ u.provide = only_provision p.node.kind t.provide p.provision p.provided ∙ sym (only_provision q.node.kind u.provide q.provision q.provided) in
     ap (λ x. record { node = x; provide = t.provide }) place ∙ ap (λ x. record { node = u.node; provide = x }) number
 
 -- ---- the target of a requirement

@@ -4,14 +4,7 @@ use Rattle.std.specs.List.{slice_get}
 use Rattle.std.proofs.lemmas.Option.{none-some, same_Some}
 use Rattle.elaborator.specs.Faults.{Twice}
 use Rattle.elaborator.specs.Faults.Twice.{twice}
-use Rattle.base.proofs.PlaceLaws.{slice_get-behind, slice_get-front}
-
--- ---- an element that stands twice
-
-pub split_at : {A : Type 0} (xs : List A) (a : ℕ) (x : A) → slice_get xs a ≡ Some x → (before : List A) × (after : List A) × (xs ≡ before ++ x ∷ after)
-split_at [] a x at = absurd (none-some x at)
-split_at (y ∷ xs) zero x at = ([], xs, ap (λ z. z ∷ xs) (same_Some y x at))
-split_at (y ∷ xs) (suc a) x at = let w = split_at xs a x at in (y ∷ w.0, w.1, ap (λ zs. y ∷ zs) w.2)
+use Rattle.base.proofs.PlaceLaws.{slice_get-behind, slice_get-front, split_at}
 
 pub twice_there : {A : Type 0} (y : A) (xs : List A) (x : A) → Twice xs x → Twice (y ∷ xs) x
 twice_there y xs x (twice before between after is) = twice (y ∷ before) between after (ap (λ zs. y ∷ zs) is)

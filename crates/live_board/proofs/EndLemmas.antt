@@ -1,10 +1,9 @@
 -- What is known of a node that was taken in with its line.
-use Rattle.std.proofs.Common.{◌≡◌, ◌∙◌, ℕ, zero, suc, Bool, true, not, List, [], ◌∷◌, ◌++◌, length, map, Option, Some, None, refl, sym, ap, subst}
-use Rattle.std.specs.Prelude.{find, flat_map, slice_get, slice_index_or}
+use Rattle.std.proofs.Common.{◌≡◌, ◌∙◌, ℕ, Bool, true, not, List, [], ◌∷◌, ◌++◌, length, map, Option, Some, None, refl, sym, ap, subst}
+use Rattle.std.specs.Prelude.{find, slice_get, slice_index_or}
 use Rattle.std.specs.List.{AllByRecursion, range_with_len}
 use Rattle.std.proofs.lemmas.List.{length-map}
 use Rattle.std.proofs.lemmas.List.FromFn.{length-range_with_len}
-use Rattle.std.proofs.lemmas.Option.{same_Some}
 use Rattle.base.proofs.PlaceLaws.{heads_are, slice_get-map_at, slice_get-map_some, tails_are}
 use Rattle.change_board.specs.Collecting.{is_undone}
 use Rattle.change_board.specs.Scans.{live_nodes}
@@ -35,20 +34,6 @@ use Rattle.live_board.specs.Lengths.{length_at}
 use Rattle.live_board.proofs.GatherLemmas.{EndsSo, IsEnd, IsLogged, all_among, all_end, events_are, undone_is}
 use Rattle.live_board.proofs.GrowLemmas.{shown_own}
 use Rattle.live_board.proofs.SightingLaws.{nodes_are, places_are, words_are}
-
--- what holds of all that lists come to holds of each list
-pub each_of : {A B : Type 0} (P : B → Type 0) (f : A → List B) (xs : List A) (k : ℕ) (x : A) → slice_get xs k ≡ Some x → AllByRecursion P (flat_map f xs) → AllByRecursion P (f x)
-each_of P f [] k x at all = absurd (cc)
-each_of {B = B} P f (y ∷ xs) zero x at all = subst (λ z. AllByRecursion P (f z)) (same_Some y x at) (front (f y) (flat_map f xs) all)
-  where
-    front : (ys zs : List B) → AllByRecursion P (ys ++ zs) → AllByRecursion P ys
-    front [] zs all = tt
-    front (a ∷ ys) zs all = (all.0, front ys zs all.1)
-each_of {B = B} P f (y ∷ xs) (suc k) x at all = each_of P f xs k x at (back (f y) (flat_map f xs) all)
-  where
-    back : (ys zs : List B) → AllByRecursion P (ys ++ zs) → AllByRecursion P zs
-    back [] zs all = all
-    back (a ∷ ys) zs all = back ys zs all.1
 
 made_all : (c : Configuration) (nodes : List NodeView) (logs : List NodeLog) (vs : List NodeView) → AllByRecursion (IsTakenIn c nodes logs) vs → AllByRecursion (IsMadeIn c) vs
 made_all c nodes logs [] all = tt

@@ -5,7 +5,7 @@ use Rattle.std.specs.List.{AllByRecursion, range_with_len}
 use Rattle.std.specs.Option.{option_map_or}
 use Rattle.std.proofs.lemmas.Option.{same_Some, slice_get-get_or, slice_get_within}
 use Rattle.base.proofs.PlaceLaws.{slice_get-map_at, slice_get-there}
-use Rattle.base.proofs.RangeLaws.{number_at}
+use Rattle.base.proofs.RangeLaws.{number_at, mapped_all, mapped_at}
 use Rattle.change_board.specs.Collecting.{heir_of}
 use Rattle.change_spec.proofs.LowerLaws.{SourcesAreLower}
 use Rattle.change_spec.specs.Lawful.{EndsAs}
@@ -28,7 +28,7 @@ use Rattle.txn_spec.specs.declared.view.NodeView.{NodeView}
 use Rattle.live_board.proofs.ChainLemmas.{ended, line_has}
 use Rattle.live_board.proofs.HeirLemmas.{heir_is, live_end}
 use Rattle.live_board.proofs.PartLemmas.{Part, part_of}
-use Rattle.live_board.proofs.PlaceLemmas.{find_same, mapped_all, mapped_at}
+use Rattle.live_board.proofs.PlaceLemmas.{find_same}
 
 -- the log of a node of a line is the one that was taken in of its slot, and the one that stands in its place
 pub record IsLogged (nodes : List NodeView) (logs : List NodeLog) (x : LineSight) : Type 0 where

@@ -1,10 +1,10 @@
 -- What was taken in so far.
-use Rattle.std.proofs.Common.{◌≡◌, ◌∙◌, ℕ, zero, suc, ◌<◌, true, cond, get_or, ◌≤◌, List, [], ◌∷◌, ◌++◌, length, map, set, Option, Some, None, refl, sym, ap, subst, ⊎_elim}
+use Rattle.std.proofs.Common.{◌≡◌, ◌∙◌, ℕ, zero, suc, true, cond, List, [], ◌∷◌, ◌++◌, map, set, Option, Some, None, refl, sym, ap, subst, ⊎_elim}
 use Rattle.std.specs.Prelude.{slice_get, slice_set, ◌≢◌, ◌==◌}
 use Rattle.std.specs.List.{AllByRecursion}
 use Rattle.std.specs.Option.{option_map_or}
 use Rattle.std.proofs.lemmas.Bool.{cases_eq, eq-eqb, ne_eqb}
-use Rattle.std.proofs.lemmas.Option.{same_Some, slice_get-get_or, slice_get_past, slice_get_within}
+use Rattle.std.proofs.lemmas.Option.{same_Some, slice_get_within}
 use Rattle.std.proofs.lemmas.Map.Keys.{any_passes_from_place}
 use Rattle.base.proofs.PlaceLaws.{slice_get-set_other, slice_get-set_same}
 use Rattle.live_board.specs.Collecting.{Grew, IsOf, IsShown, IsTakenIn, with_events}
@@ -115,15 +115,6 @@ module _ (c : Configuration) where
       let u = t.shown in
       let mine = own_log nodes t.among.0 v own t.among.1 in
       (mine, λ l at. u.log l at ∙ sym (own_log nodes u.among.0 u.node own u.among.1) ∙ ap (log_in nodes) u.slot_is ∙ mine, any_passes_from_place (λ (w : NodeView). w.slot == v.slot) nodes t.among.0 v t.among.1 (eq-eqb v.slot v.slot refl))
-
--- ---- as code does it
-
-pub events_there : (logs : List NodeLog) (n : ℕ) (l : NodeLog) (es : List Event) → n < length logs → l ≡ get_or logs n l → set logs n (record l { events = es }) ≡ with_events logs n es
-events_there logs n l es few is =
-    sym (ap (λ o. option_map_or (λ (x : NodeLog). slice_set logs n (record x { events = es })) o logs) (slice_get-get_or logs n l few ∙ ap Some (sym is)))
-
-pub events_past : (logs : List NodeLog) (n : ℕ) (es : List Event) → length logs ≤ n → logs ≡ with_events logs n es
-events_past logs n es past = sym (ap (λ o. option_map_or (λ (x : NodeLog). slice_set logs n (record x { events = es })) o logs) (slice_get_past logs n past))
 
 pub grew_as : (c : Configuration) (nodes nodes' : List NodeView) (logs logs' : List NodeLog) (v : NodeView) (n : ℕ) (es : List Event) → IsMadeIn c v → nodes' ≡ v ∷ nodes → logs' ≡ with_events logs n es → n ≡ v.slot → es ≡ v.log
     → Grew c nodes nodes' logs logs' (v ∷ [])

@@ -1,8 +1,8 @@
 -- Looks at ports, one more at a time.
-use Rattle.std.proofs.Common.{◌≡◌, ◌∙◌, ℕ, ◌+◌, ◌-◌, Bool, true, false, cond, ◌&&◌, List, [], ◌∷◌, ◌++◌, append_assoc, map, refl, sym, ap}
+use Rattle.std.proofs.Common.{◌≡◌, ◌∙◌, ℕ, ◌+◌, ◌-◌, Bool, true, false, cond, ◌&&◌, List, [], ◌∷◌, ◌++◌, append_assoc, map, sym, ap}
 use Rattle.std.specs.List.{list_all}
 use Rattle.std.proofs.Math.Bool.{and-true}
-use Rattle.std.proofs.lemmas.List.{append-nil, map-append}
+use Rattle.std.proofs.lemmas.List.{map-append}
 use Rattle.std.proofs.lemmas.List.Folds.{list_all-append}
 use Rattle.std.proofs.lemmas.List.Sums.{sum_by_push}
 use Rattle.base.proofs.RisingLaws.{places_more}
@@ -68,6 +68,3 @@ saw_port c r r1 r2 k idle idle' ended ended' word h is idle_is ended_is =
       idle_is = idle_is ∙ ap (λ b. b && is_idle_if_live c f) h.idle_is ∙ sym (list_all-append (is_idle_if_live c) h.found (f ∷ []) ∙ ap (λ b. list_all (is_idle_if_live c) h.found && b) (and-true (is_idle_if_live c f)));
       ended_is = ended_is ∙ ap (λ n. n + ended_in_word word) h.ended_is ∙ sym (sum_by_push (λ (x : Found). ended_in_word x.word) h.found f);
     }
-
-pub saw_no_port : (c : Configuration) (r : List Entry) → SawPorts c r r 0 true 0
-saw_no_port c r = record { found = []; adds = sym (append-nil r); at_ports = refl; idle_is = refl; ended_is = refl }

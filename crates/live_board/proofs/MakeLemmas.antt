@@ -7,6 +7,7 @@ use Rattle.std.proofs.lemmas.Bool.{and_parts, leb-true, ltb-true, not-true}
 use Rattle.std.proofs.lemmas.Option.{same_Some}
 use Rattle.base.proofs.OptionLaws.{map_or_at, map_or_true, option_map_some}
 use Rattle.base.proofs.PlaceLaws.{slice_get-front}
+use Rattle.base.proofs.ListLaws.{last_of_all}
 use Rattle.component_trait.specs.States.{NodeState}
 use Rattle.config_graph.specs.Kinds.{row}
 use Rattle.config_graph.specs.declared.TheConstants.{MAX_NODES, MAX_PORTS}
@@ -74,12 +75,6 @@ source_from c n node k may =
     let both = and_parts (not found.0.live) (is_kind found.0.node.kind node.kind) found.2 in
     record { old = found.0; there = found.1; removed = not-true found.0.live both.0; kind_is = kinds_are_one found.0.node.kind node.kind both.1 }
 
--- ---- the node that is handed over, as the seat of its own and its line tell it
-
-pub last_of_all : {A : Type 0} (P : A → Type 0) (xs : List A) (y : A) → AllByRecursion P (xs ++ y ∷ []) → P y
-last_of_all P [] y all = all.0
-last_of_all P (x ∷ xs) y all = last_of_all P xs y all.1
-
 pub source_told : (c : Configuration) (node : Node) (k : ℕ) (v : NodeView) → CanMake c (length c.slots) node (Some k) → v.slot ≡ k → IsMadeIn (with_node c node (Some k)) v → (v.made.kind ≡ node.kind) × (v.known.service ≡ None)
 source_told c node k v may slot_is made =
     let s = source_from c (length c.slots) node k may in
@@ -110,7 +105,3 @@ source_behind r r1 r2 node k sources lines count ns grew saw known made may shal
   where
     some_is : (i j : ℕ) → Some i ≡ Some j → i ≡ j
     some_is i j e = cc
-
-pub rotated : {A : Type 0} (P : A → Type 0) (x : A) (xs : List A) → AllByRecursion P (x ∷ xs) → AllByRecursion P (xs ++ x ∷ [])
-rotated P x [] all = all
-rotated P x (y ∷ ys) all = (all.1.0, rotated P x ys (all.0, all.1.1))

@@ -1,17 +1,8 @@
 -- Lists by their places.
-use Rattle.std.proofs.Common.{◌≡◌, ◌∙◌, ℕ, zero, suc, ◌+◌, ◌<◌, Bool, true, false, cond, List, ◌∷◌, length, map, ◌≤◌, ⊎_elim, Some, None, refl, sym, ap, arith, zero-add}
-use Rattle.std.specs.Prelude.{slice_get, filter, find}
+use Rattle.std.proofs.Common.{◌≡◌, ◌∙◌, ℕ, zero, suc, ◌+◌, ◌<◌, Bool, true, false, cond, ◌∷◌, ◌≤◌, ⊎_elim, Some, None, refl, ap, arith}
+use Rattle.std.specs.Prelude.{filter, find}
 use Rattle.std.specs.List.{range_with_len}
 use Rattle.std.proofs.lemmas.Bool.{cases_Bool, cases_eq}
-use Rattle.base.proofs.PlaceLaws.{slice_get-map_at}
-use Rattle.base.proofs.RangeLaws.{number_at, mapped_from}
-
--- a list that has at each place what the place says
-pub mapped_all : {A B : Type 0} (f : A → B) (g : ℕ → B) (xs : List A) → ((i : ℕ) (x : A) → slice_get xs i ≡ Some x → f x ≡ g i) → map f xs ≡ map g (range_with_len 0 (length xs))
-mapped_all f g xs h = mapped_from f g xs 0 (λ i x at. h i x at ∙ ap g (sym (zero-add i)))
-
-pub mapped_at : {B : Type 0} (g : ℕ → B) (n i : ℕ) → i < n → slice_get (map g (range_with_len 0 n)) i ≡ Some (g i)
-mapped_at g n i few = slice_get-map_at g (range_with_len 0 n) i i (number_at n i few)
 
 find_from : (live p q : ℕ → Bool) (a n : ℕ) → ((i : ℕ) → i < a + n → live i ≡ true → p i ≡ q i) → find p (filter live (range_with_len a n)) ≡ find q (filter live (range_with_len a n))
 find_from live p q a zero h = refl

@@ -159,16 +159,6 @@ module _ (S : AnyNode → NodeState) (gates : TableId) (c : Configuration) (r r1
         by_seen i es at (Some fs) is = let a = h.of_lines i fs is in (a.0, (let below = a.1 in omega (arith, below)), a.2, a.3)
         by_seen i es at None is = (n, omega arith, live, x.of_line i es (sym (seen_next h.sights x.sights i is) ∙ at))
 
--- a node that isn't done, or isn't there
-pub sees_none : (c : Configuration) (r : List Entry) (lengths : List (Option ℕ)) (n : ℕ) (done : Bool) → done ≡ false → SeesNode c r r lengths lengths n done
-sees_none c r lengths n done off = record {
-  sights = [];
-  adds = sym (append-nil r);
-  lengths_are = λ before h. subst (λ ss. AreLengths ss lengths) (sym (append-nil before)) h;
-  of_line = λ i es at. none_is_some es at;
-  seen = λ on. absurd (both_ways done off on);
-}
-
 pub saw_nothing : (S : AnyNode → NodeState) (gates : TableId) (c : Configuration) (r : List Entry) (lengths : List (Option ℕ)) (missed : List ℕ) → AreLengths [] lengths → SawNodes S gates c r r lengths missed missed 0 true
 saw_nothing S gates c r lengths missed h = record {
   sights = [];

@@ -1,5 +1,5 @@
 -- Each step keeps the rule of a cell.
-use Rattle.std.proofs.Common.{◌≡◌, ◌≢◌, ℕ, zero, suc, true≢false, List, [], ◌∷◌, ◌++◌, set, sym, refl, ap, ◌∙◌, subst, ⊎_elim, inl, inr}
+use Rattle.std.proofs.Common.{◌≡◌, ◌≢◌, ℕ, zero, suc, true≢false, List, [], ◌∷◌, ◌++◌, set, sym, refl, ap, ◌∙◌, subst, ⊎_elim, inr}
 use mathlib.Core.Option.{some, some-ne-none, some-injective}
 use lib.ListN.{get_elem?}
 use Rattle.atomic_table.specs.Seated.{TableId}
@@ -34,9 +34,6 @@ named gates items views n slot h at =
     let is : place slot ≡ place x.0 = x.2 n (place slot) at in
     let same : slot ≡ x.0 = ap (λ (p : Place). p.slot) is in
     subst (λ s. EachFits gates s items × AllAre (place s) views) (sym same) (x.1, x.2)) h
-
-pub begins : (gates : TableId) → Houses gates [] (unnamed ∷ [])
-begins gates = inl (refl, refl)
 
 pub puts : (gates : TableId) (room n slot : ℕ) (x : Guest) → FitsCell gates slot x → Pushes (Houses gates) room n (place slot) x (λ w. w ≡ place slot)
 puts gates room n slot x fits items views _ h at =

@@ -127,8 +127,8 @@ pub fn cell<J: Named>(alloc: Global, slot: u32) -> Result<(Cell<J>, Key), NoMemo
     picked::<J, Brand>(alloc, slot)
 }
 
-/// Another key to the cell.
-pub fn another<J: Named>(cell: &Cell<J>, key: &mut Key) -> Key
+/// A second key to the cell.
+pub fn second_key<J: Named>(cell: &Cell<J>, key: &mut Key) -> Key
     requires here { IsPassOf cell.now key.old }
     requires named { (slot : ℕ) × (view key.old ≡ place slot) }
     ensures here { IsSamePass key.old key.new × IsPassOf cell.now result }

@@ -71,7 +71,7 @@ fn another_row<J: Named>(
 {
     let mut more = Vec::with_capacity(alloc, MAX_NODES as usize)?;
     for at in 0..MAX_NODES as usize {
-        let key = cell::another(&cells[at], &mut locks[at].key);
+        let key = cell::second_key(&cells[at], &mut locks[at].key);
         more.push(Lock { key, missed: 0 })?;
     }
     Ok(more)

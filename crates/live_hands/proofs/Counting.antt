@@ -1,25 +1,16 @@
 -- What a hand counts, once one of its ways was used.
-use Rattle.std.proofs.Common.{◌≡◌, ◌≢◌, ◌∙◌, ℕ, zero, suc, ◌+◌, ◌<◌, ◌≤◌, List, [], ◌∷◌, ◌++◌, length, set, Option, Some, None, Result, Ok, Err, refl, sym, ap, subst, arith}
-use Rattle.std.specs.Prelude.{◌^◌, ◌-◌, MatchOption, MatchResult, slice_index_or, slice_set}
+use Rattle.std.proofs.Common.{◌≡◌, ◌∙◌, ℕ, zero, suc, ◌<◌, List, [], ◌∷◌, ◌++◌, length, set, Option, Some, None, Result, Ok, Err, refl, sym, ap, subst, arith}
+use Rattle.std.specs.Prelude.{MatchOption, MatchResult, slice_set}
 use Rattle.std.proofs.lemmas.List.{length-append}
-use Rattle.base.specs.Count.{Rose}
 use Rattle.config_graph.specs.declared.TheConstants.{MAX_PORTS}
-use Rattle.port_queue.specs.Inboxes.{Counts, CountsNext, CountsPost, Gave, Refused}
+use Rattle.port_queue.specs.Inboxes.{CountsNext, CountsPost, Gave, Refused}
 use Rattle.port_queue.specs.declared.hints.Full.{Full}
-use Rattle.live_hands.specs.Inbox.{known}
-use Rattle.live_hands.specs.Hands.{IsRefused, Seen, counts_of, last_of, of, seen, with_post, with_take}
+use Rattle.live_hands.specs.Hands.{IsRefused, Seen, counts_of, last_of, of, with_post, with_take}
 
 of_set : (xs : List Seen) (n : ℕ) (s : Seen) → n < length xs → of (set xs n s) n ≡ s
 of_set [] n s few = absurd (omega arith)
 of_set (x ∷ xs) zero s few = refl
 of_set (x ∷ xs) (suc n) s few = of_set xs n s (omega arith)
-
-pub of_other : (xs : List Seen) (n k : ℕ) (s : Seen) → k ≢ n → of (set xs n s) k ≡ of xs k
-of_other [] n k s apart = refl
-of_other (x ∷ xs) zero zero s apart = absurd (apart refl)
-of_other (x ∷ xs) zero (suc k) s apart = refl
-of_other (x ∷ xs) (suc n) zero s apart = refl
-of_other (x ∷ xs) (suc n) (suc k) s apart = of_other xs n k s (λ e. apart (ap suc e))
 
 last-snoc : (xs : List ℕ) (x : ℕ) → last_of (xs ++ x ∷ []) ≡ Some x
 last-snoc [] x = refl

@@ -35,7 +35,7 @@ pub type Ran = (Report, Vec<List<Sighting>>, ChangeSeat);
 
 /// Carries the script out on a board over the gates, and publishes each commit. Gives the report, the lines of so many
 /// observers, and the seat of the change.
-fn carry_out<'g, J: Named, R: Threads + Wait + Copy + Send, T: Turnstile>(
+fn run_watched<'g, J: Named, R: Threads + Wait + Copy + Send, T: Turnstile>(
     alloc: Global,
     board: LiveBoard<'g, J, R, T>,
     start: Start,
@@ -117,7 +117,7 @@ where
                 let _ = scope.spawn(move || work(&rt, gates, door, hand, told, stile, share));
             }
             let board = LiveBoard::new(rt, alloc, gates, seat, door, hand, stile, &told.signs);
-            let ran = carry_out(alloc, board, start, steps, watch, observers.count);
+            let ran = run_watched(alloc, board, start, steps, watch, observers.count);
             told.stop.store(true, Ordering::SeqCst);
             ran
         },

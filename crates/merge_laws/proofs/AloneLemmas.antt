@@ -6,7 +6,8 @@ use Rattle.std.specs.Option.{option_map_or}
 use Rattle.std.proofs.lemmas.List.{append-nil}
 use Rattle.std.proofs.lemmas.List.Elements.{filter-append, filter_map-append}
 use Rattle.base.specs.Each.{Each, EachAfter}
-use Rattle.base.proofs.EachLaws.{each_at}
+use Rattle.base.proofs.EachLaws.{each_at, each_if}
+use Rattle.base.proofs.ListLaws.{all_parts}
 use Rattle.component_trait.specs.Moves as moves
 use Rattle.component_trait.specs.States.{NodeState}
 use Rattle.component_trait.specs.Tables.{opening}
@@ -24,7 +25,7 @@ use Rattle.change_spec.specs.Members.{Member, of_history, event_of, events, is_r
 use Rattle.change_spec.specs.Opening.{argument_of, fold_at, fold_of_node, fold_within}
 use Rattle.change_spec.specs.Scene.{config_after}
 use Rattle.change_spec.specs.Statements.{Statement, is_finish}
-use Rattle.change_spec.proofs.MemberLaws.{all_parts, at_line, config_of_lines, each_if, events_without_roots, lines_parts, root_event}
+use Rattle.change_spec.proofs.MemberLaws.{at_line, config_of_lines, events_without_roots, lines_parts, root_event}
 use Rattle.merge_laws.specs.Alone.{IsShown, fold_told, fold_told_within, log_told, unfinished_told}
 use Rattle.merge_laws.proofs.LogLemmas.{has_logs}
 

@@ -2,6 +2,7 @@
 use Rattle.std.proofs.Common.{◌≡◌, ◌∙◌, ℕ, true, false, List, [], ◌∷◌, ◌++◌, map, get_or, sym, subst}
 use Rattle.std.specs.Prelude.{fold}
 use Rattle.base.specs.Each.{Each}
+use Rattle.base.proofs.EachLaws.{each_if}
 use Rattle.quiesce_core.specs.declared.event.Event.{Event}
 use Rattle.quiesce_core.specs.Runs.{IsRun}
 use Rattle.report_types.specs.declared.report.HistoryLine.{HistoryLine}
@@ -14,7 +15,6 @@ use Rattle.change_spec.specs.Follows.{Follows}
 use Rattle.change_spec.specs.Lawful.{EndsAs, IsDrainedAt, IsEndedOnce, IsGraphDescribed, IsLawfulBy, Merge, StoodOpenWhereSaid}
 use Rattle.change_spec.specs.Members.{Member, of_history, events}
 use Rattle.change_spec.specs.Statements.{Statement}
-use Rattle.change_spec.proofs.MemberLaws.{each_if}
 use Rattle.change_spec.proofs.RunningLaws.{quiet}
 use Rattle.change_round_laws.specs.SoundStatements.{AreSound}
 use Rattle.merge_laws.specs.Alone.{AreRightAlone}

@@ -1,5 +1,5 @@
 -- Looks are found by counting where the ports don't rise.
-use Rattle.std.proofs.Common.{◌≡◌, ◌∙◌, ℕ, zero, suc, ◌+◌, ◌<◌, ◌≤◌, get_or, Bool, true, false, cond, List, [], ◌∷◌, ◌++◌, length, map, refl, sym, ap, subst, arith, lt-ltb}
+use Rattle.std.proofs.Common.{◌≡◌, ◌∙◌, ℕ, zero, suc, ◌+◌, ◌≤◌, Bool, true, false, cond, List, [], ◌∷◌, ◌++◌, length, map, refl, sym, ap, subst, arith, lt-ltb}
 use Rattle.std.specs.Prelude.{nat_lt, All}
 use Rattle.std.specs.List.Sorted.{IsStrictlyIncreasing}
 use Rattle.std.proofs.lemmas.Bool.{both_ways, ltb-true}
@@ -7,22 +7,12 @@ use Rattle.std.proofs.lemmas.List.Elements.{All-cons, All-head, All-nil, All-tai
 use Rattle.change_spec.specs.Changes.{AreLooks, PortsRise, seen_in_all}
 use Rattle.change_spec.specs.Scene.{Seen}
 use Rattle.merge_laws.specs.Descents.{descents, descents_from, pieces, pieces_from, put_first}
-use Rattle.base.proofs.RisingLaws.{rise_tail}
+use Rattle.base.proofs.RisingLaws.{rise_tail, rise_more, rise_first}
 
 -- ---- numbers that rise, one by one
 
 pub rise_one : (a : ℕ) → IsStrictlyIncreasing (a ∷ [])
 rise_one a = λ k low. absurd (omega (arith, low))
-
-pub rise_more : (a b : ℕ) (xs : List ℕ) → a < b → IsStrictlyIncreasing (b ∷ xs) → IsStrictlyIncreasing (a ∷ (b ∷ xs))
-rise_more a b xs first rest zero low = first
-rise_more a b xs first rest (suc k) low =
-    let f : suc (k + 1) ≡ suc k + 1 = omega arith in
-    let here : get_or (b ∷ xs) k 0 < get_or (b ∷ xs) (k + 1) 0 = rest k (omega (arith, low)) in
-    subst (λ n. get_or (b ∷ xs) k 0 < get_or (a ∷ (b ∷ xs)) n 0) f here
-
-pub rise_first : (a b : ℕ) (xs : List ℕ) → IsStrictlyIncreasing (a ∷ (b ∷ xs)) → a < b
-rise_first a b xs h = h 0 (omega arith)
 
 -- ---- the pieces are looks
 

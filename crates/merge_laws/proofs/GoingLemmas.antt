@@ -7,6 +7,7 @@ use Rattle.std.specs.Option.{option_map_or}
 use Rattle.std.proofs.lemmas.Bool.{and_from, and_parts, both_ways, eqb-true, eq-eqb, false_from_ne_true, lt-ltb, not-true, or_cases, or_from, or_left, or_parts, or_right}
 use Rattle.std.proofs.lemmas.Option.{same_Some}
 use Rattle.base.proofs.OptionLaws.{None-from_is_none, map_or_true}
+use Rattle.base.proofs.PlaceLaws.{set-set_other}
 use Rattle.config_graph.specs.Kinds.{depends_on, is_depended_on}
 use Rattle.config_graph.proofs.KindLaws.{depended_if}
 use Rattle.config_graph.specs.declared.node.Node.{Node}
@@ -431,15 +432,6 @@ go_stays x zero zero h m k two = absurd (two refl)
 go_stays x zero (suc n) h m k two = may_event_after x n h m k
 go_stays x (suc n) zero h m k two = may_line_after x n h k m
 go_stays x (suc n) (suc j) h m k two = may_other_after x n j h (λ e. two (ap suc e)) m k
-
--- ---- in either order
-
-set-set_other : {A : Type 0} (xs : List A) (n m : ℕ) (a b : A) → (n ≡ m → ⊥) → set (set xs n a) m b ≡ set (set xs m b) n a
-set-set_other [] n m a b two = refl
-set-set_other (x ∷ xs) zero zero a b two = absurd (two refl)
-set-set_other (x ∷ xs) zero (suc m) a b two = refl
-set-set_other (x ∷ xs) (suc n) zero a b two = refl
-set-set_other (x ∷ xs) (suc n) (suc m) a b two = ap (λ ys. x ∷ ys) (set-set_other xs n m a b (λ e. two (ap suc e)))
 
 line_and_event : (x : Left) (n : ℕ) → Sound x.state → may_go x 0 ≡ true → may_go x (suc n) ≡ true → go (go x 0) (suc n) ≡ go (go x (suc n)) 0
 line_and_event x n h m k =

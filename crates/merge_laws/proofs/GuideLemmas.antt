@@ -25,7 +25,8 @@ use Rattle.quiesce_laws.proofs.DrainingLaws.{no_node_reopens}
 use Rattle.quiesce_laws.proofs.RootLaws.{closed_stays, root_when_closed, closed_by}
 use Rattle.config_graph.specs.Kinds.{is_depended_on}
 use Rattle.config_graph.specs.declared.node.Node.{Node}
-use Rattle.base.proofs.PlaceLaws.{heads_are}
+use Rattle.base.proofs.PlaceLaws.{heads_are, parted_at}
+use Rattle.base.proofs.ListLaws.{all_parts, any_parts}
 use Rattle.quiesce_core.specs.declared.state.Exchange.{Exchange}
 use Rattle.quiesce_core.specs.declared.state.Slot.{Slot}
 use Rattle.quiesce_core.specs.WellFormed.{IsSound}
@@ -40,7 +41,7 @@ use Rattle.report_types.specs.declared.report.HistoryLine.{HistoryLine}
 use Rattle.report_types.specs.declared.report.HistoryLine.TheVariants as to
 use Rattle.change_spec.specs.Lawful.{IsDrainedAt, IsOfItsKind, StoodOpen}
 use Rattle.change_spec.specs.Members.{Member, by_node, of_history, event_of, events, is_close, is_root, lines, state_at, without_roots}
-use Rattle.change_spec.proofs.MemberLaws.{AtLine, all_parts, at_line, events_parts, lines_parts, none_happens, parted_at}
+use Rattle.change_spec.proofs.MemberLaws.{AtLine, at_line, events_parts, lines_parts, none_happens}
 use Rattle.merge_laws.specs.Guarded.{closes_before, is_beyond, is_called_at, is_met, is_root_line, tells, told, waits}
 use Rattle.merge_laws.specs.Merges.{HasRootsApart, IsMergeWith}
 use Rattle.merge_laws.specs.Telling.{IsShutBy, IsTold, IsToldOf, reopens_there}
@@ -130,9 +131,6 @@ reopens_none : (p : ℕ) (ls : List HistoryLine) → list_any (reopens_there p) 
 reopens_none p [] h = refl
 reopens_none p (to.Reopen q ∷ ls) h = let w = or_parts (q == p) (list_any (reopens_there p) ls) h in or_from (q == p) (list_any (reopens p) (filter_map event_of ls)) w.0 (reopens_none p ls w.1)
 reopens_none p (_ ∷ ls) h = reopens_none p ls h
-
-pub any_parts : {A : Type 0} (t : A → Bool) (a b : List A) → list_any t (a ++ b) ≡ false → (list_any t a ≡ false) × (list_any t b ≡ false)
-any_parts t a b h = or_parts (list_any t a) (list_any t b) (sym (list_any-append t a b) ∙ h)
 
 -- whether services call at a port stays as it was when the port was made
 pub called_grows : (c d : Configuration) → IsSound c → Extends c d → (p : ℕ) → p < length c.gates → is_called_at d p ≡ is_called_at c p

@@ -3,14 +3,13 @@ use Rattle.std.proofs.Common.{◌≡◌, ◌∙◌, ℕ, ◌+◌, ◌<◌, ◌�
 use Rattle.std.specs.Prelude.{◌==◌, ◌⊎◌, ℤ}
 use Rattle.std.specs.List.{count_by, list_any, range_with_len}
 use Rattle.std.specs.List.Sorted.{IsStrictlyIncreasing}
-use Rattle.std.proofs.lemmas.Bool.{both_ways, cases_Bool, eqb-true, or_left, or_parts, or_right}
+use Rattle.std.proofs.lemmas.Bool.{both_ways, cases_Bool, eqb-true, or_left}
 use Rattle.std.proofs.lemmas.List.{append_cancel_left}
-use Rattle.std.proofs.lemmas.List.Folds.{list_any-append}
 use Rattle.std.proofs.lemmas.List.Kept.{IsStrictlyIncreasing-filter}
 use Rattle.std.proofs.lemmas.List.Sums.{sum_by-cons}
 use Rattle.base.specs.Each.{EachAfter}
 use Rattle.base.proofs.MapLaws.{count_by-append, list_any-map}
-use Rattle.base.proofs.PlaceLaws.{tails_are}
+use Rattle.base.proofs.PlaceLaws.{tails_are, parted_at}
 use Rattle.config_graph.specs.Graph.{Graph}
 use Rattle.change_plan.specs.declared.plan_data.Move.{Move}
 use Rattle.change_plan.specs.declared.plan_data.Plan.{Plan}
@@ -25,16 +24,15 @@ use Rattle.change_spec.specs.Follows.{Follows, IsRight, IsStop, Part, lines_of, 
 use Rattle.change_spec.specs.Members.{is_close, is_pending, is_root}
 use Rattle.change_spec.specs.Scene.{AreSeen, Seen, config_after, drained_line, root_line}
 use Rattle.change_spec.specs.Statements.{Statement, start, change, run, finish, show}
-use Rattle.change_spec.proofs.MemberLaws.{parted_at}
-use Rattle.base.proofs.ListLaws.{count_by-some}
+use Rattle.base.proofs.ListLaws.{count_by-some, none_both, any_of_none, there, not_there, none_beside}
 use Rattle.change_spec.proofs.ClosingLaws.{commit_lines_close_none, commit_roots_none, start_closes_none, start_roots_none}
 use Rattle.change_spec.proofs.PortLaws.{closed_events, closing_rise, config_more, still_to_close}
-use Rattle.change_spec.proofs.TestLaws.{counted_some, none_both, none_mapped, range_rises}
+use Rattle.change_spec.proofs.TestLaws.{range_rises}
 use Rattle.merge_laws.specs.Guarded.{tells}
 use Rattle.merge_laws.specs.Telling.{IsShutBy, IsTold, IsToldOf, reopens_there}
-use Rattle.merge_laws.proofs.DescentLemmas.{rise_first}
 use Rattle.base.proofs.NumberLaws.{same_number}
-use Rattle.base.proofs.RisingLaws.{rise_tail}
+use Rattle.base.proofs.RisingLaws.{rise_tail, rise_first}
+use Rattle.base.proofs.CountLaws.{counted_some}
 
 -- ---- lists
 
@@ -63,20 +61,6 @@ first_in {A} t (x ∷ xs) h = by (t x) refl (first_in t xs)
           passes = w.passes;
           none = (λ i. e i || w.none i);
         }
-
-there : {A : Type 0} (t : A → Bool) (front : List A) (x : A) (back : List A) → t x ≡ true → list_any t (front ++ x ∷ back) ≡ true
-there t front x back h =
-    list_any-append t front (x ∷ back) ∙ or_right (list_any t front) (list_any t (x ∷ back)) (or_left (t x) (list_any t back) h)
-
--- what stands before and behind a place passes no test that none of all passes
-none_beside : {A : Type 0} (t : A → Bool) (xs front : List A) (x : A) (back : List A) → list_any t xs ≡ false → xs ≡ front ++ x ∷ back
-    → (list_any t front ≡ false) × (list_any t back ≡ false)
-none_beside t xs front x back none are =
-    let w = or_parts (list_any t front) (list_any t (x ∷ back)) (sym (list_any-append t front (x ∷ back)) ∙ ap (list_any t) (sym are) ∙ none) in
-    (w.0, (or_parts (t x) (list_any t back) w.1).1)
-
-not_there : {A : Type 0} (t : A → Bool) (xs front : List A) (x : A) (back : List A) → list_any t xs ≡ false → t x ≡ true → xs ≡ front ++ x ∷ back → ⊥
-not_there t xs front x back none h are = both_ways (list_any t xs) none (ap (list_any t) are ∙ there t front x back h)
 
 -- the rest behind a place that stands in the first of two parts
 rest_is : {A : Type 0} (a b c : List A) (x : A) (r z : List A) → a ++ b ≡ c ++ x ∷ r → a ≡ c ++ x ∷ z → r ≡ z ++ b
@@ -172,10 +156,10 @@ module _ (closed : List ℕ) (heard : List HistoryLine) (once : (p : ℕ) → co
   cs = map to.Close closed
 
   untold_closes : (p : ℕ) → list_any (tells p) cs ≡ false
-  untold_closes p = none_mapped (tells p) to.Close (λ q. refl) closed
+  untold_closes p = any_of_none (tells p) to.Close (λ q. refl) closed
 
   shut_closes : (p : ℕ) → list_any (reopens_there p) cs ≡ false
-  shut_closes p = none_mapped (reopens_there p) to.Close (λ q. refl) closed
+  shut_closes p = any_of_none (reopens_there p) to.Close (λ q. refl) closed
 
   told_behind : (p : ℕ) (c z r : List HistoryLine) → cs ++ heard ≡ c ++ to.Close p ∷ r → cs ≡ c ++ to.Close p ∷ z → IsToldOf p r
   told_behind p c z r whole first =
@@ -220,7 +204,7 @@ module _ (closed : List ℕ) (heard : List HistoryLine) (once : (p : ℕ) → co
             (λ (w : (z : List HistoryLine) × (heard ≡ z ++ to.Close p ∷ r) × (c ≡ cs ++ z)). absurd (not_there is_close heard w.0 (to.Close p) r h.no_close refl w.1))
             (parted_at c (to.Close p) r cs heard (sym e));
         roots = λ p k c r e. ⊎_elim
-            (λ (w : (z : List HistoryLine) × (cs ≡ c ++ to.Root p k ∷ z)). absurd (not_there is_root cs c (to.Root p k) w.0 (none_mapped is_root to.Close (λ q. refl) closed) refl w.1))
+            (λ (w : (z : List HistoryLine) × (cs ≡ c ++ to.Root p k ∷ z)). absurd (not_there is_root cs c (to.Root p k) w.0 (any_of_none is_root to.Close (λ q. refl) closed) refl w.1))
             (λ (w : (z : List HistoryLine) × (heard ≡ z ++ to.Root p k ∷ r) × (c ≡ cs ++ z)). shut_before p k c w.0 r w.1 w.2)
             (parted_at c (to.Root p k) r cs heard (sym e));
       }
@@ -239,8 +223,8 @@ all_drained : (closed : List ℕ) (seen : List Seen) → AreSeen closed seen →
 all_drained closed seen are =
     record {
       counts = λ p. seen_counts drained_line p (λ d. refl) seen ∙ are p;
-      shut = λ p. none_mapped (reopens_there p) drained_line (λ d. refl) seen;
-      no_close = none_mapped is_close drained_line (λ d. refl) seen;
+      shut = λ p. any_of_none (reopens_there p) drained_line (λ d. refl) seen;
+      no_close = any_of_none is_close drained_line (λ d. refl) seen;
     }
 
 root_counts : (p within : ℕ) (left : List Seen) → count_by (tells p) (to.Pending within ∷ map root_line left) ≡ count_by (λ (d : Seen). d.port == p) left
@@ -257,10 +241,10 @@ some_left closed within seen left are =
           ∙ (λ i. seen_counts drained_line p (λ d. refl) seen i + root_counts p within left i)
           ∙ sym (count_by-append (λ (d : Seen). d.port == p) seen left) ∙ are p;
       shut = λ p.
-          none_both (reopens_there p) (map drained_line seen) (to.Pending within ∷ map root_line left) (none_mapped (reopens_there p) drained_line (λ d. refl) seen)
-          (none_mapped (reopens_there p) root_line (λ d. refl) left);
-      no_close = none_both is_close (map drained_line seen) (to.Pending within ∷ map root_line left) (none_mapped is_close drained_line (λ d. refl) seen)
-          (none_mapped is_close root_line (λ d. refl) left);
+          none_both (reopens_there p) (map drained_line seen) (to.Pending within ∷ map root_line left) (any_of_none (reopens_there p) drained_line (λ d. refl) seen)
+          (any_of_none (reopens_there p) root_line (λ d. refl) left);
+      no_close = none_both is_close (map drained_line seen) (to.Pending within ∷ map root_line left) (any_of_none is_close drained_line (λ d. refl) seen)
+          (any_of_none is_close root_line (λ d. refl) left);
     }
 
 -- ---- a change, and the other statements
@@ -303,8 +287,8 @@ module _ (before : List HistoryLine) (name : List ℕ) (args : List ℤ) (new : 
       let ends = map to.Reopen closed ++ to.Abandon ∷ [] in
       let told = joined (to.Change name args ∷ []) ((map to.Close closed ++ (seen ++ roots)) ++ ends) first
       (joined (map to.Close closed ++ (seen ++ roots)) ends (closing closed (seen ++ roots) once (some_left closed within (seen_in_all e.looks) e.left e.all_seen))
-      (calm ends (none_both is_close (map to.Reopen closed) (to.Abandon ∷ []) (none_mapped is_close to.Reopen (λ p. refl) closed) refl)
-      (none_both is_root (map to.Reopen closed) (to.Abandon ∷ []) (none_mapped is_root to.Reopen (λ p. refl) closed) refl))) in
+      (calm ends (none_both is_close (map to.Reopen closed) (to.Abandon ∷ []) (any_of_none is_close to.Reopen (λ p. refl) closed) refl)
+      (none_both is_root (map to.Reopen closed) (to.Abandon ∷ []) (any_of_none is_root to.Reopen (λ p. refl) closed) refl))) in
       let same : (seen ++ roots) ++ ends ≡ rest =
       append_assoc seen roots ends ∙ ap (λ ks. seen ++ to.Pending within ∷ ks) (sym (append_assoc (map root_line e.left) (map to.Reopen closed) (to.Abandon ∷ []))) ∙ sym e.are in
       subst IsTold (ap (λ ks. to.Change name args ∷ ks) (append_assoc (map to.Close closed) (seen ++ roots) ends ∙ ap (λ ks. map to.Close closed ++ ks) same)) told

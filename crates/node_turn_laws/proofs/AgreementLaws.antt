@@ -20,7 +20,8 @@ use Rattle.quiesce_core.specs.declared.event.Event.{Event}
 use Rattle.quiesce_core.specs.declared.event.Event.TheVariants.{Begin, Call, Take, Give, End, More, Ask, Hear, Miss}
 use Rattle.quiesce_core.specs.declared.known.Served.{Served}
 use Rattle.node_turn_laws.specs.Agreement.{Agrees, HandsSmall, HasNoCall, IsInTurn, IsSmall, ServiceIsSmall, ServicesAgree, expects, ports_next}
-use Rattle.node_turn_laws.proofs.KindTables.{ended_small, node, pushed_small, served_small, wanting_asks_nothing, wants_stay}
+use Rattle.component_trait.proofs.TableLaws.{ended_small, node, pushed_small, served_small, wanting_asks_nothing}
+use Rattle.component_trait.proofs.WantLaws.{wanted_after_serving}
 use Rattle.base.proofs.NumberLaws.{same_number}
 
 -- a request is at one port
@@ -161,7 +162,7 @@ after_take first k a kept u ports p j v g =
   where
     stay : (o : Option Request) → wants k a kept ≡ o → (q : ℕ) → is_request_at first q (wants k a kept) ≡ true → is_request_at first q (wants k a (serve k a kept v).kept) ≡ true
     stay None e q h = absurd (both_ways (is_request_at first q (wants k a kept)) (ap (λ x. is_request_at first q x) e) h)
-    stay (Some x) e q h = ap (λ y. is_request_at first q y) (wants_stay k a kept v x e ∙ sym e) ∙ h
+    stay (Some x) e q h = ap (λ y. is_request_at first q y) (wanted_after_serving k a kept v x e ∙ sym e) ∙ h
 
 after_more : (first : ℕ) (k : Kind) (a : ℕ) (kept : Kept) (o : Option Service) (u : Option Served) (ports : ℕ → OwnPort) (p j v : ℕ) → Agrees first (node k a kept o) u ports → HasNoCall ports
     → is_more v (moves.next (node k a kept o)) ≡ true → Agrees first (moves.after_more (node k a kept o)) (served_next u (More p j v)) ports

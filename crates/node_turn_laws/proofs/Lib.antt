@@ -1,5 +1,4 @@
 pub mod TurnLaws
-mod KindTables
 pub mod AgreementLaws
 pub mod MoveLaws
 pub mod ReachedLaws

@@ -1,5 +1,5 @@
 -- The event of a node's turn is allowed, is its own, and its fold goes on with it.
-use Rattle.std.proofs.Common.{zero, suc, inl, inr, ◌⊎◌, ◌≡◌, ◌∙◌, ◌+◌, ◌<◌, ◌≤◌, ℕ, Bool, true, false, cond, List, [], ◌∷◌, length, Option, Some, None, refl, sym, ap, subst, arith, ⊎_elim}
+use Rattle.std.proofs.Common.{inl, inr, ◌⊎◌, ◌≡◌, ◌∙◌, ◌+◌, ◌<◌, ◌≤◌, ℕ, Bool, true, false, cond, List, [], ◌∷◌, length, Option, Some, None, refl, sym, ap, subst, arith, ⊎_elim}
 use Rattle.std.specs.Prelude.{not, ◌==◌, ◌&&◌, ◌||◌, nat_lt, nat_le, find, option_map, option_and_then, is_none, is_some}
 use Rattle.std.specs.List.{list_all, range_with_len}
 use Rattle.std.specs.Option.{option_map_or}
@@ -7,6 +7,7 @@ use Rattle.std.proofs.lemmas.Bool.{and_from, and_parts, both_ways, eq-eqb, eqb-f
 use Rattle.std.proofs.lemmas.Option.{none-some, same_Some}
 use Rattle.base.proofs.NumberLaws.{same_number}
 use Rattle.base.proofs.OptionLaws.{None-from_is_none, option_map_some, map_or_at, map_or_true}
+use Rattle.base.proofs.FindLaws.{found_in_range}
 use Rattle.config_graph.specs.Kinds.{calls_of, depends_on, mores_of, row}
 use Rattle.config_graph.specs.declared.node.Target.{Target}
 use Rattle.component_trait.proofs.BoundLaws.{asks_are_few, asks_depend, mores_are_few}
@@ -37,7 +38,7 @@ use Rattle.node_turn_laws.specs.Turn.{awaits_call, begins, begins_at, calls, doe
 use Rattle.node_turn_laws.specs.World.{first_port}
 use Rattle.node_turn_laws.specs.Agreement.{HasNoCall, ServiceAgrees, ServicesAgree, expects}
 use Rattle.node_turn_laws.specs.Placed.{GoesOn, IsPlaced}
-use Rattle.node_turn_laws.proofs.KindTables.{asks_fit, gives_fit, mores_fit, replies_small, wants_fit}
+use Rattle.component_trait.proofs.TableLaws.{asks_fit, gives_fit, mores_fit, replies_small, wants_fit}
 
 -- ---- cases of a move
 
@@ -56,16 +57,6 @@ left_if false x e h = (refl, h)
 then_is : {A : Type 0} (f : A → Option Event) (o : Option A) (e : Event) → option_and_then f o ≡ Some e → (x : A) × (o ≡ Some x) × (f x ≡ Some e)
 then_is f None e h = absurd (none-some e h)
 then_is f (Some x) e h = (x, refl, h)
-
--- a port that is found in a row stands there
-found_in_range : (test : ℕ → Bool) (a n p : ℕ) → find test (range_with_len a n) ≡ Some p → (a ≤ p) × (p < a + n) × (test p ≡ true)
-found_in_range test a zero p h = absurd (none-some p h)
-found_in_range test a (suc n) p h = by (test a) refl (λ g. found_in_range test (a + 1) n p g) h
-  where
-    by : (b : Bool) → test a ≡ b → (find test (range_with_len (a + 1) n) ≡ Some p → (a + 1 ≤ p) × (p < a + 1 + n) × (test p ≡ true))
-        → cond b (Some a) (find test (range_with_len (a + 1) n)) ≡ Some p → (a ≤ p) × (p < a + suc n) × (test p ≡ true)
-    by true e later h = let same = same_Some a p h in (omega (arith, same), omega (arith, same), subst (λ i. test i ≡ true) same e)
-    by false e later h = let w = later h in (omega (arith, w.0), omega (arith, w.1), w.2)
 
 found_port : (s : State) (n p : ℕ) (test : ℕ → Bool) → find test (ports_of s.config n) ≡ Some p → IsPortOf s.config n p × (test p ≡ true)
 found_port s n p test h = by (slot s.config n) refl h

@@ -1,13 +1,14 @@
 -- While a transaction is open some node has a reply, goes on with a service, or services nothing and has a hint.
-use Rattle.std.proofs.Common.{rules, ◌≡◌, ◌∙◌, ℕ, zero, suc, ◌+◌, ◌<◌, ◌≤◌, Bool, true, false, cond, List, [], ◌∷◌, length, Option, Some, None, refl, sym, ap, subst, ⊎_elim, arith, not}
+use Rattle.std.proofs.Common.{rules, ◌≡◌, ◌∙◌, ℕ, ◌+◌, ◌<◌, Bool, true, false, cond, List, [], ◌∷◌, length, Option, Some, None, refl, sym, ap, subst, ⊎_elim, arith, not}
 use Rattle.std.specs.Prelude.{◌==◌, find, is_none, is_some, nat_lt, option_and_then, option_map, slice_get}
 use Rattle.std.specs.List.{Contains, list_all, list_any, range_with_len}
 use Rattle.std.specs.Option.{option_map_or}
-use Rattle.std.proofs.lemmas.Bool.{and_from, and_parts, both_ways, cases_Bool, cases_eq, eq-eqb, eqb-true, false_from_ne_true, not-true, or_left, or_right, true_from_ne_false}
+use Rattle.std.proofs.lemmas.Bool.{and_from, and_parts, both_ways, cases_Bool, eq-eqb, eqb-true, false_from_ne_true, not-true, or_left, or_right, true_from_ne_false}
 use Rattle.std.proofs.lemmas.Option.{none-some, same_Some}
-use Rattle.base.proofs.ContainsLaws.{Contains-filter, Contains-from_filter, Contains-here, Contains-there}
+use Rattle.base.proofs.ContainsLaws.{Contains-filter, Contains-from_filter}
 use Rattle.base.proofs.FindLaws.{is_some-find}
 use Rattle.base.proofs.OptionLaws.{None-from_is_none, Some-from_is_some, map_or_at, map_or_true}
+use Rattle.base.proofs.RangeLaws.{range_has_it}
 use Rattle.component_trait.specs.Fold.{asked_by, wants_at}
 use Rattle.component_trait.specs.Moves as moves
 use Rattle.component_trait.specs.States.{NodeState, Service as Serving}
@@ -317,15 +318,6 @@ module _ (possible : SomeEventIsPossible) (law : WhoWantsAsksNothing) (w : World
   all_idle p = true_from_ne_false (is_idle (exchange s p).phase) (λ busy.
       let e = possible s well traffic p busy in
       none_possible e.event e.onward (legal s e.event e.allowed) e.between_calls)
-
--- ---- a round
-
-range_has_it : (a n i : ℕ) → a ≤ i → i < a + n → Contains (range_with_len a n) i
-range_has_it a zero i low high = absurd (omega (arith, low, high))
-range_has_it a (suc n) i low high = ⊎_elim
-    (λ (same : i ≡ a). subst (Contains (range_with_len a (suc n))) (sym same) (Contains-here a (range_with_len (a + 1) n)))
-    (λ (other : i ≡ a → ⊥). Contains-there a i (range_with_len (a + 1) n) (range_has_it (a + 1) n i (omega (arith, low, other)) (omega (arith, high))))
-    (cases_eq i a)
 
 pub still_is_idle : SomeEventIsPossible → WhoWantsAsksNothing → (w : World) (allowed : Bool) → IsReached w → ArePosted w → (round allowed w).moved ≡ false → AreIdle w.machine
 still_is_idle possible law w allowed r posted still =

@@ -41,7 +41,7 @@ use Rattle.node_turn_laws.specs.Agreement.{Agrees, IsSmall, ports_next}
 use Rattle.node_turn_laws.specs.Placed.{GoesOn, IsPlaced}
 use Rattle.node_turn_laws.specs.Reached.{IsReached}
 use Rattle.node_turn_laws.proofs.AgreementLaws.{agrees_next, small_next}
-use Rattle.node_turn_laws.proofs.KindTables.{Small, opening_small}
+use Rattle.component_trait.proofs.TableLaws.{Small, opening_small}
 use Rattle.node_turn_laws.proofs.MoveLaws.{moves_go_on}
 
 -- ---- what holds of a node made, and of all

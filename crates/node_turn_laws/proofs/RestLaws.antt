@@ -1,9 +1,9 @@
 -- A world at rest has no hints, no node moves in it, and a round leaves it as it is.
 use Rattle.std.proofs.Common.{◌≡◌, ◌∙◌, ℕ, suc, ◌+◌, ◌<◌, ◌≤◌, Bool, true, false, cond, List, [], ◌∷◌, length, set, Option, Some, None, refl, sym, ap, ⊎_elim, arith}
-use Rattle.std.specs.Prelude.{IsTrue, ◌==◌, ◌&&◌, ◌||◌, drop, fold, is_none, is_some, nat_le, nat_lt, option_and_then, option_map, slice_index_or}
+use Rattle.std.specs.Prelude.{IsTrue, ◌==◌, ◌&&◌, ◌||◌, drop, fold, is_none, is_some, option_and_then, option_map, slice_index_or}
 use Rattle.std.specs.List.{Contains, enumerate_from, list_all, range_with_len}
 use Rattle.std.specs.Option.{option_map_or}
-use Rattle.std.proofs.lemmas.Bool.{and_parts, both_ways, cases_lt, eq-eqb, eqb-true, false_from_ne_true, leb-true, ltb-true}
+use Rattle.std.proofs.lemmas.Bool.{and_parts, both_ways, cases_lt, eq-eqb}
 use Rattle.std.proofs.lemmas.List.{get_or_past, set-get_or}
 use Rattle.std.proofs.lemmas.Option.{none-some}
 use Rattle.std.proofs.lemmas.List.Elements.{All-contains}
@@ -13,11 +13,10 @@ use Rattle.base.proofs.FindLaws.{find-none}
 use Rattle.base.proofs.OptionLaws.{map_or_true}
 use Rattle.base.proofs.RangeLaws.{all_in_range}
 use Rattle.component_trait.specs.Moves as moves
-use Rattle.component_trait.specs.States.{Kept, NodeState}
+use Rattle.component_trait.specs.States.{NodeState}
 use Rattle.component_trait.specs.Tables as tables
 use Rattle.component_trait.specs.declared.next.Ask.{Ask}
-use Rattle.config_graph.specs.declared.kind.Kind.{Kind}
-use Rattle.config_graph.specs.declared.kind.Kind.TheVariants.{Philosopher, Source, Buffer, Teller, Asker}
+use Rattle.component_trait.proofs.WantLaws.{wants_none}
 use Rattle.quiesce_word.proofs.PhaseLaws.{idle_is, serving_busy, idle_not_asked}
 use Rattle.quiesce_word.specs.Phases.{is_answered, is_idle, is_in_more}
 use Rattle.quiesce_word.specs.declared.phase.Phase.{Phase}
@@ -36,26 +35,6 @@ use Rattle.node_turn_laws.specs.Requests.{hints_for, kept_back, leads_to}
 use Rattle.node_turn_laws.proofs.HintLaws.{Hinted, hinted_where_reached, kept_there, place_of, traffic_where_reached, well_where_reached}
 use Rattle.node_turn_laws.proofs.PostLemmas.{count_front, count_of, is_at}
 use Rattle.node_turn_laws.proofs.RequestLemmas.{unasked}
-
--- ---- what a done node wants
-
-not_below : (a b : ℕ) → nat_le b a ≡ true → nat_lt a b ≡ false
-not_below a b h = false_from_ne_true (nat_lt a b) (λ low. let past = leb-true b a h in let less = ltb-true a b low in absurd (omega (arith, past, less)))
-
-below_none : (a b v : ℕ) → nat_le b a ≡ true → cond (nat_lt a b) (Some (tables.request 0 v)) None ≡ None
-below_none a b v h = ap (λ c. cond c (Some (tables.request 0 v)) None) (not_below a b h)
-
-front_none : (a : ℕ) (kept : Kept) (xs : List ℕ) → kept.items ≡ xs → (length xs == 0) ≡ true → tables.wants Buffer a kept ≡ None
-front_none a kept [] e h = ap (λ ys. tables.wants Buffer a (record kept { items = ys })) e
-front_none a kept (x ∷ xs) e h = let none_ = eqb-true (length (x ∷ xs)) 0 h in absurd (omega (arith, none_))
-
-wants_none : (k : Kind) (a : ℕ) (kept : Kept) → tables.is_done k a kept ≡ true → tables.wants k a kept ≡ None
-wants_none Philosopher a kept h = below_none kept.count a 0 h
-wants_none Source a kept h = below_none kept.count a (kept.count + 1) h
-wants_none Buffer a kept h = front_none a kept kept.items refl h
-wants_none Teller a kept h = below_none kept.count a (kept.count + 1) h
-wants_none Asker a kept h = below_none kept.count a (kept.count + 1) h
-wants_none _ a kept h = refl
 
 -- ---- a state in which no transaction is left
 

@@ -1,15 +1,14 @@
 -- To be believed (docs/definitions.md).
 -- Rounds: one turn to each live node, in the order of slots.
-use Rattle.std.specs.Prelude.{◌≡◌, ℕ, not, zero, suc, ◌<◌, Bool, true, false, ◌&&◌, ◌||◌, List, length, fold, filter, is_some, IsTrue}
+use Rattle.std.specs.Prelude.{◌≡◌, ℕ, not, zero, suc, ◌<◌, Bool, false, ◌&&◌, ◌||◌, List, length, fold, filter, is_some, IsTrue}
 use Rattle.std.specs.List.{count_by, list_all, range_with_len}
 use Rattle.std.specs.Option.{option_map_or}
 use Rattle.component_trait.specs.Moves as moves
 use Rattle.quiesce_word.specs.Phases.{is_idle}
 use Rattle.quiesce_core.specs.State.{exchange, is_live}
-use Rattle.quiesce_core.specs.declared.event.Event.{Event}
-use Rattle.quiesce_core.specs.declared.event.Event.TheVariants.{End}
 use Rattle.node_turn_laws.specs.Turn.{turn}
 use Rattle.node_turn_laws.specs.World.{World, state_of}
+use Rattle.quiesce_laws.specs.Events.{ends_transaction}
 
 -- what comes of turns, and whether one of them moved
 pub record Round : Type 0 where
@@ -39,10 +38,6 @@ stands_still allowed w (suc j) = not (round allowed (after_rounds allowed w j)).
 
 abbrev pub is_done : World → ℕ → Bool
 is_done w n = option_map_or (λ s. moves.is_done s) (state_of w n) false
-
-abbrev pub ends_transaction : Event → Bool
-ends_transaction (End p k v) = true
-ends_transaction _ = false
 
 -- how many transactions ended so far
 abbrev pub ended : World → ℕ

@@ -22,9 +22,10 @@ use Rattle.passive_set.specs.Feeding.Closure.{first, onward}
 use Rattle.config_graph.specs.Marks.{IsMarked}
 use Rattle.passive_set.specs.Ports.{Adds}
 use Rattle.config_graph.proofs.MarkLaws.{marked_more, marked_within}
-use Rattle.passive_set.proofs.MarkLemmas.{Contains_more, and_then, as_it_is, back, either, or_never}
+use Rattle.passive_set.proofs.MarkLemmas.{and_then, as_it_is, back, either, or_never}
 use Rattle.passive_set.proofs.PortLemmas.{Adds-has, Adds-more, Adds-same}
 use Rattle.base.proofs.FindLaws.{Contains-find, find_passes}
+use Rattle.base.proofs.ContainsLaws.{Contains_more}
 
 -- one number more
 pub SomeBelow_more : (P : ℕ → Type 0) (n : ℕ) → SomeBelow (n + 1) P ↔ (SomeBelow n P ⊎ P n)

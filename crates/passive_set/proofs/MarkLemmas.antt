@@ -1,15 +1,14 @@
 -- Lemmas on marks and on the list of those that are set.
-use Rattle.std.proofs.Common.{◌≡◌, ◌⊎◌, ◌↔◌, ℕ, ◌+◌, ◌<◌, ◌≤◌, Bool, true, false, cond, List, [], ◌∷◌, ◌++◌, length, take, set, get_or, sym, ◌∙◌, ap, subst, inl, arith, filter, All, Contains}
+use Rattle.std.proofs.Common.{◌≡◌, ◌⊎◌, ◌↔◌, ℕ, ◌+◌, ◌<◌, ◌≤◌, Bool, true, false, cond, List, [], ◌∷◌, ◌++◌, length, take, set, get_or, sym, ◌∙◌, ap, inl, arith, filter, All, Contains}
 use Rattle.std.specs.List.{range_with_len}
 use Rattle.std.specs.List.Sorted.{IsStrictlyIncreasing}
 use Rattle.std.proofs.Math.Logic.{⊎_elim, ⊎_map}
-use Rattle.std.proofs.lemmas.List.{take_more}
-use Rattle.std.proofs.lemmas.List.Elements.{All-contains, Contains-append_left, Contains-get_or, Contains-push, Contains-push_cases, filter-append, filter_passes}
+use Rattle.std.proofs.lemmas.List.Elements.{All-contains, Contains-get_or, filter-append, filter_passes}
 use Rattle.std.proofs.lemmas.List.FromFn.{get_or-range_with_len, length-range_with_len}
 use Rattle.std.proofs.lemmas.List.Kept.{IsStrictlyIncreasing-filter}
 use Rattle.config_graph.specs.Marks.{IsMarked}
 use Rattle.config_graph.proofs.MarkLaws.{marked_more, marked_within}
-use Rattle.base.proofs.ContainsLaws.{Contains-filter}
+use Rattle.base.proofs.ContainsLaws.{Contains-filter, Contains_more}
 use Rattle.base.proofs.RisingLaws.{places_more}
 
 -- equivalences, one after another, the other way round, and side by side
@@ -31,15 +30,6 @@ as_it_is = (λ a. a, λ a. a)
 
 pub turned : {A : Type 0} {x y : A} → (x ≡ y) ↔ (y ≡ x)
 turned = (λ same. sym same, λ same. sym same)
-
--- the elements of a list, one element more, and of a list as far as one place more
-pub Contains-pushed : {A : Type 0} (xs : List A) (y x : A) → Contains (xs ++ y ∷ []) x ↔ (Contains xs x ⊎ (y ≡ x))
-Contains-pushed xs y x =
-    (Contains-push_cases xs y x, ⊎_elim (Contains-append_left xs (y ∷ []) x) (λ same. subst (Contains (xs ++ y ∷ [])) same (Contains-push xs y)))
-
-pub Contains_more : {A : Type 0} (xs : List A) (i : ℕ) (d : A) → i < length xs → (x : A) → Contains (take (i + 1) xs) x ↔ (Contains (take i xs) x ⊎ (get_or xs i d ≡ x))
-Contains_more xs i d low x =
-    subst (λ l. Contains l x ↔ (Contains (take i xs) x ⊎ (get_or xs i d ≡ x))) (sym (take_more xs i d low)) (Contains-pushed (take i xs) (get_or xs i d) x)
 
 -- the marks of the nodes as far as one place more
 pub marks_more : (nodes : List ℕ) (marks : List Bool) (i n d : ℕ) → i < length nodes → n ≡ get_or nodes i d → n < length marks → ((k : ℕ) → IsMarked marks k ↔ Contains (take i nodes) k) → (k : ℕ) → IsMarked (set marks n true) k ↔ Contains (take (i + 1) nodes) k

@@ -1,14 +1,14 @@
 -- Lemmas on lists to which ports are added, and on what is kept of a set of ports.
-use Rattle.std.proofs.Common.{◌≡◌, ◌⊎◌, ◌↔◌, ℕ, ◌+◌, ◌<◌, Bool, true, false, cond, not, List, [], ◌∷◌, ◌++◌, length, set, get_or, take, sym, ◌∙◌, ap, subst, inl, inr, arith, Contains, All, Option, None, Some, slice_get, IfSome, append_assoc, length-append}
+use Rattle.std.proofs.Common.{◌≡◌, ◌⊎◌, ◌↔◌, ℕ, ◌+◌, ◌<◌, Bool, true, false, cond, not, List, [], ◌∷◌, ◌++◌, length, set, get_or, take, sym, ◌∙◌, ap, subst, inl, inr, arith, Contains, append_assoc, length-append}
 use Rattle.std.specs.Prelude.{count_by}
 use Rattle.std.proofs.Math.Logic.{⊎_elim, ⊎_map}
-use Rattle.std.proofs.lemmas.List.Elements.{All-append, All-contains, All-weaker, Contains-append_cases, Contains-append_left, Contains-get_or}
-use Rattle.std.proofs.lemmas.Option.{get_or_from_slice_get, slice_get_within}
+use Rattle.std.proofs.lemmas.List.Elements.{All-append, All-contains, All-weaker, Contains-append_cases, Contains-append_left}
 use Rattle.std.proofs.lemmas.List.Sums.{sum_by-set}
 use Rattle.config_graph.specs.Marks.{IsMarked}
-use Rattle.config_graph.proofs.MarkLaws.{marked_more, marked_within}
+use Rattle.config_graph.proofs.MarkLaws.{marked_more}
 use Rattle.passive_set.specs.Ports.{Adds}
-use Rattle.passive_set.proofs.MarkLemmas.{Contains-pushed, Contains_more, and_then, as_it_is, back, either, turned}
+use Rattle.passive_set.proofs.MarkLemmas.{and_then, as_it_is, back, either, turned}
+use Rattle.base.proofs.ContainsLaws.{Contains-pushed, Contains_more}
 
 -- what a list has to which ports were added
 pub Adds-has : (old new : List ℕ) (P : ℕ → Type 0) → Adds old new P → (p : ℕ) → Contains new p ↔ (Contains old p ⊎ P p)
@@ -48,12 +48,6 @@ kept_counted ports has port low unset so_far =
     let change = sum_by-set one has port true false low in
     let was : one (get_or has port false) ≡ 1 = ap one unset in
     omega (arith, change, was, so_far, length-append ports (port ∷ []))
-
--- what each element has, an element that is read has
-pub IfSome-read : {A : Type 0} (P : A → Type 0) (xs : List A) (i : ℕ) (r : Option A) → r ≡ slice_get xs i → All P xs → IfSome r P
-IfSome-read P xs i None e all = tt
-IfSome-read P xs i (Some x) e all =
-    subst P (get_or_from_slice_get xs i x x (sym e)) (all i x (slice_get_within xs i x (sym e)))
 
 -- ports of a list are added one after another
 pub Adds-listed : (old mid new xs : List ℕ) (i : ℕ) → i < length xs → Adds old mid (Contains (take i xs)) → Adds mid new (λ p. p ≡ get_or xs i 0) → Adds old new (Contains (take (i + 1) xs))

@@ -1,13 +1,13 @@
 -- What rule 19 says of a node's argument, and that kinds of one number are one.
-use Rattle.std.proofs.Common.{◌≡◌, ℕ, ◌<◌, ◌^◌, Bool, true, false, cond, Option, Some, None, refl, sym, ap, ◌∙◌, List, [], ◌∷◌, slice_get}
+use Rattle.std.proofs.Common.{◌≡◌, ℕ, ◌<◌, ◌^◌, Bool, true, false, cond, Option, Some, None, refl, sym, ap, ◌∙◌, slice_get}
 use Rattle.std.specs.Prelude.{is_none, is_some, IfSome}
 use Rattle.std.specs.Option.{option_map_or}
 use Rattle.std.proofs.lemmas.Bool.{both_ways, ltb-true, eqb-true}
 use Rattle.quiesce_core.specs.Rules.{is_value, value_limit, is_kind}
 use Rattle.std.proofs.lemmas.Option.{same_Some}
-use Rattle.config_graph.specs.Kinds.{row}
+use Rattle.config_graph.specs.Kinds.{row, kinds}
 use Rattle.config_graph.specs.declared.kind.Kind.{Kind}
-use Rattle.config_graph.specs.declared.kind.Kind.TheVariants as kind
+use Rattle.config_graph.proofs.KindLaws.{kind_at_number}
 
 -- an argument is there exactly where it has to be, and has its room
 pub argument_fits : (there : Bool) (arg : Option ℕ) → cond there (option_map_or is_value arg false) (is_none arg) ≡ true → (is_some arg ≡ there) × IfSome arg (λ a. a < 2 ^ 24)
@@ -16,22 +16,5 @@ argument_fits true (Some a) h = (refl, ltb-true a value_limit h)
 argument_fits false None h = (refl, tt)
 argument_fits false (Some a) h = absurd (both_ways false refl h)
 
-abbrev kinds : List Kind
-kinds = kind.Philosopher ∷ kind.Place ∷ kind.Fork ∷ kind.Source ∷ kind.Map ∷ kind.Buffer ∷ kind.Sink ∷ kind.Teller ∷ kind.Branch ∷ kind.Account ∷ kind.Asker ∷ kind.Adder ∷ []
-
-by_number : (k : Kind) → slice_get kinds (row k).number ≡ Some k
-by_number kind.Philosopher = refl
-by_number kind.Place = refl
-by_number kind.Fork = refl
-by_number kind.Source = refl
-by_number kind.Map = refl
-by_number kind.Buffer = refl
-by_number kind.Sink = refl
-by_number kind.Teller = refl
-by_number kind.Branch = refl
-by_number kind.Account = refl
-by_number kind.Asker = refl
-by_number kind.Adder = refl
-
 pub kinds_are_one : (j k : Kind) → is_kind j k ≡ true → j ≡ k
-kinds_are_one j k h = same_Some j k (sym (by_number j) ∙ ap (slice_get kinds) (eqb-true (row j).number (row k).number h) ∙ by_number k)
+kinds_are_one j k h = same_Some j k (sym (kind_at_number j) ∙ ap (slice_get kinds) (eqb-true (row j).number (row k).number h) ∙ kind_at_number k)

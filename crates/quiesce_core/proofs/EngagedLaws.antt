@@ -1,15 +1,14 @@
 -- Which nodes a transaction engages, and how much a service does.
-use Rattle.std.proofs.Common.{◌≡◌, ◌∙◌, ℕ, ◌<◌, ◌≤◌, ◌⊎◌, inl, inr, true, false, List, length, Some, refl, ap, sym, subst, ⊎_elim}
+use Rattle.std.proofs.Common.{◌≡◌, ◌∙◌, ℕ, ◌<◌, ◌≤◌, true, false, List, length, Some, refl, ap, sym, subst, ⊎_elim}
 use Rattle.std.specs.Prelude.{◌==◌, option_map}
 use Rattle.std.proofs.lemmas.Bool.{and_parts, both_ways, eqb-true}
 use Rattle.std.proofs.lemmas.Option.{same_Some}
 use Rattle.config_graph.specs.Kinds.{row, depends_on}
 use Rattle.config_graph.specs.Wiring.{MayCall}
 use Rattle.config_graph.specs.Walks.{step}
-use Rattle.config_graph.specs.declared.kind.Kind.{Kind}
-use Rattle.config_graph.specs.declared.kind.Kind.TheVariants.{Philosopher, Place, Fork, Source, Map, Buffer, Sink, Teller, Branch, Account, Asker, Adder}
+use Rattle.config_graph.specs.declared.kind.Kind.TheVariants.{Buffer}
 use Rattle.config_graph.specs.declared.node.Target.{Target}
-use Rattle.config_graph.proofs.KindLaws.{depends_on_all}
+use Rattle.config_graph.proofs.KindLaws.{depends_on_all, buffer_or}
 use Rattle.quiesce_core.specs.declared.event.Event.{Event}
 use Rattle.quiesce_core.specs.declared.event.Event.TheVariants.{Begin, Call}
 use Rattle.quiesce_core.specs.declared.state.Service.{Service}
@@ -25,21 +24,6 @@ use Rattle.quiesce_core.proofs.InductionLaws.{place}
 use Rattle.quiesce_core.proofs.RunLaws.{runs_are_consistent}
 use Rattle.quiesce_core.proofs.StateLaws.{provision_is}
 use Rattle.base.proofs.OptionLaws.{Some-from_is_some, map_or_at}
-
--- a kind is a buffer or it isn't
-buffer_or : (k : Kind) → (k ≡ Buffer) ⊎ (k ≡ Buffer → ⊥)
-buffer_or Philosopher = inr (λ e. cc)
-buffer_or Place = inr (λ e. cc)
-buffer_or Fork = inr (λ e. cc)
-buffer_or Source = inr (λ e. cc)
-buffer_or Map = inr (λ e. cc)
-buffer_or Buffer = inl refl
-buffer_or Sink = inr (λ e. cc)
-buffer_or Teller = inr (λ e. cc)
-buffer_or Branch = inr (λ e. cc)
-buffer_or Account = inr (λ e. cc)
-buffer_or Asker = inr (λ e. cc)
-buffer_or Adder = inr (λ e. cc)
 
 -- Only a buffer is linked to itself: what another kind provides depends on all that it requires, so that such a link would be a cycle.
 pub self_links_are_buffers : (c : Configuration) → IsSound c → (p : ℕ) (t : Target) → target c p ≡ Some t → t.node ≡ owner c p → (m : Slot) → slot c (owner c p) ≡ Some m → m.node.kind ≡ Buffer

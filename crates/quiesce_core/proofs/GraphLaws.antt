@@ -1,12 +1,12 @@
 -- A system that was started as a sound graph says is well formed.
-use Rattle.std.proofs.Common.{◌≡◌, ℕ, zero, suc, ◌+◌, ◌-◌, ◌<◌, ◌≤◌, true, false, List, [], ◌∷◌, length, map, take, get_or, Option, Some, None, refl, sym, ap, ◌∙◌, subst, ⊎_elim, arith, add-zero}
-use Rattle.std.specs.Prelude.{slice_get, option_map, sum_by}
+use Rattle.std.proofs.Common.{◌≡◌, ℕ, zero, suc, ◌+◌, ◌-◌, ◌<◌, ◌≤◌, true, false, List, [], ◌∷◌, length, map, get_or, Option, Some, None, refl, sym, ap, ◌∙◌, subst, ⊎_elim, arith}
+use Rattle.std.specs.Prelude.{slice_get, option_map}
 use Rattle.std.specs.List.{enumerate_from}
 use Rattle.std.specs.Option.{option_map_or}
 use Rattle.std.proofs.lemmas.Bool.{both_ways, cases_lt}
 use Rattle.std.proofs.lemmas.Option.{slice_get_within, get_or_from_slice_get, slice_get_past, slice_get-map}
 use Rattle.std.proofs.lemmas.List.{length-map, get_or_past}
-use Rattle.std.proofs.lemmas.List.Sums.{sum_by-cons, sum_by_more}
+use Rattle.std.proofs.lemmas.List.Sums.{sum_by_more}
 use Rattle.std.specs.Ordering.{nat_cmp}
 use Rattle.std.specs.Cmp.Lexicographic.{slice_cmp}
 use Rattle.std.specs.declared.cmp.Ordering.TheVariants.{Less}
@@ -44,20 +44,8 @@ use Rattle.quiesce_core.proofs.SameWiringLaws.{to_graph}
 use Rattle.config_graph.proofs.WiringLaws.{no_cycle_there}
 use Rattle.base.proofs.ContainsLaws.{Contains-at, at_some_place}
 use Rattle.base.proofs.FindLaws.{Contains-find, find_passes}
-use Rattle.base.proofs.PlaceLaws.{slice_get-there as there}
-
-pub get_numbered : {A : Type 0} (k : ℕ) (xs : List A) (i : ℕ) (x : A) → slice_get xs i ≡ Some x → slice_get (enumerate_from k xs) i ≡ Some (k + i, x)
-get_numbered k [] i x h = absurd (cc)
-get_numbered k (y ∷ xs) zero x h = let e : y ≡ x = cc in rw (add-zero, e) refl
-get_numbered k (y ∷ xs) (suc i) x h = get_numbered (k + 1) xs i x h ∙ ap (λ j. Some (j, x)) (omega arith)
-
-pub sum_taken : {A : Type 0} (f : A → ℕ) (xs : List A) (i : ℕ) (x : A) → slice_get xs i ≡ Some x → sum_by f (take i xs) + f x ≤ sum_by f xs
-sum_taken f [] i x h = absurd (cc)
-sum_taken f (y ∷ xs) zero x h =
-    let e : y ≡ x = cc in
-    rw (sum_by-cons f y xs) (subst (λ z. 0 + f z ≤ f y + sum_by f xs) e (omega arith))
-sum_taken f (y ∷ xs) (suc i) x h =
-    rw (sum_by-cons f y (take i xs), sum_by-cons f y xs) (omega (arith, sum_taken f xs i x h))
+use Rattle.base.proofs.PlaceLaws.{slice_get-there as there, get_numbered}
+use Rattle.base.proofs.SumLaws.{sum_taken}
 
 module _ (g : Graph) (sound : Sound g) (few_nodes : length g.nodes ≤ MAX_NODES) (few_ports : length (ports g.nodes) ≤ MAX_PORTS) where
   slot_made : (n : ℕ) (node : Node) → slice_get g.nodes n ≡ Some node → slot (started g).config n ≡ Some (slot_of g.nodes (n, node))

@@ -11,6 +11,13 @@ use crate::rules::{first_failing, has_its_argument, is_value, was_heard};
 use crate::tables::Tables;
 use config_graph::{Node, Target};
 
+/// The rules of a make: the tables have room, the path is free, and what is taken over fits.
+const ROOM: u32 = 18;
+
+const PATH: u32 = 19;
+
+const MOVE: u32 = 26;
+
 impl Tables {
     /// The number of the first rule of the event that fails.
     pub fn denial(&self, event: &Event) -> Option<u32>
@@ -222,12 +229,12 @@ impl Tables {
             None => true,
         };
         first_failing(&[
-            (18, self.links.has_room(slot, node)),
+            (ROOM, self.links.has_room(slot, node)),
             (
-                19,
+                PATH,
                 !self.links.is_path_taken(node.path.as_bytes()) && has_its_argument(node),
             ),
-            (26, moves),
+            (MOVE, moves),
         ])
     }
 

@@ -13,7 +13,7 @@ use Rattle.quiesce_core.specs.declared.event.Event.{Event}
 use Rattle.quiesce_core.specs.declared.event.Event.TheVariants as event
 use Rattle.quiesce_core.specs.declared.state.Slot.{Slot}
 use Rattle.quiesce_core.specs.Live.{AreLinked, IsGraphOf, IsLiveAt, StandsAt}
-use Rattle.base.proofs.PlaceLaws.{slice_get-there}
+use Rattle.base.proofs.PlaceLaws.{slice_get-there, any_there}
 use Rattle.quiesce_laws.specs.Fitting.{Fits, KeptLink, PathsApart, Stands}
 use Rattle.quiesce_core.specs.Rules.{can_move, is_kind, was_moved}
 use Rattle.quiesce_core.specs.State.{Configuration, gate, is_live, owner, slot, target}
@@ -28,7 +28,7 @@ use Rattle.quiesce_core.proofs.ConfigurationLaws.{linked_made}
 use Rattle.quiesce_core.proofs.LiveLinkLaws.{linked_at}
 use Rattle.quiesce_laws.proofs.LinkingLemmas.{Linking, graph_is, link_may, link_next}
 use Rattle.quiesce_laws.proofs.MakingLaws.{Making, make_may, make_next}
-use Rattle.quiesce_laws.proofs.MemberLaws.{any_there, contains_in, in_contains, pairs_apart}
+use Rattle.quiesce_laws.proofs.MemberLaws.{contains_in, in_contains, pairs_apart}
 use Rattle.quiesce_laws.proofs.PhaseLemmas.{EachConfig, each_then, may_then, phase_each, phase_ends, phase_may}
 use Rattle.quiesce_laws.proofs.RemovingLemmas.{Removing, live_is, remove_may, remove_next}
 use Rattle.quiesce_laws.proofs.UnlinkingLemmas.{Unlinking, unlink_may, unlink_next}

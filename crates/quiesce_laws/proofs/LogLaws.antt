@@ -6,6 +6,7 @@ use Rattle.std.specs.Option.{option_map_or}
 use Rattle.std.proofs.lemmas.Bool.{and_from, and_parts, both_ways, eq-eqb, eqb-true, or_cases}
 use Rattle.std.proofs.lemmas.List.Sums.{sum_by_push}
 use Rattle.base.proofs.MapLaws.{count_by-append}
+use Rattle.base.proofs.CountLaws.{one_place}
 use Rattle.config_graph.specs.declared.node.Target.{Target}
 use Rattle.quiesce_core.specs.Legal.{Legal}
 use Rattle.quiesce_word.specs.Phases.{is_idle}
@@ -20,7 +21,7 @@ use Rattle.quiesce_core.proofs.StateLaws.{taken_busy}
 use Rattle.quiesce_word.proofs.PhaseLaws.{asked_busy, more_busy, answered_busy}
 use Rattle.quiesce_laws.specs.Events.{is_of_initiator, is_of_target}
 use Rattle.quiesce_laws.proofs.Engaged.{by_initiator, by_target}
-use Rattle.quiesce_laws.proofs.OneRootLaws.{found, one_place}
+use Rattle.quiesce_laws.proofs.OneRootLaws.{found}
 use Rattle.quiesce_laws.proofs.OpenLaws.{IsOpen}
 use Rattle.quiesce_laws.proofs.OrderLaws.{in_order, open_is_seen}
 

@@ -20,7 +20,7 @@ use Rattle.quiesce_core.specs.Effect.{with_node}
 use Rattle.quiesce_core.specs.Rules.{can_move, has_its_argument, is_kind, is_path_taken, is_value, value_limit, was_moved}
 use Rattle.quiesce_core.specs.State.{Configuration, slot, target}
 use Rattle.base.proofs.OptionLaws.{map_or_true}
-use Rattle.base.proofs.PlaceLaws.{slice_get-snoc}
+use Rattle.base.proofs.PlaceLaws.{slice_get-snoc, any_there}
 use Rattle.quiesce_core.proofs.SoundnessLaws.{grown_length, last_slot, old_gate, old_slot}
 use Rattle.quiesce_laws.specs.Fitting.{KeptLink, PathsApart}
 use Rattle.quiesce_core.specs.Live.{IsLiveAt}
@@ -30,7 +30,6 @@ use Rattle.quiesce_laws.specs.Work.{AreNumbered, NewNode, make_new, ports_wanted
 use Rattle.quiesce_laws.proofs.BetweenLaws.{Between, Ground, between_make, linked_before}
 use Rattle.quiesce_core.proofs.ConfigurationLaws.{linked_made}
 use Rattle.quiesce_laws.specs.Commits.{OtherPath, OtherSource}
-use Rattle.quiesce_laws.proofs.MemberLaws.{any_there}
 
 -- links are those that the new graph keeps; live nodes are nodes of the new graph, and these are left to be made
 pub record Making (c : Configuration) (new : Graph) (Touched : ℕ → Type 0) (d : Configuration) (left : List NewNode) : Type 0 where

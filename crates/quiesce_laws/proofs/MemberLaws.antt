@@ -1,19 +1,12 @@
 -- Members of lists, and of lists that are selected from a range of numbers.
 use Rattle.std.proofs.Common.{◌≡◌, ℕ, zero, suc, ◌+◌, ◌<◌, ◌≤◌, Bool, true, false, cond, List, [], ◌∷◌, get_or, Option, Some, None, refl, sym, ap, ◌∙◌, subst, inl, inr, ⊎_elim, arith, Contains}
-use Rattle.std.specs.Prelude.{filter, filter_map, slice_get}
-use Rattle.std.specs.List.{AllPairs, list_any, range_with_len}
+use Rattle.std.specs.Prelude.{filter, filter_map}
+use Rattle.std.specs.List.{AllPairs, range_with_len}
 use Rattle.std.proofs.lemmas.List.Elements.{Contains-get_or}
-use Rattle.std.proofs.lemmas.Bool.{both_ways, cases_Bool, cases_eq, or_cases}
-use Rattle.base.proofs.ContainsLaws.{Contains-at, Contains-here, Contains-there}
+use Rattle.std.proofs.lemmas.Bool.{both_ways, cases_Bool, cases_eq}
+use Rattle.base.proofs.ContainsLaws.{Contains-here, Contains-there}
 use Rattle.quiesce_laws.specs.Lists.{Apart, In}
 use Rattle.quiesce_laws.specs.Commits.{Differ}
-
-pub any_there : {A : Type 0} (f : A → Bool) (xs : List A) → list_any f xs ≡ true → (i : ℕ) × (x : A) × (slice_get xs i ≡ Some x) × (f x ≡ true)
-any_there f [] h = absurd (both_ways false refl h)
-any_there f (x ∷ xs) h = ⊎_elim
-    (λ (here : f x ≡ true). (0, x, refl, here))
-    (λ (later : list_any f xs ≡ true). let w = any_there f xs later in (suc w.0, w.1, w.2, w.3))
-    (or_cases (f x) (list_any f xs) h)
 
 pub record Selected (f : ℕ → Bool) (a n p : ℕ) : Type 0 where
   pub from : a ≤ p
@@ -89,9 +82,6 @@ map_apart {A} f R apart a (suc n) = by (f a) refl (map_apart f R apart (a + 1) n
     by : (o : Option A) → f a ≡ o → Apart R (filter_map f (range_with_len (a + 1) n)) → Apart R (filter_map f (range_with_len a (suc n)))
     by (Some x) e = rw e (λ rest. (λ y i. (let m = mapped f (a + 1) n y i in apart a m.at x y (omega (arith, m.from)) e m.is), rest))
     by None e = rw e (λ rest. rest)
-
-pub any_of : {A : Type 0} (f : A → Bool) (xs : List A) → list_any f xs ≡ true → (x : A) × Contains xs x × (f x ≡ true)
-any_of f xs h = let w = any_there f xs h in (w.1, Contains-at xs w.0 w.1 w.2, w.3)
 
 -- members, and how they are apart, told twice
 

@@ -1,46 +1,20 @@
 -- Each transaction has one root.
-use Rattle.std.proofs.Common.{◌≡◌, ℕ, zero, suc, ◌+◌, ◌<◌, ◌≤◌, Bool, true, false, cond, not, ◌&&◌, List, [], ◌∷◌, ◌++◌, append_assoc, length, length-append, Some, refl, sym, ap, ◌∙◌, subst, ⊎_elim, arith}
+use Rattle.std.proofs.Common.{◌≡◌, ℕ, zero, suc, ◌<◌, ◌≤◌, Bool, true, false, not, ◌&&◌, List, [], ◌∷◌, ◌++◌, append_assoc, length, length-append, Some, refl, sym, ap, ◌∙◌, subst, ⊎_elim, arith}
 use Rattle.std.specs.Prelude.{◌==◌}
 use Rattle.std.specs.List.{count_by, list_any}
 use Rattle.std.proofs.lemmas.Bool.{and_parts, and_from, both_ways, eqb-true, eq-eqb, or_cases}
-use Rattle.std.proofs.lemmas.List.Sums.{sum_by-cons}
 use Rattle.quiesce_core.specs.declared.event.Event.{Event}
 use Rattle.quiesce_core.specs.declared.event.Event.TheVariants.{Begin, Call}
 use Rattle.quiesce_core.specs.declared.state.Service.{Service}
 use Rattle.quiesce_core.specs.State.{depends, exchange, owner, provision, service}
 use Rattle.quiesce_word.specs.Phases.{is_idle}
 use Rattle.quiesce_core.specs.Runs.{Begun, HasRoot, root, consequent, IsRun, is_begin_of, is_end_of, is_open_after, state_after}
-use Rattle.base.proofs.PlaceLaws.{heads_are, tails_are}
 use Rattle.base.proofs.OptionLaws.{map_or_true}
+use Rattle.base.proofs.CountLaws.{one_place}
 use Rattle.quiesce_word.proofs.PhaseLaws.{serving_busy}
 use Rattle.quiesce_laws.specs.Roots.{IsRooted}
 use Rattle.quiesce_core.proofs.InductionLaws.{place}
 use Rattle.quiesce_laws.proofs.OrderLaws.{in_order, open_is_seen}
-
--- what passes is counted
-one_counted : {A : Type 0} (t : A → Bool) (front behind : List A) (y : A) → t y ≡ true → 1 ≤ count_by t (front ++ y ∷ behind)
-one_counted t [] behind y h = omega (arith, sum_by-cons (λ z. cond (t z) 1 0) y behind ∙ ap (λ b. cond b 1 0 + count_by t behind) h)
-one_counted t (f ∷ front) behind y h = omega (arith, sum_by-cons (λ z. cond (t z) 1 0) f (front ++ y ∷ behind), one_counted t front behind y h)
-
-two_counted : {A : Type 0} (t : A → Bool) (x : A) (front behind : List A) (y : A) → t x ≡ true → t y ≡ true → count_by t (x ∷ (front ++ y ∷ behind)) ≤ 1 → ⊥
-two_counted t x front behind y h g few =
-    let first = sum_by-cons (λ z. cond (t z) 1 0) x (front ++ y ∷ behind) ∙ ap (λ b. cond b 1 0 + count_by t (front ++ y ∷ behind)) h in
-    let second = one_counted t front behind y g in
-    absurd (omega (arith, first, second, few))
-
--- where one member passes at most, it stands at one place
-pub one_place :
-    {A : Type 0} (t : A → Bool) (before after front behind : List A) (x y : A) → count_by t (before ++ x ∷ after) ≤ 1 → before ++ x ∷ after ≡ front ++ y ∷ behind → t x ≡ true → t y ≡ true
-    → (before ≡ front) × (x ≡ y)
-one_place t [] after [] behind x y few same h g = (refl, heads_are x y after behind same)
-one_place t [] after (f ∷ front) behind x y few same h g =
-    absurd (two_counted t x front behind y h g (subst (λ xs. count_by t (x ∷ xs) ≤ 1) (tails_are x f after (front ++ y ∷ behind) same) few))
-one_place t (b ∷ before) after [] behind x y few same h g =
-    absurd (two_counted t b before after x (ap t (heads_are b y (before ++ x ∷ after) behind same) ∙ g) h few)
-one_place t (b ∷ before) after (f ∷ front) behind x y few same h g =
-    let more_ = sum_by-cons (λ z. cond (t z) 1 0) b (before ++ x ∷ after) in
-    let w = one_place t before after front behind x y (omega (arith, more_, few)) (tails_are b f (before ++ x ∷ after) (front ++ y ∷ behind) same) h g in
-    (ap (λ z. z ∷ before) (heads_are b f (before ++ x ∷ after) (front ++ y ∷ behind) same) ∙ ap (λ zs. f ∷ zs) w.0, w.1)
 
 begins_it : (p k : ℕ) → (p == p && k == k) ≡ true
 begins_it p k = and_from (p == p) (k == k) (eq-eqb p p refl) (eq-eqb k k refl)

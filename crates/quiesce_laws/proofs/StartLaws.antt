@@ -46,7 +46,7 @@ use Rattle.quiesce_core.proofs.SettledLaws.{if_settled}
 use Rattle.quiesce_laws.specs.Starts.{make_of, link_of, reopen_of, start_of}
 use Rattle.quiesce_core.proofs.StepsLaws.{both}
 use Rattle.base.proofs.ContainsLaws.{Contains-at}
-use Rattle.base.proofs.PlaceLaws.{slice_get-append_front}
+use Rattle.base.proofs.PlaceLaws.{slice_get-append_front, numbered_snoc}
 
 -- steps that lead to a state, and one before them
 none_yet : (s t : State) → s ≡ t → Steps s [] t
@@ -61,13 +61,6 @@ bare p = record { owner = p.node; require = p.require; closed = true; target = N
 
 shut : Graph → Port → Gate
 shut g p = record { owner = p.node; require = p.require; closed = true; target = target_of g.links p.node p.require }
-
--- lists that grow at their end
-
-numbered_snoc : {A : Type 0} (k : ℕ) (xs : List A) (x : A) → enumerate_from k (xs ++ x ∷ []) ≡ enumerate_from k xs ++ (k + length xs, x) ∷ []
-numbered_snoc k [] x = ap (λ i. (i, x) ∷ []) (omega arith)
-numbered_snoc k (y ∷ xs) x =
-    ap (λ ys. (k, y) ∷ ys) (numbered_snoc (k + 1) xs x ∙ ap (λ i. enumerate_from (k + 1) xs ++ (i, x) ∷ []) (omega arith))
 
 ports_snoc : (nodes : List Node) (n : Node) → ports (nodes ++ n ∷ []) ≡ ports nodes ++ ports_of (length nodes) (requires_of n)
 ports_snoc nodes n =

@@ -1,33 +1,19 @@
 -- The word of a slot: its fields have their room, and are spelt by the word.
 use Rattle.std.proofs.Common.{◌≡◌, ℕ, ◌+◌, ◌*◌, ◌^◌, ◌<◌, Bool, true, false, cond, Option, Some, None, [], ◌∷◌, refl, ap, sym, ◌∙◌, arith}
-use Rattle.std.specs.Prelude.{IfSome, is_some, option_map}
+use Rattle.std.specs.Prelude.{IfSome, is_some, option_map, option_and_then, slice_get}
 use Rattle.std.specs.Option.{option_map_or}
 use Rattle.std.proofs.lemmas.Bool.{both_ways}
 use Rattle.std.proofs.lemmas.Option.{same_Some}
-use Rattle.config_graph.specs.Kinds.{row}
+use Rattle.config_graph.specs.Kinds.{row, kinds}
 use Rattle.config_graph.specs.declared.kind.Kind.{Kind}
-use Rattle.config_graph.specs.declared.kind.Kind.TheVariants.{Philosopher, Place, Fork, Source, Map, Buffer, Sink, Teller, Branch, Account, Asker, Adder}
 use Rattle.config_graph.specs.declared.TheConstants.{MAX_NODES}
+use Rattle.config_graph.proofs.KindLaws.{few_kinds, kind_at_number}
 use Rattle.quiesce_word.specs.declared.slot_word.SlotWord.{SlotWord}
 use Rattle.quiesce_word.specs.Packs.{FitIn, bits, less_one, plus_one, spell}
 use Rattle.quiesce_word.specs.SlotWords.{FitsSlotWord, kind_of_bits, pack_slot, slot_fields, slot_widths, unpack_slot}
 use Rattle.quiesce_word.proofs.PackLaws.{field, one_less_again}
 
 -- each field has its room
-
-kind_few : (k : Kind) → (row k).number + 1 < 16
-kind_few Philosopher = omega arith
-kind_few Place = omega arith
-kind_few Fork = omega arith
-kind_few Source = omega arith
-kind_few Map = omega arith
-kind_few Buffer = omega arith
-kind_few Sink = omega arith
-kind_few Teller = omega arith
-kind_few Branch = omega arith
-kind_few Account = omega arith
-kind_few Asker = omega arith
-kind_few Adder = omega arith
 
 arg_few : (a : Option ℕ) → IfSome a (λ n. n < 2 ^ 24) → option_map_or (λ n. n) a 0 < 2 ^ 24
 arg_few None h = omega arith
@@ -38,7 +24,7 @@ from_few None h = omega arith
 from_few (Some k) h = omega (arith, h)
 
 pub slot_fields_fit : (w : SlotWord) → FitsSlotWord w → FitIn slot_widths (slot_fields w)
-slot_fields_fit w f = (kind_few w.kind, (omega (arith, f.first_port), (arg_few w.arg f.arg, (from_few w.from f.from, tt))))
+slot_fields_fit w f = (few_kinds w.kind, (omega (arith, f.first_port), (arg_few w.arg f.arg, (from_few w.from f.from, tt))))
 
 -- each field stands at its bits
 
@@ -64,18 +50,7 @@ stand k p a f h =
 -- the word spells its fields
 
 kind_again : (k : Kind) → kind_of_bits ((row k).number + 1) ≡ Some k
-kind_again Philosopher = refl
-kind_again Place = refl
-kind_again Fork = refl
-kind_again Source = refl
-kind_again Map = refl
-kind_again Buffer = refl
-kind_again Sink = refl
-kind_again Teller = refl
-kind_again Branch = refl
-kind_again Account = refl
-kind_again Asker = refl
-kind_again Adder = refl
+kind_again k = ap (option_and_then (slice_get kinds)) (one_less_again (Some (row k).number)) ∙ kind_at_number k
 
 arg_again : (b : Bool) (a : Option ℕ) → is_some a ≡ b → cond b (Some (option_map_or (λ n. n) a 0)) None ≡ a
 arg_again true None h = absurd (both_ways false refl h)

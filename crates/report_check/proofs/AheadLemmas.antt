@@ -1,9 +1,9 @@
 -- Tables of what is told ahead, led over one line: from the end on when they are made, and on when it is passed.
-use Rattle.std.proofs.Common.{◌≡◌, ◌∙◌, ℕ, ◌+◌, ◌<◌, ◌≤◌, true, false, cond, List, ◌∷◌, length, get_or, set, drop, replicate, Option, Some, None, refl, sym, ap, subst, ⊎_elim, arith, get_or-set_other, get_or-set_same}
+use Rattle.std.proofs.Common.{◌≡◌, ◌∙◌, ℕ, ◌+◌, ◌<◌, ◌≤◌, true, false, cond, List, length, get_or, set, drop, replicate, Option, Some, None, refl, sym, ap, subst, ⊎_elim, arith, get_or-set_other, get_or-set_same}
 use Rattle.std.specs.Prelude.{nat_lt, slice_get}
 use Rattle.std.specs.Option.{option_and_then}
 use Rattle.std.proofs.lemmas.Bool.{both_ways, cases_Bool, cases_eq, eq-eqb, eqb-true, false_from_ne_true, lt-ltb, ltb-true}
-use Rattle.std.proofs.lemmas.List.{drop_all, drop_more, get_or-replicate, length-replicate, length-set}
+use Rattle.std.proofs.lemmas.List.{drop_all, get_or-replicate, length-replicate, length-set}
 use Rattle.std.proofs.lemmas.Option.{get_or_from_slice_get, same_Some, slice_get_past, slice_get_read, slice_get_within}
 use Rattle.config_graph.specs.declared.TheConstants.{MAX_PORTS}
 use Rattle.report_types.specs.declared.report.HistoryLine.{HistoryLine}
@@ -11,6 +11,7 @@ use Rattle.report_types.specs.declared.report.HistoryLine.TheVariants as to
 use Rattle.merge_laws.specs.Guarded.{tells, told}
 use Rattle.report_check.specs.Ahead.{IsAhead, known_port, port_told_at, told_port}
 use Rattle.report_check.specs.declared.ahead.Ahead.{Ahead}
+use Rattle.base.proofs.PlaceLaws.{front_at}
 
 -- ---- lines that tell
 
@@ -43,12 +44,6 @@ unpicked o p h same low =
     let there = subst (λ (x : Option ℕ). option_and_then (λ q. cond (nat_lt q MAX_PORTS) (Some q) None) x ≡ None) same h in
     let some : ◌≡◌ {A = Option ℕ} (Some p) None = sym (ap (λ b. cond b (Some p) None) (lt-ltb p MAX_PORTS low)) ∙ there in
     cc
-
--- ---- what is told behind a place
-
-pub front_at : {X : Type 0} (xs : List X) (i : ℕ) (x : X) → slice_get xs i ≡ Some x → drop i xs ≡ x ∷ drop (i + 1) xs
-front_at xs i x at =
-    drop_more xs i x (slice_get_within xs i x at) ∙ ap (λ y. y ∷ drop (i + 1) xs) (get_or_from_slice_get xs i x x at)
 
 told_here : (p i : ℕ) (l : HistoryLine) (h : List HistoryLine) → slice_get h i ≡ Some l → tells p l ≡ true → told p (drop i h) ≡ Some l
 told_here p i l h at t = ap (told p) (front_at h i l at) ∙ ap (λ b. cond b (Some l) (told p (drop (i + 1) h))) t

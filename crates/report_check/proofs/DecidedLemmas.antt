@@ -4,7 +4,7 @@ use Rattle.std.specs.Prelude.{filter_map, fold}
 use Rattle.std.specs.List.{list_all}
 use Rattle.std.proofs.lemmas.Option.{same_Some}
 use Rattle.base.specs.Each.{Each}
-use Rattle.base.proofs.EachLaws.{each_at}
+use Rattle.base.proofs.EachLaws.{each_at, each_if}
 use Rattle.config_graph.specs.Graph.{Graph}
 use Rattle.component_trait.specs.States.{NodeState, at_rest}
 use Rattle.component_trait.proofs.FoldLaws.{fold_keeps_kind}
@@ -25,7 +25,7 @@ use Rattle.change_spec.specs.Members.{Member, event_of, events, lines, without_r
 use Rattle.change_spec.specs.Opening.{fold_at}
 use Rattle.change_spec.specs.Scene.{config_after}
 use Rattle.change_spec.specs.Statements.{Statement}
-use Rattle.change_spec.proofs.MemberLaws.{changes_are_lines, each_if, events_without_roots}
+use Rattle.change_spec.proofs.MemberLaws.{changes_are_lines, events_without_roots}
 use Rattle.change_round_laws.specs.Described.{IsLeftAt}
 use Rattle.change_round_laws.specs.SoundStatements.{AreSound}
 use Rattle.change_round_laws.proofs.AloneLaws.{changes_run}

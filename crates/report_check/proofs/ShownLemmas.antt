@@ -12,6 +12,7 @@ use Rattle.std.proofs.lemmas.List.Sums.{fold-append}
 use Rattle.base.specs.Each.{Each, EachAfter}
 use Rattle.base.proofs.EachLaws.{each_at}
 use Rattle.base.proofs.ListLaws.{count_by-cons}
+use Rattle.base.proofs.PlaceLaws.{parted_at}
 use Rattle.config_graph.specs.Graph.{Graph}
 use Rattle.quiesce_laws.specs.Steps.{is_shaping, live_ports}
 use Rattle.quiesce_laws.proofs.EndingLaws.{graph_stays}
@@ -33,7 +34,6 @@ use Rattle.change_spec.specs.Lawful.{described, is_head}
 use Rattle.change_spec.specs.Members.{event_of, is_commit, is_pending, lines_of_events}
 use Rattle.change_spec.specs.Scene.{config_after, drained_line, root_line}
 use Rattle.change_spec.specs.Statements.{Statement, start, change, run, finish, show, graph_of}
-use Rattle.change_spec.proofs.MemberLaws.{parted_at}
 use Rattle.change_round_laws.specs.Described.{IsLeftAt}
 use Rattle.change_round_laws.specs.SoundStatements.{AreSound}
 use Rattle.change_round_laws.proofs.LineLaws.{config_of}

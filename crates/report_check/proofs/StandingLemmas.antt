@@ -9,6 +9,7 @@ use Rattle.std.proofs.lemmas.List.Elements.{filter_map-append}
 use Rattle.std.proofs.lemmas.List.Sums.{fold-append}
 use Rattle.base.specs.Each.{Each}
 use Rattle.base.proofs.EachLaws.{each_parts, each_pushed}
+use Rattle.base.proofs.MapLaws.{picked_mapped}
 use Rattle.config_graph.specs.Graph.{Graph}
 use Rattle.change_spec.specs.Asked.{statement_of}
 use Rattle.change_spec.specs.Lawful.{is_head}
@@ -62,10 +63,6 @@ pub picked_more : {A B : Type 0} (f : A → Option B) (xs : List A) (i : ℕ) (x
 picked_more f xs i x a b c low is so then =
     then ∙ ap (λ ys. ys ++ option_to_list (f x)) so ∙ append_assoc a (filter_map f (take i xs)) (option_to_list (f x))
     ∙ ap (λ ys. a ++ ys) (sym (ap (filter_map f) (take_more xs i x low is) ∙ picked_one f (take i xs) x))
-
-pub picked_mapped : {A B C : Type 0} (f : B → Option C) (g : A → B) (xs : List A) → filter_map f (map g xs) ≡ filter_map (λ x. f (g x)) xs
-picked_mapped f g [] = refl
-picked_mapped f g (x ∷ xs) = ap (cons_option (f (g x))) (picked_mapped f g xs)
 
 -- the graphs of a start and of the steps behind it
 pub described_are : {X : Type 0} (f : X → Graph) (none first all : List X) (x : X) (steps : List Step) → none ≡ [] → first ≡ none ++ x ∷ []

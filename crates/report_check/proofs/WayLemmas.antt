@@ -1,10 +1,10 @@
 -- Steps of a way: what is left behind a line, or behind an event of a log, that came or may not come.
-use Rattle.std.proofs.Common.{◌≡◌, ◌∙◌, ℕ, zero, suc, ◌+◌, ◌<◌, ◌≤◌, Bool, true, false, ◌||◌, List, [], ◌∷◌, length, get_or, set, drop, replicate, Option, Some, None, refl, sym, ap, subst, ⊎_elim, arith}
+use Rattle.std.proofs.Common.{◌≡◌, ◌∙◌, ℕ, zero, suc, ◌+◌, ◌<◌, ◌≤◌, Bool, true, false, ◌||◌, List, [], ◌∷◌, length, get_or, set, drop, replicate, Some, None, refl, sym, ap, subst, arith}
 use Rattle.std.specs.Prelude.{◌↔◌, slice_get}
 use Rattle.std.specs.List.{list_all, range_with_len}
-use Rattle.std.proofs.lemmas.Bool.{cases_lt, le-leb, leb-true}
+use Rattle.std.proofs.lemmas.Bool.{le-leb, leb-true}
 use Rattle.std.proofs.lemmas.List.{drop_all, length-drop}
-use Rattle.base.proofs.PlaceLaws.{slice_get-there}
+use Rattle.base.proofs.PlaceLaws.{front_at, empty_behind}
 use Rattle.base.proofs.OptionLaws.{None-from_is_none}
 use Rattle.base.proofs.RangeLaws.{all_in_range, range_all}
 use Rattle.config_graph.specs.declared.TheConstants.{MAX_PORTS}
@@ -24,7 +24,7 @@ use Rattle.report_check.specs.Ahead.{IsAhead}
 use Rattle.report_check.specs.Going.{IsPlaced, IsTried, events_of, is_allowed, is_at_end, is_ready, left_behind, logs_behind}
 use Rattle.report_check.specs.declared.ahead.Ahead.{Ahead}
 use Rattle.report_check.specs.declared.way.Way.{Way}
-use Rattle.report_check.proofs.AheadLemmas.{front_at, told_on}
+use Rattle.report_check.proofs.AheadLemmas.{told_on}
 
 -- ---- ports that tables know
 
@@ -66,11 +66,6 @@ past (l ∷ logs) (suc m) le = past logs m (omega (arith, le))
 pub log_beyond : (w : Way) (h : List HistoryLine) (logs : List NodeLog) (m : ℕ) → IsPlaced w h logs → length logs ≤ m → log_of (left_behind w h logs) m ≡ []
 log_beyond w h logs m p le =
     log_left w.places.items logs m p.places ∙ ap (drop (get_or w.places.items m 0)) (past logs m le) ∙ drop_all (get_or w.places.items m 0) [] (omega arith)
-
-empty_behind : {X : Type 0} (xs : List X) (i : ℕ) → slice_get xs i ≡ None → drop i xs ≡ []
-empty_behind xs i none =
-    ⊎_elim (λ (low : i < length xs). let there = slice_get-there xs i low in let two : ◌≡◌ {A = Option _} (Some there.0) None = sym there.1 ∙ none in absurd (cc))
-    (λ (le : length xs ≤ i). drop_all i xs le) (cases_lt i (length xs))
 
 -- ---- what may not come, and what came
 

@@ -9,6 +9,7 @@ use Rattle.std.proofs.lemmas.List.Folds.{list_any_none}
 use Rattle.std.proofs.lemmas.List.Kept.{IsStrictlyIncreasing-filter}
 use Rattle.base.proofs.MapLaws.{All-filter_map}
 use Rattle.base.proofs.OptionLaws.{option_map_some}
+use Rattle.base.proofs.ListLaws.{none_both, any_of_none}
 use Rattle.config_graph.specs.Graph.{Graph, ports, target_of}
 use Rattle.config_graph.specs.declared.node.Port.{Port}
 use Rattle.config_graph.specs.declared.node.Target.{Target}
@@ -22,7 +23,7 @@ use Rattle.quiesce_core.specs.State.{Configuration}
 use Rattle.quiesce_core.specs.declared.event.Event.{Event}
 use Rattle.quiesce_core.specs.declared.event.Event.TheVariants as event
 use Rattle.quiesce_laws.specs.Starts as starts
-use Rattle.change_spec.proofs.TestLaws.{none_both, none_mapped, range_rises}
+use Rattle.change_spec.proofs.TestLaws.{range_rises}
 use Rattle.report_follows.specs.Testing.{is_tellable}
 
 abbrev untold : Event → Bool
@@ -51,13 +52,13 @@ starts_are_tellable g =
     let all = enumerate_from 0 (ports g.nodes) in
     tellable_all (starts.start_of g)
     (none_both untold (map starts.make_of nodes ++ filter_map (starts.link_of g) all) (map starts.reopen_of all)
-    (none_both untold (map starts.make_of nodes) (filter_map (starts.link_of g) all) (none_mapped untold starts.make_of (λ x. refl) nodes) (links_are_told g all))
-    (none_mapped untold starts.reopen_of (λ x. refl) all))
+    (none_both untold (map starts.make_of nodes) (filter_map (starts.link_of g) all) (any_of_none untold starts.make_of (λ x. refl) nodes) (links_are_told g all))
+    (any_of_none untold starts.reopen_of (λ x. refl) all))
 
 work_is_told : (w : work.Work) → list_any untold (work.work_of w) ≡ false
 work_is_told w =
-    none_both untold (map event.Unlink w.unlinks) (map event.Remove w.removes ++ map work.make_new w.makes) (none_mapped untold event.Unlink (λ x. refl) w.unlinks)
-    (none_both untold (map event.Remove w.removes) (map work.make_new w.makes) (none_mapped untold event.Remove (λ x. refl) w.removes) (none_mapped untold work.make_new (λ x. refl) w.makes))
+    none_both untold (map event.Unlink w.unlinks) (map event.Remove w.removes ++ map work.make_new w.makes) (any_of_none untold event.Unlink (λ x. refl) w.unlinks)
+    (none_both untold (map event.Remove w.removes) (map work.make_new w.makes) (any_of_none untold event.Remove (λ x. refl) w.removes) (any_of_none untold work.make_new (λ x. refl) w.makes))
 
 pub commits_are_tellable : (old new : Graph) (plan : Plan) (c : Configuration) → list_all is_tellable (commit_events old new plan c) ≡ true
 commits_are_tellable old new plan c =
@@ -66,8 +67,8 @@ commits_are_tellable old new plan c =
     let opened = reopened_ports old new plan c in
     tellable_all (commit_events old new plan c)
     (none_both untold (commit_steps old new plan c) (map event.Reopen opened)
-    (none_both untold does (map work.link_new links) (work_is_told (commit.work old new plan c)) (none_mapped untold work.link_new (λ x. refl) links))
-    (none_mapped untold event.Reopen (λ x. refl) opened))
+    (none_both untold does (map work.link_new links) (work_is_told (commit.work old new plan c)) (any_of_none untold work.link_new (λ x. refl) links))
+    (any_of_none untold event.Reopen (λ x. refl) opened))
 
 pub live_ports_rise : (c : Configuration) → IsStrictlyIncreasing (live_ports c)
 live_ports_rise c = IsStrictlyIncreasing-filter (is_live_port c) (range_with_len 0 (length c.gates)) (range_rises 0 (length c.gates))

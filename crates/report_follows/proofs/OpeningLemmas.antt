@@ -1,5 +1,5 @@
 -- What a reader finds of the opening of a change, of a start and of a stop is there, and it finds what is there.
-use Rattle.std.proofs.Common.{◌≡◌, ◌∙◌, ℕ, true, false, ◌&&◌, List, [], ◌∷◌, ◌++◌, map, length, drop, take, Some, refl, sym, ap, ap₂}
+use Rattle.std.proofs.Common.{◌≡◌, ◌∙◌, ℕ, true, false, ◌&&◌, List, [], ◌∷◌, ◌++◌, map, length, drop, Some, refl, sym, ap, ap₂}
 use Rattle.std.specs.Prelude.{◌==◌, ◌↔◌, ℤ, IsTrue, bytes_eq, filter_map, option_and_then}
 use Rattle.std.specs.List.{list_all}
 use Rattle.std.specs.Cmp.Lexicographic.{pointwise}
@@ -79,13 +79,6 @@ all_dropped n ls e = ap (λ k. drop k ls) e ∙ all ls
     all : (xs : List HistoryLine) → drop (length xs) xs ≡ []
     all [] = refl
     all (x ∷ xs) = all xs
-
-all_taken : (n : ℕ) (ls : List HistoryLine) → n ≡ length ls → take n ls ≡ ls
-all_taken n ls e = ap (λ k. take k ls) e ∙ all ls
-  where
-    all : (xs : List HistoryLine) → take (length xs) xs ≡ xs
-    all [] = refl
-    all (x ∷ xs) = ap (λ ys. x ∷ ys) (all xs)
 
 told_all : (ports : List ℕ) (ls : List HistoryLine) → are_all_told ports ls ≡ true → (seen : List Seen) × (ls ≡ map drained_line seen) × AreSeen ports seen
 told_all ports ls h =

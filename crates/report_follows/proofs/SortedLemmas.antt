@@ -1,12 +1,12 @@
 -- A list that climbs and one that rises are one where they count the same: so what was seen is tested by sorting it.
 use Rattle.std.proofs.Common.{◌≡◌, ◌∙◌, ℕ, suc, ◌+◌, ◌≤◌, get_or, Bool, true, false, ◌||◌, cond, List, [], ◌∷◌, refl, sym, ap, subst, ⊎_elim, arith}
-use Rattle.std.specs.Prelude.{◌==◌, ◌↔◌, ◌++◌, Contains, IsTrue}
+use Rattle.std.specs.Prelude.{◌==◌, ◌↔◌, ◌++◌, IsTrue}
 use Rattle.std.specs.List.{count_by, list_all, list_any}
 use Rattle.std.specs.List.Sorted.{IsStrictlyIncreasing}
-use Rattle.std.proofs.lemmas.Bool.{and_from, both_ways, cases_Bool, eq-eqb, eqb-true, false_from_ne_true, or_cases, or_left, or_parts}
+use Rattle.std.proofs.lemmas.Bool.{and_from, both_ways, cases_Bool, eq-eqb, eqb-true, false_from_ne_true, or_left, or_parts}
 use Rattle.std.proofs.lemmas.List.Folds.{list_any-append}
 use Rattle.std.proofs.lemmas.List.Sums.{sum_by-cons}
-use Rattle.base.proofs.ContainsLaws.{Contains-here, Contains-there}
+use Rattle.base.proofs.ContainsLaws.{contained}
 use Rattle.base.proofs.ListLaws.{all_have, count_by-some, count_by-none}
 use Rattle.base.proofs.RisingLaws.{rise_tail}
 use Rattle.report_follows.specs.Fronts.{are_told_once}
@@ -77,13 +77,6 @@ one_sorted (x ∷ xs) (y ∷ ys) hx hy same =
 
 never : (p : ℕ) (xs : List ℕ) → list_any (λ q. q == p) xs ≡ false → of p xs ≡ 0
 never p xs h = count_by-none (λ q. q == p) xs h
-
-contained : (p : ℕ) (xs : List ℕ) → list_any (λ q. q == p) xs ≡ true → Contains xs p
-contained p [] h = absurd (both_ways false refl h)
-contained p (x ∷ xs) h = ⊎_elim
-    (λ (same : (x == p) ≡ true). subst (λ y. Contains (x ∷ xs) y) (eqb-true x p same) (Contains-here x xs))
-    (λ (later : list_any (λ q. q == p) xs ≡ true). Contains-there x p xs (contained p xs later))
-    (or_cases (x == p) (list_any (λ q. q == p) xs) h)
 
 pub once_if : (closed seen : List ℕ) → are_told_once closed seen ≡ true → (p : ℕ) → of p seen ≡ of p closed
 once_if closed seen h p = ⊎_elim

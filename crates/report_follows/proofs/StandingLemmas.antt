@@ -42,7 +42,6 @@ use Rattle.change_spec.specs.Statements as statements
 use Rattle.change_spec.specs.declared.steps.Replacement.{Replacement}
 use Rattle.change_spec.specs.declared.steps.Start.{Start}
 use Rattle.change_spec.proofs.PortLaws.{closed_links, closed_live, same_here}
-use Rattle.change_spec.proofs.TestLaws.{none_both, none_mapped}
 use Rattle.change_round_laws.proofs.AskedLaws.{asked_are_sound}
 use Rattle.change_round_laws.proofs.CommitGraphLaws.{CommitsLeaveGraphs, EachMayCommit}
 use Rattle.change_round_laws.proofs.LineLaws.{all_changes, changes, changes_both, changes_of_closes, changes_of_lines, changes_of_looks, changes_of_reopens, changes_of_roots, config_more, config_of, none_of_events}
@@ -56,6 +55,7 @@ use Rattle.report_follows.specs.Readers.{AllCommitted, IsBehind, IsEndedSo}
 use Rattle.report_follows.specs.Testing.{is_tellable}
 use Rattle.report_follows.proofs.ExpectedLemmas.{commits_are_tellable, starts_are_tellable}
 use Rattle.report_follows.proofs.LayingLemmas.{opened_links}
+use Rattle.base.proofs.ListLaws.{none_both, any_of_none}
 
 -- ---- what the laws say that are called
 
@@ -339,9 +339,9 @@ module _ (above : Above) (before : List HistoryLine) (g : Graph) (l : Layout) (c
     no_pending =
         none_both is_pending before lines (sym b.gave_up)
         (ap (list_any is_pending) x.are
-        ∙ none_both is_pending opening x.rest (none_mapped is_pending to.Close (λ p. refl) closed)
+        ∙ none_both is_pending opening x.rest (any_of_none is_pending to.Close (λ p. refl) closed)
         (ap (list_any is_pending) x.ends.are
-        ∙ none_both is_pending (map drained_line x.ends.seen) (lines_of_events events ++ to.Commit ∷ []) (none_mapped is_pending drained_line (λ d. refl) x.ends.seen)
+        ∙ none_both is_pending (map drained_line x.ends.seen) (lines_of_events events ++ to.Commit ∷ []) (any_of_none is_pending drained_line (λ d. refl) x.ends.seen)
         (none_both is_pending (lines_of_events events) (to.Commit ∷ []) (pends_none events) refl)))
 
     pub behind_commit : IsBehind (after_change above c can) (before ++ lines) c.graph next_ false

@@ -23,7 +23,7 @@ use Rattle.change_spec.specs.Scene.{AreSeen, config_after, drained_line}
 use Rattle.change_spec.specs.declared.steps.Replacement.{Replacement}
 use Rattle.change_spec.specs.declared.steps.Step.{Step}
 use Rattle.change_spec.specs.declared.steps.Step.TheVariants as steps
-use Rattle.change_spec.proofs.TestLaws.{none_both, range_rises}
+use Rattle.change_spec.proofs.TestLaws.{range_rises}
 use Rattle.change_round_laws.proofs.LineLaws.{changes, changes_both, config_more}
 use Rattle.change_lists.specs.Layouts.{IsLayoutOf, is_live_at, live_at}
 use Rattle.change_lists.specs.declared.layout.Layout.{Layout}
@@ -31,6 +31,7 @@ use Rattle.change_lists.proofs.LayoutLaws.{live_ports_are}
 use Rattle.merge_laws.specs.Reading.{IsChangeSo}
 use Rattle.report_follows.specs.Fronts.{HasNoFront, IsStopOf, LeadsTo}
 use Rattle.report_follows.specs.Readers.{CanGo, IsBehind, IsEndedSo, IsReadSo, IsStill, after_step, tried}
+use Rattle.base.proofs.ListLaws.{none_both}
 
 -- ---- where a reader stands
 

@@ -10,7 +10,8 @@ use Rattle.std.proofs.lemmas.List.Splits.{join_with_byte-slice_split, slice_spli
 use Rattle.report_lines.specs.Parts.{bracketed, closed, is_used_up, opened, two_of}
 use Rattle.report_lines.specs.ReportLines.{lacks}
 use Rattle.report_lines.proofs.TextLaws.{lacks_append, lacks_at}
-use Rattle.report_lines.proofs.NumberLemmas.{ended_is, when_some}
+use Rattle.report_lines.proofs.NumberLemmas.{ended_is}
+use Rattle.base.proofs.OptionLaws.{when_some}
 
 abbrev pub PartsLack : ℕ → List (List ℕ) → Type 0
 PartsLack at [] = Unit {0}

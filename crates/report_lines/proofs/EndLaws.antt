@@ -1,6 +1,7 @@
 -- For the proofs of crates above: the lines behind the logs of a report, and the words of lines that are written.
 use Rattle.std.proofs.Common.{◌≡◌, ◌<◌, ◌≤◌, ◌^◌, ℕ, true, List, [], ◌∷◌, ◌++◌, Some, None, codes, bytes_eq, decimal, refl, ap, ◌∙◌, arith, cond}
 use Rattle.base.proofs.BytesLaws.{same_bytes}
+use Rattle.base.proofs.OptionLaws.{when_some}
 use Rattle.report_writing.specs.Writing.{spaced, with_one}
 use Rattle.report_lines.proofs.TextLaws.{lacks_at}
 use Rattle.report_lines.specs.Ends.{status_in, unfinished_in}
@@ -8,7 +9,7 @@ use Rattle.report_lines.specs.Numbers.{max32, one_in}
 use Rattle.report_lines.specs.Parts.{words}
 use Rattle.report_lines.specs.ReportLines.{lacks}
 use Rattle.report_lines.proofs.EventLemmas.{words_are, words_of}
-use Rattle.report_lines.proofs.NumberLemmas.{decimal_unspaced, one_is, one_of, when_some}
+use Rattle.report_lines.proofs.NumberLemmas.{decimal_unspaced, one_is, one_of}
 
 says_one : (verb line first : List ℕ) (rest : List (List ℕ)) (most n : ℕ) → most < 2 ^ 64 → words line ≡ first ∷ rest → cond (bytes_eq first verb) (one_in most rest) None ≡ Some n
     → (line ≡ with_one verb n) × (n ≤ most)

@@ -5,6 +5,7 @@ use Rattle.std.specs.Prelude.{IfOk, Result, Ok, Err}
 use Rattle.std.proofs.Common.{◌≡◌, ◌<◌, ◌^◌, ℕ, ℤ, true, List, [], ◌∷◌, ◌++◌, Option, Some, None, IfSome, option_map, codes, bytes_eq, decimal, refl, sym, ap, subst, ◌∙◌, arith}
 use Rattle.base.proofs.BytesLaws.{same_bytes}
 use Rattle.base.proofs.FindLaws.{find_passes}
+use Rattle.base.proofs.OptionLaws.{when_some}
 use Rattle.config_graph.specs.GraphText.{kind_text}
 use Rattle.report_types.specs.declared.report.HistoryLine.{HistoryLine}
 use Rattle.report_types.specs.declared.report.HistoryLine.TheVariants as history
@@ -25,7 +26,7 @@ use Rattle.report_lines.specs.Parts.{is_used_up, words}
 use Rattle.report_lines.specs.Numbers.{max32, max64, one_in, three_in, two_in}
 use Rattle.report_lines.specs.Readings.{history_verbs, bare_bytes, bare_line, two_numbers_bytes, two_numbers_line, line_by, line_in, line_named, one_number_bytes, one_number_line, system_in, history_verb_bytes, history_verb_named}
 use Rattle.report_lines.specs.ReportLines.{IsLine, IsName, lacks}
-use Rattle.report_lines.proofs.NumberLemmas.{Unspaced, decimal_unspaced, ended_is, mapped, one_is, one_of, three_are, three_of, two_are, two_numbers_of, when_some}
+use Rattle.report_lines.proofs.NumberLemmas.{Unspaced, decimal_unspaced, ended_is, mapped, one_is, one_of, three_are, three_of, two_are, two_numbers_of}
 use Rattle.report_lines.proofs.EventLemmas.{AllUnspaced, words_are, words_of}
 use Rattle.report_lines.proofs.BracketLemmas.{PartsLack, split_lack}
 use Rattle.report_lines.proofs.IntegerLemmas.{args_lack}

@@ -4,6 +4,7 @@ use Rattle.std.proofs.lemmas.Option.{same_Some}
 use Rattle.std.proofs.Common.{◌≡◌, ℕ, List, [], ◌∷◌, ◌++◌, map, flat_map, Option, Some, None, option_map, codes, bytes_eq, decimal, refl, sym, ap, subst, ◌∙◌, arith, inl, inr}
 use Rattle.std.proofs.lemmas.Bool.{cond-true, cond-false, cases_Bool}
 use Rattle.base.proofs.BytesLaws.{same_bytes}
+use Rattle.base.proofs.OptionLaws.{when_some}
 use Rattle.report_types.specs.declared.report.Last.{Last}
 use Rattle.report_types.specs.declared.report.Last.TheVariants as lasts
 use Rattle.report_writing.specs.Reports.{ended, last_text}
@@ -13,7 +14,7 @@ use Rattle.report_lines.specs.Numbers.{max32, max64, one_in, plain}
 use Rattle.report_lines.specs.Readings.{last_in}
 use Rattle.report_lines.specs.ReportLines.{Are64, IsLast}
 use Rattle.report_lines.proofs.TextLaws.{line_is, lacks_at}
-use Rattle.report_lines.proofs.NumberLemmas.{mapped, one_is, one_of, plain_is, plain_of, when_some, decimal_unspaced}
+use Rattle.report_lines.proofs.NumberLemmas.{mapped, one_is, one_of, plain_is, plain_of, decimal_unspaced}
 use Rattle.report_lines.proofs.EventLemmas.{AllUnspaced, words_are, words_of}
 
 pub record Follows {A : Type 0} (o : Option A) (p : Option (List A)) (all : List A) : Type 0 where

@@ -1,7 +1,7 @@
 -- The lines that start, change and make.
 use Rattle.std.specs.List.{AllByRecursion}
 use Rattle.std.proofs.lemmas.Option.{same_Some}
-use Rattle.std.proofs.Common.{◌≡◌, ◌==◌, ◌<◌, not, cond, ℕ, ℤ, Bool, true, false, List, [], ◌∷◌, ◌++◌, length, Option, Some, None, IfSome, option_map, codes, bytes_eq, decimal, refl, sym, ap, subst, ◌∙◌, arith}
+use Rattle.std.proofs.Common.{◌≡◌, ◌==◌, ◌<◌, not, ℕ, ℤ, true, false, List, [], ◌∷◌, ◌++◌, length, Option, Some, None, IfSome, option_map, codes, bytes_eq, decimal, refl, sym, ap, subst, ◌∙◌, arith}
 use Rattle.std.specs.Option.{option_map_or, option_zip}
 use Rattle.std.proofs.lemmas.Bool.{and_from, and_parts, cond-false}
 use Rattle.std.proofs.lemmas.Bool.Decides.{nat_tests}
@@ -9,8 +9,8 @@ use Rattle.std.proofs.lemmas.Fmt.{decimal_is_IsNumeral}
 use Rattle.std.proofs.lemmas.List.{append-nil, append_assoc}
 use Rattle.base.proofs.BytesLaws.{same_bytes}
 use Rattle.base.proofs.FindLaws.{find_passes}
+use Rattle.base.proofs.OptionLaws.{unless_some, when_some}
 use Rattle.config_graph.specs.declared.kind.Kind.{Kind}
-use Rattle.config_graph.specs.declared.kind.Kind.TheVariants.{Philosopher, Place, Fork, Source, Map, Buffer, Sink, Teller, Branch, Account, Asker, Adder}
 use Rattle.config_graph.specs.Kinds.{kind_named, kinds, row}
 use Rattle.config_graph.specs.GraphText.{kind_text}
 use Rattle.config_graph.proofs.KindLaws.{kind_named-name}
@@ -19,18 +19,14 @@ use Rattle.report_writing.specs.Reports.{args_text, with_system}
 use Rattle.report_writing.specs.Writing.{from_words, spaced}
 use Rattle.change_script.specs.Written.{IsNumber}
 use Rattle.change_script.specs.StatementTexts.{IsInteger}
-use Rattle.report_lines.proofs.TextLaws.{lacks_append}
+use Rattle.report_lines.proofs.TextLaws.{lacks_append, kind_name_lacks}
 use Rattle.report_lines.specs.Parts.{bracketed, is_used_up}
 use Rattle.report_lines.specs.Numbers.{max32, one_in, plain}
 use Rattle.report_lines.specs.Readings.{arg_in, arguments_in, kind_in, kind_of_parts, made_in, make_in, make_line, make_of, source_in, system_in, system_of, typed_in}
 use Rattle.report_lines.specs.ReportLines.{IsName, IsPath, lacks}
-use Rattle.report_lines.proofs.NumberLemmas.{both_are, ended_is, mapped, one_is, one_of, plain_is, plain_of, when_some}
+use Rattle.report_lines.proofs.NumberLemmas.{both_are, ended_is, mapped, one_is, one_of, plain_is, plain_of}
 use Rattle.report_lines.proofs.BracketLemmas.{PartsLack, bracket_is, bracket_of, digits_lack}
 use Rattle.report_lines.proofs.IntegerLemmas.{args_lack, arguments_are, arguments_of}
-
-unless_some : {A : Type 0} (b : Bool) (o : Option A) (y : A) → cond b None o ≡ Some y → (b ≡ false) × (o ≡ Some y)
-unless_some true o y e = let never : ⊥ = cc in absurd never
-unless_some false o y e = (refl, e)
 
 lacks_front : (at : ℕ) (text more : List ℕ) → lacks at (text ++ more) ≡ true → lacks at text ≡ true
 lacks_front at [] more is = refl
@@ -227,25 +223,11 @@ pub inside_lacks : (at : ℕ) (arg : Option ℕ) → at < 48 → IfSome arg IsNu
 inside_lacks at None low small = refl
 inside_lacks at (Some n) low small = digits_lack at (decimal n) low (decimal_is_IsNumeral n (omega (arith, small))).0.1
 
-pub kind_lacks : (kind : Kind) → (lacks 40 (row kind).name ≡ true) × (lacks 32 (row kind).name ≡ true)
-kind_lacks Philosopher = (refl, refl)
-kind_lacks Place = (refl, refl)
-kind_lacks Fork = (refl, refl)
-kind_lacks Source = (refl, refl)
-kind_lacks Map = (refl, refl)
-kind_lacks Buffer = (refl, refl)
-kind_lacks Sink = (refl, refl)
-kind_lacks Teller = (refl, refl)
-kind_lacks Branch = (refl, refl)
-kind_lacks Account = (refl, refl)
-kind_lacks Asker = (refl, refl)
-kind_lacks Adder = (refl, refl)
-
 pub kind_of_written : (kind : Kind) (arg : Option ℕ) → IfSome arg IsNumber → kind_in (kind_text kind arg) ≡ Some (kind, arg)
 kind_of_written kind arg small =
     let inside = option_map_or decimal arg [] in
     ap kind_in (kind_bracket kind arg)
-    ∙ ap kind_of_parts (bracket_of (row kind).name inside (kind_lacks kind).0 (inside_lacks 40 arg (omega arith) small) (inside_lacks 41 arg (omega arith) small))
+    ∙ ap kind_of_parts (bracket_of (row kind).name inside (kind_name_lacks 40 (omega arith) kind) (inside_lacks 40 arg (omega arith) small) (inside_lacks 41 arg (omega arith) small))
     ∙ ap (λ k. option_zip k (arg_in inside)) (kind_named-name kind) ∙ ap (λ a. option_zip (Some kind) a) (arg_of arg small)
 
 source_of_written : (from : Option ℕ) → IfSome from IsNumber → source_in (from_words from) ≡ Some from
@@ -264,4 +246,4 @@ make_of_written slot path kind arg from small is arg_small from_small =
 
 pub kind_text_lacks : (kind : Kind) (arg : Option ℕ) → IfSome arg IsNumber → lacks 32 (kind_text kind arg) ≡ true
 kind_text_lacks kind arg small =
-    subst (λ text. lacks 32 text ≡ true) (sym (kind_bracket kind arg)) (bracket_lacks (row kind).name (option_map_or decimal arg []) (kind_lacks kind).1 (inside_lacks 32 arg (omega arith) small))
+    subst (λ text. lacks 32 text ≡ true) (sym (kind_bracket kind arg)) (bracket_lacks (row kind).name (option_map_or decimal arg []) (kind_name_lacks 32 (omega arith) kind) (inside_lacks 32 arg (omega arith) small))

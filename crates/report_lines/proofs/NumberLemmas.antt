@@ -1,5 +1,5 @@
 -- Which words write which numbers.
-use Rattle.std.proofs.Common.{◌≡◌, ◌==◌, ◌<◌, ◌≤◌, ◌^◌, ◌&&◌, ◌||◌, not, cond, nat_le, ℕ, zero, suc, Bool, true, false, List, [], ◌∷◌, length, get_or, Option, Some, None, option_map, decimal, refl, sym, ap, ◌∙◌, arith}
+use Rattle.std.proofs.Common.{◌≡◌, ◌==◌, ◌<◌, ◌≤◌, ◌^◌, ◌&&◌, ◌||◌, not, nat_le, ℕ, zero, suc, true, false, List, [], ◌∷◌, length, get_or, Option, Some, None, option_map, decimal, refl, sym, ap, ◌∙◌, arith}
 use Rattle.std.proofs.lemmas.Option.{same_Some}
 use Rattle.std.specs.Option.{option_zip}
 use Rattle.std.specs.List.{All, list_all}
@@ -13,10 +13,7 @@ use Rattle.std.proofs.lemmas.Str.Parse.{numerals_by_value, tells_all_ascii_digit
 use Rattle.report_lines.specs.Parts.{before, is_used_up}
 use Rattle.report_lines.specs.Numbers.{is_plain, max32, one_in, plain, three_in, two_in, within}
 use Rattle.base.proofs.NumberLaws.{at_most}
-
-pub when_some : {A : Type 0} (b : Bool) (o : Option A) (y : A) → cond b o None ≡ Some y → (b ≡ true) × (o ≡ Some y)
-when_some true o y e = (refl, e)
-when_some false o y e = let never : ⊥ = cc in absurd never
+use Rattle.base.proofs.OptionLaws.{when_some}
 
 pub record Mapped {A B : Type 0} (f : A → B) (o : Option A) (y : B) : Type 0 where
   pub value : A

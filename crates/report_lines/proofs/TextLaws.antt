@@ -3,9 +3,13 @@ use Rattle.std.proofs.Common.{◌≡◌, ◌==◌, ◌<◌, not, zero, suc, ℕ,
 use Rattle.std.proofs.lemmas.Bool.{and_from, and_parts}
 use Rattle.std.proofs.lemmas.Bool.Decides.{nat_tests}
 use Rattle.std.proofs.lemmas.List.{length-append}
+use Rattle.std.specs.List.{list_all}
 use Rattle.base.proofs.PlaceLaws.{heads_are, tails_are}
 use Rattle.report_writing.specs.Reports.{ended}
 use Rattle.report_lines.specs.ReportLines.{lacks}
+use Rattle.config_graph.specs.declared.kind.Kind.{Kind}
+use Rattle.config_graph.specs.Kinds.{row}
+use Rattle.config_graph.proofs.KindLaws.{is_letter, letter_is_not, kind_names_are_letters}
 
 not_byte : (byte at : ℕ) → not (byte == at) ≡ true → (byte == at) ≡ false
 not_byte byte at is = grind (arith, nat_tests)
@@ -28,3 +32,13 @@ line_is [] (byte ∷ bytes) e = let long : length (ended []) ≡ length (ended (
 line_is (byte ∷ bytes) [] e = let long : length (ended (byte ∷ bytes)) ≡ length (ended []) = ap length e in absurd (omega (arith, length-append bytes (codes "\n")))
 line_is (byte ∷ bytes) (first ∷ more) e =
     ap (λ b. b ∷ bytes) (heads_are byte first (ended bytes) (ended more) e) ∙ ap (λ l. first ∷ l) (line_is bytes more (tails_are byte first (ended bytes) (ended more) e))
+
+-- what is of letters lacks each byte below them, so the name of a kind does
+pub letters_lack : (at : ℕ) → at < 97 → (text : List ℕ) → list_all is_letter text ≡ true → lacks at text ≡ true
+letters_lack at low [] letters = refl
+letters_lack at low (b ∷ bs) letters =
+    let both = and_parts (is_letter b) (list_all is_letter bs) letters in
+    and_from (not (b == at)) (lacks at bs) (letter_is_not at b low both.0) (letters_lack at low bs both.1)
+
+pub kind_name_lacks : (at : ℕ) → at < 97 → (k : Kind) → lacks at (row k).name ≡ true
+kind_name_lacks at low k = letters_lack at low (row k).name (kind_names_are_letters k)

@@ -26,7 +26,6 @@ use Rattle.config_graph.specs.Kinds.{Provision, row}
 use Rattle.config_graph.specs.Sound.{HasItsArgument}
 use Rattle.config_graph.specs.declared.TheConstants.{VALUE_LIMIT}
 use Rattle.config_graph.specs.declared.kind.Kind.{Kind}
-use Rattle.config_graph.specs.declared.kind.Kind.TheVariants.{Philosopher, Place, Fork, Source, Map, Buffer, Sink, Teller, Branch, Account, Asker, Adder}
 use Rattle.config_graph.specs.declared.node.Link.{Link}
 use Rattle.config_graph.specs.declared.node.Node.{Node}
 use Rattle.config_graph.specs.declared.node.Port.{Port}
@@ -36,10 +35,11 @@ use Rattle.config_graph.proofs.NumberingLaws.{provides_at-le}
 use Rattle.config_graph.proofs.OrderLaws.{links_in-targets}
 use Rattle.config_graph.proofs.PathLaws.{found_path}
 use Rattle.config_graph.proofs.TextLaws.{Free, provide_name_dot, provide_name_line, require_name_line, require_name_space}
+use Rattle.config_graph.proofs.KindLaws.{is_letter, provision_names_are_letters}
 use Rattle.report_writing.specs.Reports.{ended}
 use Rattle.report_writing.specs.Writing.{spaced}
 use Rattle.change_script.specs.Written.{IsNumber}
-use Rattle.report_lines.proofs.TextLaws.{lacks_append}
+use Rattle.report_lines.proofs.TextLaws.{lacks_append, kind_name_lacks, letters_lack}
 use Rattle.report_lines.specs.GraphLines.{is_graph_line, node_in, target_in}
 use Rattle.report_lines.specs.Parts.{words}
 use Rattle.report_lines.specs.ReportLines.{lacks}
@@ -112,20 +112,6 @@ lacks_free : (at : ℕ) (text : List ℕ) → Free at text → lacks at text ≡
 lacks_free at [] free = refl
 lacks_free at (b ∷ bs) free = and_from (not (b == at)) (lacks at bs) (not_feed b at (free 0 b (omega arith))) (lacks_free at bs (λ k d low. free (suc k) d (omega arith)))
 
-kind_name_lacks : (kind : Kind) → lacks 10 (row kind).name ≡ true
-kind_name_lacks Philosopher = refl
-kind_name_lacks Place = refl
-kind_name_lacks Fork = refl
-kind_name_lacks Source = refl
-kind_name_lacks Map = refl
-kind_name_lacks Buffer = refl
-kind_name_lacks Sink = refl
-kind_name_lacks Teller = refl
-kind_name_lacks Branch = refl
-kind_name_lacks Account = refl
-kind_name_lacks Asker = refl
-kind_name_lacks Adder = refl
-
 arg_lacks : (arg : Option ℕ) → IfSome arg IsNumber → lacks 10 (option_map_or decimal arg []) ≡ true
 arg_lacks None small = refl
 arg_lacks (Some a) small = decimal_lacks a (omega (arith, small))
@@ -133,21 +119,7 @@ arg_lacks (Some a) small = decimal_lacks a (omega (arith, small))
 kind_text_lacks : (kind : Kind) (arg : Option ℕ) → IfSome arg IsNumber → lacks 10 (kind_text kind arg) ≡ true
 kind_text_lacks kind arg small =
     lacks_append 10 (((row kind).name ++ codes "(") ++ option_map_or decimal arg []) (codes ")")
-    (lacks_append 10 ((row kind).name ++ codes "(") (option_map_or decimal arg []) (lacks_append 10 (row kind).name (codes "(") (kind_name_lacks kind) refl) (arg_lacks arg small)) refl
-
-provisions_unspaced : (k : Kind) → list_all (λ (p : Provision). lacks 32 p.name) (row k).provides ≡ true
-provisions_unspaced Philosopher = refl
-provisions_unspaced Place = refl
-provisions_unspaced Fork = refl
-provisions_unspaced Source = refl
-provisions_unspaced Map = refl
-provisions_unspaced Buffer = refl
-provisions_unspaced Sink = refl
-provisions_unspaced Teller = refl
-provisions_unspaced Branch = refl
-provisions_unspaced Account = refl
-provisions_unspaced Asker = refl
-provisions_unspaced Adder = refl
+    (lacks_append 10 ((row kind).name ++ codes "(") (option_map_or decimal arg []) (lacks_append 10 (row kind).name (codes "(") (kind_name_lacks 10 (omega arith) kind) refl) (arg_lacks arg small)) refl
 
 provide_name_word : (k : Kind) (x : ℕ) → lacks 32 (provide_name k x) ≡ true
 provide_name_word k x = by (slice_get (row k).provides x) refl
@@ -157,7 +129,7 @@ provide_name_word k x = by (slice_get (row k).provides x) refl
     by (Some p) e =
         let low = slice_get_within (row k).provides x p e in
         let read : get_or (row k).provides x p ≡ p = get_or_from_slice_get (row k).provides x p p e in
-        ap (λ (q : Provision). lacks 32 q.name) (sym read) ∙ AllPass-from_list_all (λ (q : Provision). lacks 32 q.name) (row k).provides (provisions_unspaced k) x p low
+        ap (λ (q : Provision). lacks 32 q.name) (sym read) ∙ letters_lack 32 (omega arith) (get_or (row k).provides x p).name (AllPass-from_list_all (λ (q : Provision). list_all is_letter q.name) (row k).provides (provision_names_are_letters k) x p low)
 
 -- a text of two parts at a dot has neither byte where they haven't
 end_lacks : (at : ℕ) (path name : List ℕ) → not (46 == at) ≡ true → lacks at path ≡ true → lacks at name ≡ true → lacks at (end_text path name) ≡ true

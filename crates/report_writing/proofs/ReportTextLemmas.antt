@@ -1,6 +1,6 @@
 -- The text of a report as it is written line by line, and the path of a slot as it is looked up.
-use Rattle.std.proofs.Common.{◌≡◌, ◌==◌, ℕ, ◌+◌, ◌<◌, Bool, true, List, [], ◌∷◌, ◌++◌, length, take, get_or, map, Option, Some, refl, sym, ◌∙◌, ap, subst, arith}
-use Rattle.std.specs.Prelude.{Contains, filter, find, flat_map, slice_get, filter_map, option_to_list, None}
+use Rattle.std.proofs.Common.{◌≡◌, ◌==◌, ℕ, ◌+◌, ◌<◌, List, [], ◌∷◌, ◌++◌, length, take, get_or, map, Option, Some, refl, sym, ◌∙◌, ap}
+use Rattle.std.specs.Prelude.{filter, flat_map, slice_get, filter_map, option_to_list, None}
 use Rattle.std.specs.Option.{option_map_or}
 use Rattle.std.proofs.lemmas.Bool.{eq-eqb}
 use Rattle.std.proofs.lemmas.List.{take_more}
@@ -11,27 +11,13 @@ use Rattle.report_writing.specs.MadeNodes.{slot_path_of}
 use Rattle.report_writing.specs.Reports.{SlotPath, made_by, path_in}
 use Rattle.base.proofs.PlaceLaws.{slice_get-map_at}
 use Rattle.base.proofs.LinesLaws.{lines_more}
-use Rattle.base.proofs.ContainsLaws.{Contains-at, Contains-filter, Contains-one}
-use Rattle.base.proofs.FindLaws.{find-only}
+use Rattle.base.proofs.FindLaws.{only_found}
 
 -- one line more, of an element that owns memory
 pub line_more : {A : Type 0} (line : A → List ℕ) (xs : List A) (old so_far new : List ℕ) (i : ℕ) (x : A) → i < length xs → x ≡ get_or xs i x
     → so_far ≡ old ++ flat_map line (take i xs) → new ≡ so_far ++ line x → new ≡ old ++ flat_map line (take (i + 1) xs)
 line_more line xs old so_far new i x low is so_far_is new_is =
     lines_more line xs old so_far new i x low so_far_is (new_is ∙ ap (λ y. so_far ++ line y) is)
-
-one_member : {A : Type 0} (xs : List A) → length xs ≡ 1 → (x : A) × (xs ≡ x ∷ [])
-one_member [] is = absurd (omega arith)
-one_member (x ∷ []) is = (x, let e : x ∷ [] ≡ x ∷ [] = cc in e)
-one_member (x ∷ y ∷ more) is = absurd (omega arith)
-
--- what stands at a place and passes is found, where nothing else passes
-pub only_found : {A : Type 0} (p : A → Bool) (xs : List A) (i : ℕ) (x : A) → length (filter p xs) ≡ 1 → slice_get xs i ≡ Some x → p x ≡ true → find p xs ≡ Some x
-only_found p xs i x one at passes =
-    let there = Contains-at xs i x at in
-    let all = one_member (filter p xs) one in
-    let is : (y : _) → Contains xs y → p y ≡ true → y ≡ all.0 = λ y has holds. Contains-one all.0 y (subst (λ l. Contains l y) all.1 (Contains-filter p xs y has holds)) in
-    find-only p xs x there passes (λ y has holds. is y has holds ∙ sym (is x there passes))
 
 -- what a list with one member more gives
 gives_one : {A B : Type 0} (f : A → Option B) (x : A) (o : Option B) → f x ≡ o → filter_map f (x ∷ []) ≡ option_to_list o

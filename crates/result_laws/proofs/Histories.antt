@@ -9,6 +9,7 @@ use Rattle.std.proofs.lemmas.List.Elements.{All-head}
 use Rattle.base.specs.Each.{Each, EachAfter}
 use Rattle.base.proofs.ContainsLaws.{Contains-cons_cases, Contains-nil}
 use Rattle.base.proofs.EachLaws.{each_joined}
+use Rattle.base.proofs.ListLaws.{all_parts, none_both}
 use Rattle.config_graph.specs.Graph.{Graph, ports, target_of}
 use Rattle.config_graph.specs.declared.kind.Kind.{Kind}
 use Rattle.config_graph.specs.declared.kind.Kind.TheVariants.{Sink, Source}
@@ -37,8 +38,6 @@ use Rattle.change_spec.specs.Follows.{IsRight, Part, lines_of}
 use Rattle.change_spec.specs.Members.{is_pending, lines_of_events}
 use Rattle.change_spec.specs.Scene.{Seen, config_after, drained_line, root_line}
 use Rattle.change_spec.specs.Statements.{Statement, start, change, run, finish, show}
-use Rattle.change_spec.proofs.MemberLaws.{all_parts}
-use Rattle.change_spec.proofs.TestLaws.{none_both}
 use Rattle.change_round_laws.specs.SoundStatements.{GoOnSoundly, IsSoundGraph, named_by}
 use Rattle.change_round_laws.proofs.CommitGraphLaws.{AreRightAfter, CommitsByConfiguration, CommitsLeaveGraphs, EachMayCommit, Fits, Onward, onward}
 use Rattle.change_round_laws.proofs.LineLaws.{changes, changes_both, changes_of_closes, changes_of_lines, changes_of_looks, changes_of_reopens, changes_of_roots, config_of}

@@ -6,6 +6,7 @@ use Rattle.std.proofs.lemmas.Bool.{both_ways}
 use Rattle.std.proofs.lemmas.List.Elements.{All-head}
 use Rattle.std.proofs.lemmas.Option.{same_Some}
 use Rattle.base.proofs.PlaceLaws.{heads_are, tails_are}
+use Rattle.base.proofs.ListLaws.{all_parts}
 use Rattle.config_graph.specs.Graph.{Graph}
 use Rattle.quiesce_core.specs.Doers.{is_of_change}
 use Rattle.quiesce_core.specs.Live.{IsGraphOf}
@@ -19,7 +20,6 @@ use Rattle.change_spec.specs.Follows.{Follows}
 use Rattle.change_spec.specs.Lawful.{IsOfItsKind, Merge}
 use Rattle.change_spec.specs.Members.{Member, by_node, of_history, event_in, event_of, events}
 use Rattle.change_spec.specs.Statements.{Statement}
-use Rattle.change_spec.proofs.MemberLaws.{all_parts}
 use Rattle.change_round_laws.specs.SoundStatements.{AreSound}
 use Rattle.change_round_laws.proofs.CommitGraphLaws.{CommitsByConfiguration, CommitsLeaveGraphs, EachMayCommit}
 use Rattle.result_laws.specs.Describing.{Describes}

@@ -7,6 +7,7 @@ use Rattle.std.proofs.lemmas.List.Elements.{All-cons, All-nil, filter-append}
 use Rattle.base.proofs.ContainsLaws.{Contains-here, Contains-there}
 use Rattle.base.specs.Each.{Each, EachAfter}
 use Rattle.base.proofs.EachLaws.{each_at}
+use Rattle.base.proofs.ListLaws.{all_parts}
 use Rattle.config_graph.specs.Graph.{Graph}
 use Rattle.quiesce_laws.specs.Steps.{change_all}
 use Rattle.quiesce_core.specs.Doers.{is_of_change}
@@ -20,7 +21,7 @@ use Rattle.change_spec.specs.Follows.{Follows}
 use Rattle.change_spec.specs.Lawful.{IsOfItsKind, Merge}
 use Rattle.change_spec.specs.Members.{Member, of_history, events, is_root, lines, state_at, without_roots}
 use Rattle.change_spec.specs.Statements.{Statement, graph_of}
-use Rattle.change_spec.proofs.MemberLaws.{all_parts, changes_are_lines, config_of_lines, events_without_roots, lines_parts}
+use Rattle.change_spec.proofs.MemberLaws.{changes_are_lines, config_of_lines, events_without_roots, lines_parts}
 use Rattle.change_spec.specs.Scene.{config_after}
 use Rattle.change_round_laws.specs.SoundStatements.{AreSound}
 use Rattle.change_round_laws.proofs.AloneLaws.{changes_run}

@@ -8,6 +8,7 @@ use Rattle.std.proofs.lemmas.Grind.{flat_map-append}
 use Rattle.std.proofs.lemmas.List.Elements.{All-head, filter_map-append}
 use Rattle.base.specs.Each.{Each, EachAfter}
 use Rattle.base.proofs.EachLaws.{each_joined}
+use Rattle.base.proofs.ListLaws.{all_parts, none_both, any_of_none}
 use Rattle.config_graph.specs.Graph.{Graph, ports, target_of}
 use Rattle.config_graph.specs.declared.node.Target.{Target}
 use Rattle.change_plan.specs.declared.plan_data.Plan.{Plan}
@@ -32,8 +33,6 @@ use Rattle.change_spec.specs.Follows.{Follows, IsRight, Part, lines_of, start_li
 use Rattle.change_spec.specs.Members.{is_pending, line_of, lines_of_events}
 use Rattle.change_spec.specs.Scene.{Seen, config_after, drained_line, root_line}
 use Rattle.change_spec.specs.Statements.{Statement, start, change, run, finish, show}
-use Rattle.change_spec.proofs.MemberLaws.{all_parts}
-use Rattle.change_spec.proofs.TestLaws.{none_both, none_mapped}
 use Rattle.change_round_laws.specs.SoundStatements.{AreSound, GoOnSoundly}
 use Rattle.change_round_laws.proofs.CommitGraphLaws.{AreRightAfter, CommitsByConfiguration, CommitsLeaveGraphs, EachMayCommit, Fits, Onward, begun, onward}
 use Rattle.change_round_laws.proofs.LineLaws.{changes, changes_both, config_of, none_of_events}
@@ -140,7 +139,7 @@ module _ (each_may : EachMayCommit) (by_config : CommitsByConfiguration) (leaves
   named_on h ls goes calm n = record { graph = n.graph; has = n.has; stands = graph_on h ls n.graph goes calm n.stands }
 
   quiet_map : {A : Type 0} (t : HistoryLine → Bool) (f : A → HistoryLine) → ((x : A) → t (f x) ≡ false) → (xs : List A) → list_any t (map f xs) ≡ false
-  quiet_map t f h xs = none_mapped t f h xs
+  quiet_map t f h xs = any_of_none t f h xs
 
   -- nothing is shaped by closes, looks, roots and reopens
   calm_map : {A : Type 0} (f : A → HistoryLine) → ((x : A) (es : List Event) → list_any is_shaping (cons_option (Rattle.change_spec.specs.Members.event_of (f x)) es) ≡ list_any is_shaping es) → (xs : List A) → list_any is_shaping (changes (map f xs)) ≡ false
@@ -183,8 +182,8 @@ module _ (each_may : EachMayCommit) (by_config : CommitsByConfiguration) (leaves
       are ∙ ap (λ xs. o ++ (drained_lines looks ++ (xs ++ to.Commit ∷ []))) ev ∙ ap (λ xs. o ++ (drained_lines looks ++ xs)) (append_assoc steps (map to.Reopen opened) (to.Commit ∷ []))
       ∙ ap (λ xs. o ++ xs) (sym (append_assoc (drained_lines looks) steps last_)) ∙ sym (append_assoc o (drained_lines looks ++ steps) last_) in
       let none_ : list_any is_reopening front ≡ false =
-      none_both is_reopening o (drained_lines looks ++ steps) (none_mapped is_reopening to.Close (λ p. refl) (ports_to_close old plan c))
-      (none_both is_reopening (drained_lines looks) steps (none_mapped is_reopening drained_line (λ x. refl) (seen_in_all looks)) (none_in_steps old new plan d)) in
+      none_both is_reopening o (drained_lines looks ++ steps) (any_of_none is_reopening to.Close (λ p. refl) (ports_to_close old plan c))
+      (none_both is_reopening (drained_lines looks) steps (any_of_none is_reopening drained_line (λ x. refl) (seen_in_all looks)) (none_in_steps old new plan d)) in
       let goes' = subst (λ xs. IsRun (changes (h ++ xs))) whole goes in
       subst (EachAfter (Opens P) h) (sym whole)
       (three P h front opened (to.Commit ∷ []) new has none_ refl goes'
@@ -205,8 +204,8 @@ module _ (each_may : EachMayCommit) (by_config : CommitsByConfiguration) (leaves
       let last_ = map to.Reopen closed ++ to.Abandon ∷ [] in
       let whole : ls ≡ front ++ last_ = are ∙ ap (λ xs. o ++ (drained_lines looks ++ xs)) (append_assoc (to.Pending within ∷ map root_line left) (map to.Reopen closed) (to.Abandon ∷ [])) ∙ ap (λ xs. o ++ xs) (sym (append_assoc (drained_lines looks) (to.Pending within ∷ map root_line left) last_)) ∙ sym (append_assoc o middle last_) in
       let none_ : list_any is_reopening front ≡ false =
-      none_both is_reopening o middle (none_mapped is_reopening to.Close (λ p. refl) (ports_to_close old plan c))
-      (none_both is_reopening (drained_lines looks) (to.Pending within ∷ map root_line left) (none_mapped is_reopening drained_line (λ x. refl) (seen_in_all looks)) (none_mapped is_reopening root_line (λ x. refl) left)) in
+      none_both is_reopening o middle (any_of_none is_reopening to.Close (λ p. refl) (ports_to_close old plan c))
+      (none_both is_reopening (drained_lines looks) (to.Pending within ∷ map root_line left) (any_of_none is_reopening drained_line (λ x. refl) (seen_in_all looks)) (any_of_none is_reopening root_line (λ x. refl) left)) in
       let calm : list_any is_shaping (changes front) ≡ false =
       calm_both o middle (calm_map to.Close (λ x es. refl) (ports_to_close old plan c))
       (calm_both (drained_lines looks) (to.Pending within ∷ map root_line left) (calm_map drained_line (λ x es. refl) (seen_in_all looks)) (calm_map root_line (λ x es. refl) left)) in
@@ -259,8 +258,8 @@ module _ (each_may : EachMayCommit) (by_config : CommitsByConfiguration) (leaves
           let are = w.are ∙ ap (λ xs. o ++ xs) e.are in
           let ev = commit_events w.old new w.plan d in
           let none_ : list_any is_pending (o ++ (drained_lines e.looks ++ (lines_of_events ev ++ to.Commit ∷ []))) ≡ false =
-          none_both is_pending o (drained_lines e.looks ++ (lines_of_events ev ++ to.Commit ∷ [])) (none_mapped is_pending to.Close (λ p. refl) (ports_to_close w.old w.plan (config_after h)))
-          (none_both is_pending (drained_lines e.looks) (lines_of_events ev ++ to.Commit ∷ []) (none_mapped is_pending drained_line (λ x. refl) (seen_in_all e.looks))
+          none_both is_pending o (drained_lines e.looks ++ (lines_of_events ev ++ to.Commit ∷ [])) (any_of_none is_pending to.Close (λ p. refl) (ports_to_close w.old w.plan (config_after h)))
+          (none_both is_pending (drained_lines e.looks) (lines_of_events ev ++ to.Commit ∷ []) (any_of_none is_pending drained_line (λ x. refl) (seen_in_all e.looks))
           (none_both is_pending (lines_of_events ev) (to.Commit ∷ []) (none_of_events is_pending pendless ev) refl)) in
           let whole : list_any is_pending (h ++ ls) ≡ false = none_both is_pending h ls tried (ap (list_any is_pending) are ∙ none_) in
           let stands = subst (IsGraphOf (config_after (h ++ ls))) first.named (first.fits.stands whole).graph in
@@ -347,6 +346,6 @@ module _ (each_may : EachMayCommit) (by_config : CommitsByConfiguration) (leaves
       let first = lines_of f.parts in
       let live = live_ports (config_after first) in
       let none_ : list_any is_reopening f.stop ≡ false =
-      ap (list_any is_reopening) f.stops.are ∙ none_both is_reopening (map to.Close live) (map drained_line f.stops.seen) (none_mapped is_reopening to.Close (λ p. refl) live) (none_mapped is_reopening drained_line (λ d. refl) f.stops.seen) in
+      ap (list_any is_reopening) f.stops.are ∙ none_both is_reopening (map to.Close live) (map drained_line f.stops.seen) (any_of_none is_reopening to.Close (λ p. refl) live) (any_of_none is_reopening drained_line (λ d. refl) f.stops.seen) in
       subst (Each (Opens P)) f.history_is
       (each_joined (Opens P) [] first f.stop (first_opens history sound all f goes).0 (free P first f.stop none_))

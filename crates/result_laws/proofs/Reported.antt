@@ -1,5 +1,5 @@
 -- The sums that a report tells are those of the books.
-use Rattle.std.proofs.Common.{◌≡◌, ◌∙◌, ℕ, ◌+◌, Bool, true, false, cond, List, [], ◌∷◌, length, map, filter, Option, Some, None, refl, sym, ap, subst, arith, ⊎_elim}
+use Rattle.std.proofs.Common.{◌≡◌, ◌∙◌, ℕ, ◌+◌, Bool, true, false, cond, List, [], ◌∷◌, length, filter, Option, Some, None, refl, sym, ap, subst, arith, ⊎_elim}
 use Rattle.std.specs.Prelude.{◌==◌, ◌||◌, Contains, filter_map, is_some, slice_get, sum_by, unwrap_or}
 use Rattle.std.specs.List.{cons_option, list_any, range_with_len}
 use Rattle.std.specs.Option.{option_map_or}
@@ -9,10 +9,11 @@ use Rattle.std.proofs.lemmas.List.Folds.{list_any-append}
 use Rattle.std.proofs.lemmas.List.Sums.{sum_by-cons}
 use Rattle.std.proofs.lemmas.Option.{slice_get_within}
 use Rattle.std.proofs.lemmas.Map.Keys.{any_passes_from_place}
-use Rattle.base.proofs.ContainsLaws.{Contains-filter_map, Contains-here, Contains-there}
+use Rattle.base.proofs.ContainsLaws.{Contains-filter_map}
 use Rattle.base.proofs.FindLaws.{find_passes, is_some-find_from}
 use Rattle.base.proofs.OptionLaws.{Some-from_is_some}
-use Rattle.base.proofs.SumLaws.{sum_same}
+use Rattle.base.proofs.SumLaws.{sum_same, sum_both, sum_each, sum_mapped}
+use Rattle.base.proofs.PlaceLaws.{any_there}
 use Rattle.config_graph.specs.declared.kind.Kind.TheVariants.{Account, Fork}
 use Rattle.config_graph.specs.declared.node.Node.{Node}
 use Rattle.component_trait.specs.States.{NodeState, at_rest, nothing}
@@ -20,7 +21,6 @@ use Rattle.component_trait.specs.States as node
 use Rattle.component_trait.specs.Tables.{numbers}
 use Rattle.quiesce_word.specs.Phases.{is_idle}
 use Rattle.quiesce_word.proofs.PhaseLaws.{serving_busy}
-use Rattle.quiesce_laws.proofs.MemberLaws.{any_there}
 use Rattle.quiesce_core.specs.Alters.{slot_next}
 use Rattle.quiesce_core.specs.Doers.{is_make, is_of_change}
 use Rattle.quiesce_core.specs.Effect.{effect}
@@ -230,20 +230,6 @@ moved_so history n = ⊎_elim
         let w = any_there (is_made_from n j) history any in
         let t = takes_over n j w.1 w.3 in
         any_passes_from_place (gives_line n) history w.0 (to.Make t.0 t.1 (Some n)) (w.2 ∙ ap Some t.2) (eq-eqb n n refl)
-
--- ---- sums over logs
-
-sum_both : {A : Type 0} (f g h : A → ℕ) → ((x : A) → f x + g x ≡ h x) → (xs : List A) → sum_by f xs + sum_by g xs ≡ sum_by h xs
-sum_both f g h same [] = omega arith
-sum_both f g h same (x ∷ xs) = let a = sum_by-cons f x xs in let b = sum_by-cons g x xs in let c = sum_by-cons h x xs in let later = sum_both f g h same xs in let here = same x in omega (arith, a, b, c, later, here)
-
-sum_each : {A : Type 0} (f g : A → ℕ) (xs : List A) → ((x : A) → Contains xs x → f x ≡ g x) → sum_by f xs ≡ sum_by g xs
-sum_each f g [] same = refl
-sum_each f g (x ∷ xs) same = sum_by-cons f x xs ∙ (λ i. same x (Contains-here x xs) i + sum_each f g xs (λ y there. same y (Contains-there x y xs there)) i) ∙ sym (sum_by-cons g x xs)
-
-sum_mapped : {A B : Type 0} (f : A → B) (g : B → ℕ) (xs : List A) → sum_by (λ x. g (f x)) xs ≡ sum_by g (map f xs)
-sum_mapped f g [] = refl
-sum_mapped f g (x ∷ xs) = sum_by-cons (λ x. g (f x)) x xs ∙ ap (λ k. g (f x) + k) (sum_mapped f g xs) ∙ sym (sum_by-cons g (f x) (map f xs))
 
 -- what a log tells of an account, live or gone
 log_tells : List HistoryLine → NodeLog → ℕ

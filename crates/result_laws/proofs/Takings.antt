@@ -9,6 +9,7 @@ use Rattle.std.proofs.lemmas.Map.Keys.{any_passes_from_place}
 use Rattle.base.proofs.ContainsLaws.{Contains-filter, Contains-nil, any_if}
 use Rattle.base.proofs.FindLaws.{is_some-position}
 use Rattle.base.proofs.OptionLaws.{Some-from_is_some}
+use Rattle.base.proofs.RangeLaws.{Contains-places}
 use Rattle.config_graph.specs.Cycles.{IsLinked}
 use Rattle.config_graph.specs.Graph.{Graph}
 use Rattle.config_graph.specs.declared.kind.Kind.{Kind}
@@ -21,7 +22,7 @@ use Rattle.change_plan.specs.Plans.{IsPlanOf}
 use Rattle.change_plan.specs.declared.plan_data.Move.{Move}
 use Rattle.change_plan.specs.declared.plan_data.Plan.{Plan}
 use Rattle.change_plan.specs.declared.plan_data.Shift.{Shift}
-use Rattle.change_plan.proofs.SelectsLaws.{Contains-places, Selects-has}
+use Rattle.change_plan.proofs.SelectsLaws.{Selects-has}
 use Rattle.change_plan.proofs.StepLaws.{unlinked}
 use Rattle.change_plan_laws.specs.Commit.{is_at, is_one_of, is_unlinked_by, node_path, ports_where, slot_at, slots_where, source_of, stands_in}
 use Rattle.change_plan_laws.proofs.StandingLaws.{in_if_stands, stands_if_slot}

@@ -10,6 +10,16 @@ use config_graph::{Kind, NoMemory};
 use kinds_flow::{Account, Adder, Asker, Branch, Buffer, Map, Sink, Source, Teller};
 use kinds_phil::{Fork, Philosopher, Place};
 
+/// What the node itself says, at the kinds whose type has the call, and what holds of all nodes of the others.
+macro_rules! by_kind {
+    ($node:expr, $call:ident $values:tt; $($own:ident)*; $($other:ident)* => $answer:expr) => {
+        match $node {
+            $(AnyNode::$own(node) => node.$call $values,)*
+            $(AnyNode::$other(_) => $answer,)*
+        }
+    };
+}
+
 /// A node, by its kind. Each call is that of the node's own type. One that its type lacks is answered here where the
 /// answer is the same for all nodes of the kind (a fork is always done); else its condition is one that no node of the
 /// kind meets, and its arm can't be reached.
@@ -92,215 +102,93 @@ impl Component for AnyNode {
     }
 
     fn wants(&self) -> Option<Ask> {
-        match self {
-            AnyNode::Philosopher(node) => node.wants(),
-            AnyNode::Source(node) => node.wants(),
-            AnyNode::Buffer(node) => node.wants(),
-            AnyNode::Teller(node) => node.wants(),
-            AnyNode::Asker(node) => node.wants(),
-            AnyNode::Place(_)
-            | AnyNode::Fork(_)
-            | AnyNode::Map(_)
-            | AnyNode::Sink(_)
-            | AnyNode::Branch(_)
-            | AnyNode::Account(_)
-            | AnyNode::Adder(_) => None,
+        by_kind! { self, wants();
+            Philosopher Source Buffer Teller Asker;
+            Place Fork Map Sink Branch Account Adder => None
         }
     }
 
     fn ended(&mut self, _require: u32, value: u32) {
-        match self {
-            AnyNode::Philosopher(node) => node.ended(value),
-            AnyNode::Source(node) => node.ended(value),
-            AnyNode::Buffer(node) => node.ended(value),
-            AnyNode::Teller(node) => node.ended(value),
-            AnyNode::Asker(node) => node.ended(value),
-            AnyNode::Place(_)
-            | AnyNode::Fork(_)
-            | AnyNode::Map(_)
-            | AnyNode::Sink(_)
-            | AnyNode::Branch(_)
-            | AnyNode::Account(_)
-            | AnyNode::Adder(_) => unreachable!(),
+        by_kind! { self, ended(value);
+            Philosopher Source Buffer Teller Asker;
+            Place Fork Map Sink Branch Account Adder => unreachable!()
         }
     }
 
     fn room(&mut self) -> Result<(), NoMemory> {
-        match self {
-            AnyNode::Buffer(node) => node.room(),
-            AnyNode::Sink(node) => node.room(),
-            AnyNode::Philosopher(_)
-            | AnyNode::Place(_)
-            | AnyNode::Fork(_)
-            | AnyNode::Source(_)
-            | AnyNode::Map(_)
-            | AnyNode::Teller(_)
-            | AnyNode::Branch(_)
-            | AnyNode::Account(_)
-            | AnyNode::Asker(_)
-            | AnyNode::Adder(_) => Ok(()),
+        by_kind! { self, room();
+            Buffer Sink;
+            Philosopher Place Fork Source Map Teller Branch Account Asker Adder => Ok(())
         }
     }
 
     fn serve(&mut self, _provide: u32, value: u32) {
-        match self {
-            AnyNode::Place(node) => node.serve(value),
-            AnyNode::Fork(node) => node.serve(value),
-            AnyNode::Map(node) => node.serve(value),
-            AnyNode::Buffer(node) => node.serve(value),
-            AnyNode::Sink(node) => node.serve(value),
-            AnyNode::Branch(node) => node.serve(value),
-            AnyNode::Account(node) => node.serve(value),
-            AnyNode::Adder(node) => node.serve(value),
-            AnyNode::Philosopher(_) | AnyNode::Source(_) | AnyNode::Teller(_) | AnyNode::Asker(_) =>
-                unreachable!(),
+        by_kind! { self, serve(value);
+            Place Fork Map Buffer Sink Branch Account Adder;
+            Philosopher Source Teller Asker => unreachable!()
         }
     }
 
     fn next(&self) -> Next {
-        match self {
-            AnyNode::Place(node) => node.next(),
-            AnyNode::Fork(node) => node.next(),
-            AnyNode::Map(node) => node.next(),
-            AnyNode::Buffer(node) => node.next(),
-            AnyNode::Sink(node) => node.next(),
-            AnyNode::Branch(node) => node.next(),
-            AnyNode::Account(node) => node.next(),
-            AnyNode::Adder(node) => node.next(),
-            AnyNode::Philosopher(_) | AnyNode::Source(_) | AnyNode::Teller(_) | AnyNode::Asker(_) =>
-                unreachable!(),
+        by_kind! { self, next();
+            Place Fork Map Buffer Sink Branch Account Adder;
+            Philosopher Source Teller Asker => unreachable!()
         }
     }
 
     fn answered(&mut self, _require: u32, value: u32) {
-        match self {
-            AnyNode::Place(node) => node.answered(value),
-            AnyNode::Map(node) => node.answered(value),
-            AnyNode::Branch(node) => node.answered(value),
-            AnyNode::Philosopher(_)
-            | AnyNode::Fork(_)
-            | AnyNode::Source(_)
-            | AnyNode::Buffer(_)
-            | AnyNode::Sink(_)
-            | AnyNode::Teller(_)
-            | AnyNode::Account(_)
-            | AnyNode::Asker(_)
-            | AnyNode::Adder(_) => unreachable!(),
+        by_kind! { self, answered(value);
+            Place Map Branch;
+            Philosopher Fork Source Buffer Sink Teller Account Asker Adder => unreachable!()
         }
     }
 
     fn given(&mut self) {
-        match self {
-            AnyNode::Place(node) => node.given(),
-            AnyNode::Fork(node) => node.given(),
-            AnyNode::Map(node) => node.given(),
-            AnyNode::Buffer(node) => node.given(),
-            AnyNode::Sink(node) => node.given(),
-            AnyNode::Branch(node) => node.given(),
-            AnyNode::Account(node) => node.given(),
-            AnyNode::Adder(node) => node.given(),
-            AnyNode::Philosopher(_) | AnyNode::Source(_) | AnyNode::Teller(_) | AnyNode::Asker(_) =>
-                unreachable!(),
+        by_kind! { self, given();
+            Place Fork Map Buffer Sink Branch Account Adder;
+            Philosopher Source Teller Asker => unreachable!()
         }
     }
 
     fn more_given(&mut self) {
-        match self {
-            AnyNode::Adder(node) => node.more_given(),
-            AnyNode::Philosopher(_)
-            | AnyNode::Place(_)
-            | AnyNode::Fork(_)
-            | AnyNode::Source(_)
-            | AnyNode::Map(_)
-            | AnyNode::Buffer(_)
-            | AnyNode::Sink(_)
-            | AnyNode::Teller(_)
-            | AnyNode::Branch(_)
-            | AnyNode::Account(_)
-            | AnyNode::Asker(_) => unreachable!(),
+        by_kind! { self, more_given();
+            Adder;
+            Philosopher Place Fork Source Map Buffer Sink Teller Branch Account Asker => unreachable!()
         }
     }
 
     fn waits(&self) -> bool {
-        match self {
-            AnyNode::Adder(node) => node.waits(),
-            AnyNode::Philosopher(_)
-            | AnyNode::Place(_)
-            | AnyNode::Fork(_)
-            | AnyNode::Source(_)
-            | AnyNode::Map(_)
-            | AnyNode::Buffer(_)
-            | AnyNode::Sink(_)
-            | AnyNode::Teller(_)
-            | AnyNode::Branch(_)
-            | AnyNode::Account(_)
-            | AnyNode::Asker(_) => false,
+        by_kind! { self, waits();
+            Adder;
+            Philosopher Place Fork Source Map Buffer Sink Teller Branch Account Asker => false
         }
     }
 
     fn heard(&mut self, value: u32) {
-        match self {
-            AnyNode::Adder(node) => node.heard(value),
-            AnyNode::Philosopher(_)
-            | AnyNode::Place(_)
-            | AnyNode::Fork(_)
-            | AnyNode::Source(_)
-            | AnyNode::Map(_)
-            | AnyNode::Buffer(_)
-            | AnyNode::Sink(_)
-            | AnyNode::Teller(_)
-            | AnyNode::Branch(_)
-            | AnyNode::Account(_)
-            | AnyNode::Asker(_) => unreachable!(),
+        by_kind! { self, heard(value);
+            Adder;
+            Philosopher Place Fork Source Map Buffer Sink Teller Branch Account Asker => unreachable!()
         }
     }
 
     fn replies(&self, _require: u32) -> u32 {
-        match self {
-            AnyNode::Asker(node) => node.replies(),
-            AnyNode::Philosopher(_)
-            | AnyNode::Place(_)
-            | AnyNode::Fork(_)
-            | AnyNode::Source(_)
-            | AnyNode::Map(_)
-            | AnyNode::Buffer(_)
-            | AnyNode::Sink(_)
-            | AnyNode::Teller(_)
-            | AnyNode::Branch(_)
-            | AnyNode::Account(_)
-            | AnyNode::Adder(_) => 0,
+        by_kind! { self, replies();
+            Asker;
+            Philosopher Place Fork Source Map Buffer Sink Teller Branch Account Adder => 0
         }
     }
 
     fn in_service(&self) -> bool {
-        match self {
-            AnyNode::Place(node) => node.in_service(),
-            AnyNode::Fork(node) => node.in_service(),
-            AnyNode::Map(node) => node.in_service(),
-            AnyNode::Buffer(node) => node.in_service(),
-            AnyNode::Sink(node) => node.in_service(),
-            AnyNode::Branch(node) => node.in_service(),
-            AnyNode::Account(node) => node.in_service(),
-            AnyNode::Adder(node) => node.in_service(),
-            AnyNode::Philosopher(_) | AnyNode::Source(_) | AnyNode::Teller(_) | AnyNode::Asker(_) =>
-                false,
+        by_kind! { self, in_service();
+            Place Fork Map Buffer Sink Branch Account Adder;
+            Philosopher Source Teller Asker => false
         }
     }
 
     fn done(&self) -> bool {
-        match self {
-            AnyNode::Philosopher(node) => node.done(),
-            AnyNode::Source(node) => node.done(),
-            AnyNode::Buffer(node) => node.done(),
-            AnyNode::Teller(node) => node.done(),
-            AnyNode::Asker(node) => node.done(),
-            AnyNode::Place(_)
-            | AnyNode::Fork(_)
-            | AnyNode::Map(_)
-            | AnyNode::Sink(_)
-            | AnyNode::Branch(_)
-            | AnyNode::Account(_)
-            | AnyNode::Adder(_) => true,
+        by_kind! { self, done();
+            Philosopher Source Buffer Teller Asker;
+            Place Fork Map Sink Branch Account Adder => true
         }
     }
 
@@ -319,17 +207,9 @@ impl Component for AnyNode {
     }
 
     fn state_word(&self, index: usize) -> u64 {
-        match self {
-            AnyNode::Philosopher(node) => node.state_word(index),
-            AnyNode::Fork(node) => node.state_word(index),
-            AnyNode::Source(node) => node.state_word(index),
-            AnyNode::Buffer(node) => node.state_word(index),
-            AnyNode::Sink(node) => node.state_word(index),
-            AnyNode::Teller(node) => node.state_word(index),
-            AnyNode::Account(node) => node.state_word(index),
-            AnyNode::Asker(node) => node.state_word(index),
-            AnyNode::Place(_) | AnyNode::Map(_) | AnyNode::Branch(_) | AnyNode::Adder(_) =>
-                unreachable!(),
+        by_kind! { self, state_word(index);
+            Philosopher Fork Source Buffer Sink Teller Account Asker;
+            Place Map Branch Adder => unreachable!()
         }
     }
 }

@@ -27,8 +27,9 @@ use Rattle.step_board.specs.Playing.{played}
 use Rattle.step_board.specs.RunFacts.{config_here, round_goes_on, rounds_play}
 use Rattle.step_board.specs.Seeing.{first_undone_in, found_all, sight_of, sights_of}
 use Rattle.step_board.specs.Standing.{AreLogs, StandsFor}
-use Rattle.step_board.proofs.SeeingLaws.{all_agree, find_agree, log_there, looks_at_all, looks_seen, none_left, seen_done, seen_state, sighted_at, sights_seen}
+use Rattle.step_board.proofs.SeeingLaws.{all_agree, find_agree, log_there, looks_at_all, looks_seen, seen_done, seen_state, sighted_at, sights_seen}
 use Rattle.step_board.proofs.StandingLemmas.{AreSeen, scan_adds, seen_both}
+use Rattle.base.proofs.FindLaws.{none_left}
 
 slots_sighted : (logs : List (List Event)) (ns : List ℕ) → map (λ (x : Sight). x.slot) (map (sight_of logs) ns) ≡ ns
 slots_sighted logs [] = refl

@@ -8,6 +8,7 @@ use Rattle.std.proofs.lemmas.Option.{same_Some, slice_get_within}
 use Rattle.std.proofs.lemmas.Map.Keys.{any_passes_from_place}
 use Rattle.base.proofs.OptionLaws.{map_or_at, map_or_true}
 use Rattle.base.proofs.PlaceLaws.{slice_get-map_at, slice_get-set_cases, slice_get-snoc, slice_get-there}
+use Rattle.base.proofs.MapLaws.{map_set}
 use Rattle.config_graph.specs.Kinds.{row}
 use Rattle.config_graph.specs.declared.TheConstants.{MAX_NODES, MAX_PORTS}
 use Rattle.config_graph.specs.declared.kind.Kind.{Kind}
@@ -36,7 +37,6 @@ use Rattle.step_board.specs.declared.held.Held.{Held}
 use Rattle.step_board.specs.declared.held.Held.TheVariants as held
 use Rattle.step_board.proofs.MakeLemmas.{IsFresh, holds_made_first, holds_made_from, inside_here}
 use Rattle.step_board.proofs.Showing.{shows_made, shows_same}
-use Rattle.step_board.proofs.TurnTable.{map_set}
 
 -- ---- what the rules of a make give
 

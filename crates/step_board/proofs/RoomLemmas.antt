@@ -5,12 +5,12 @@ use Rattle.std.proofs.lemmas.Bool.{cases_eq}
 use Rattle.std.proofs.lemmas.List.{set-get_or}
 use Rattle.std.proofs.lemmas.Option.{get_or_from_slice_get, same_Some, slice_get-get_or}
 use Rattle.base.proofs.PlaceLaws.{slice_get-map_at, slice_get-set_other, slice_get-set_same}
+use Rattle.base.proofs.MapLaws.{map_set}
 use Rattle.component_trait.specs.States.{NodeState}
 use Rattle.state_handover.specs.declared.any_node.AnyNode.{AnyNode}
 use Rattle.step_board.specs.Rooms.{has_past_room}
 use Rattle.step_board.specs.Seen.{seen}
 use Rattle.step_board.specs.declared.held.Held.{Held}
-use Rattle.step_board.proofs.TurnTable.{map_set}
 
 -- an element is put in the place of one that looks the same
 pub one_seen : (S : AnyNode → NodeState) (xs : List Held) (i : ℕ) (d new : Held) → i < length xs → seen S new ≡ seen S (get_or xs i d) → map (seen S) (set xs i new) ≡ map (seen S) xs

@@ -1,6 +1,6 @@
 -- What a scan sees of the nodes and ports of a world is what there is.
-use Rattle.std.proofs.Common.{◌≡◌, ◌∙◌, ◌<◌, ◌≤◌, ◌+◌, ℕ, zero, suc, Bool, true, false, cond, List, [], ◌∷◌, Option, Some, map, length, refl, sym, ap, subst, arith, ⊎_elim}
-use Rattle.std.specs.Prelude.{◌==◌, ◌&&◌, not, is_none, find, option_map, slice_index_or}
+use Rattle.std.proofs.Common.{◌≡◌, ◌∙◌, ◌<◌, ◌≤◌, ◌+◌, ℕ, zero, suc, Bool, false, cond, List, [], ◌∷◌, Option, Some, map, length, refl, sym, ap, subst, arith, ⊎_elim}
+use Rattle.std.specs.Prelude.{◌==◌, ◌&&◌, find, option_map, slice_index_or}
 use Rattle.std.specs.List.{list_all, range_with_len}
 use Rattle.std.specs.Option.{option_map_or}
 use Rattle.std.proofs.lemmas.Bool.{cases_eq, eq-eqb, ne_eqb}
@@ -94,11 +94,3 @@ all_agree f g (x ∷ xs) h = ap (λ b. b && list_all f xs) (h x) ∙ ap (λ b. g
 pub find_agree : (f g : ℕ → Bool) (xs : List ℕ) → ((n : ℕ) → f n ≡ g n) → find f xs ≡ find g xs
 find_agree f g [] h = refl
 find_agree f g (x ∷ xs) h = ap (λ b. cond b (Some x) (find f xs)) (h x) ∙ ap (cond (g x) (Some x)) (find_agree f g xs h)
-
-pub none_left : (f : ℕ → Bool) (xs : List ℕ) → list_all f xs ≡ is_none (find (λ n. not (f n)) xs)
-none_left f [] = refl
-none_left f (x ∷ xs) = by (f x) (none_left f xs)
-  where
-    by : (b : Bool) → list_all f xs ≡ is_none (find (λ n. not (f n)) xs) → (b && list_all f xs) ≡ is_none (cond (not b) (Some x) (find (λ n. not (f n)) xs))
-    by true later = later
-    by false later = refl

@@ -1,9 +1,10 @@
 -- A node's turn in a table.
-use Rattle.std.proofs.Common.{◌≡◌, ◌∙◌, ℕ, Bool, true, List, [], ◌∷◌, map, set, zero, suc, Option, Some, None, Result, Ok, Err, OnOk, OnErr, refl, ap, sym, subst, append-nil}
+use Rattle.std.proofs.Common.{◌≡◌, ◌∙◌, ℕ, Bool, true, List, map, set, Option, Some, None, Result, Ok, Err, OnOk, OnErr, refl, ap, sym, subst, append-nil}
 use Rattle.std.specs.Prelude.{slice_get}
 use Rattle.std.proofs.lemmas.List.{set-get_or}
 use Rattle.std.proofs.lemmas.Option.{get_or_from_slice_get, same_Some}
 use Rattle.base.proofs.PlaceLaws.{slice_get-map_at}
+use Rattle.base.proofs.MapLaws.{map_set}
 use Rattle.component_trait.specs.States.{NodeState}
 use Rattle.quiesce_core.specs.State.{State, is_live}
 use Rattle.quiesce_core.specs.WellFormed.{IsWellFormed}
@@ -27,11 +28,6 @@ use Rattle.step_board.specs.Worlds.{ShowsIn}
 use Rattle.step_board.specs.declared.held.Held.{Held}
 use Rattle.step_board.proofs.NodeTableLemmas.{fits_in, here_in, node_in_}
 use Rattle.step_board.proofs.NodeTurnLemmas.{gate_of, turn_shows}
-
-pub map_set : {A B : Type 0} (f : A → B) (xs : List A) (i : ℕ) (x : A) → map f (set xs i x) ≡ set (map f xs) i (f x)
-map_set f [] i x = refl
-map_set f (y ∷ xs) zero x = refl
-map_set f (y ∷ xs) (suc i) x = ap (λ l. f y ∷ l) (map_set f xs i x)
 
 -- the node in slot n, and its seat, before its turn and after
 module _ {E : Type 0} (S : AnyNode → NodeState) (s t : State) (xs : List Held) (ends : List ℕ) (tells tells' : ℕ → Option (List ℕ)) (n : ℕ) (begins : Bool) (old new : Held) (x x' : NodeSeen) (at : slice_get xs n ≡ Some old)

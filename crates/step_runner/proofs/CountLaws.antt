@@ -21,7 +21,8 @@ use Rattle.quiesce_laws.proofs.TotalLaws.{ends_make_all_serials, is_busy_at, ope
 use Rattle.quiesce_laws.specs.Events as law
 use Rattle.step_board.specs.RunFacts.{machine_is, reached_runs}
 use Rattle.node_turn_laws.specs.Reached.{IsReached}
-use Rattle.node_turn_laws.specs.Round.{ended, ends_transaction}
+use Rattle.node_turn_laws.specs.Round.{ended}
+use Rattle.quiesce_laws.specs.Events.{ends_transaction}
 use Rattle.node_turn_laws.specs.World.{World}
 use Rattle.step_runner.proofs.WaitLaws.{AreTrue, fields_seen}
 

@@ -1,10 +1,11 @@
 -- What was done and told of a roll is what the rounds of its statements are.
-use Rattle.std.proofs.Common.{◌≡◌, ◌∙◌, ◌+◌, ◌-◌, ◌<◌, ℕ, zero, suc, ℤ, true, false, cond, List, [], ◌∷◌, ◌++◌, append_assoc, drop, length, map, take, Option, Some, None, slice_get, refl, sym, ap, subst, arith}
+use Rattle.std.proofs.Common.{◌≡◌, ◌∙◌, ◌+◌, ◌-◌, ◌<◌, ℕ, suc, ℤ, true, false, cond, List, [], ◌∷◌, ◌++◌, append_assoc, drop, length, map, take, Option, Some, None, refl, sym, ap, subst, arith}
 use Rattle.std.specs.Prelude.{◌||◌}
 use Rattle.std.proofs.lemmas.List.{append-nil, length-map, length-take-le, map-append}
 use Rattle.std.proofs.lemmas.Option.{slice_get_within}
 use Rattle.base.specs.Each.{EachAfter}
 use Rattle.base.proofs.EachLaws.{each_joined}
+use Rattle.base.proofs.PlaceLaws.{parted}
 use Rattle.change_board.specs.declared.board.Board.{Ghosts as BoardWords}
 use Rattle.change_board.specs.Scans.{look_entry}
 use Rattle.change_board.specs.Transcripts.{Item, entries}
@@ -45,13 +46,6 @@ rolled_by stays folds statements ps done rounds asked given_up is = record {
   are_played = all_played stays folds [] ps [] (record { lines_are = refl; world_is = refl }) rounds done;
   given_up_is = is;
 }
-
--- a list, parted at one of its members
-parted : {A : Type 0} (xs : List A) (n : ℕ) (x : A) → slice_get xs n ≡ Some x → take n xs ++ x ∷ drop (suc n) xs ≡ xs
-parted [] zero x e = absurd (cc e)
-parted [] (suc n) x e = absurd (cc e)
-parted (y ∷ xs) zero x e = let same : x ≡ y = cc e in λ i. same i ∷ xs
-parted (y ∷ xs) (suc n) x e = ap (λ zs. y ∷ zs) (parted xs n x e)
 
 module _ (name : List ℕ) (args : List ℤ) (within : ℕ) where
   asked_by_rolled : (rs : List Rolled) → asked_by (map (piece_of name args within) rs) ≡ map (change_to name args within) (map (λ (r : Rolled). r.part) rs)

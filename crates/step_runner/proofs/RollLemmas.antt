@@ -2,7 +2,7 @@
 use Rattle.std.proofs.Common.{◌≡◌, ◌∙◌, ℕ, ℤ, ◌+◌, List, [], ◌∷◌, ◌++◌, append_assoc, append-nil, length, take, refl, sym, ap, subst}
 use Rattle.std.proofs.lemmas.List.{map-append}
 use Rattle.base.proofs.EachLaws.{each_pushed}
-use Rattle.base.proofs.PlaceLaws.{own_place}
+use Rattle.base.proofs.PlaceLaws.{own_place, take_front}
 use Rattle.config_graph.specs.Graph.{Graph}
 use Rattle.change_plan_laws.specs.Committing.{made_in}
 use Rattle.change_board.specs.declared.board.Board.{Ghosts as BoardWords}
@@ -22,10 +22,6 @@ stage_front : (g : Graph) (xs ys : List Part) → stage_after g (xs ++ ys) (leng
 unfolding stage_after
 stage_front g [] ys = refl
 stage_front g (x ∷ xs) ys = stage_front x.next xs ys
-
-take_front : {A : Type 0} (xs ys : List A) → take (length xs) (xs ++ ys) ≡ xs
-take_front [] ys = refl
-take_front (x ∷ xs) ys = ap (λ zs. x ∷ zs) (take_front xs ys)
 
 items_pushed : (rs : List Rolled) (r : Rolled) → items_of (rs ++ r ∷ []) ≡ items_of rs ++ r.items
 items_pushed [] r = append-nil r.items

@@ -5,9 +5,10 @@ use Rattle.std.specs.List.{list_any, range_with_len}
 use Rattle.std.specs.Option.{option_map_or}
 use Rattle.std.proofs.lemmas.Grind.{flat_map-append}
 use Rattle.std.proofs.lemmas.List.{append-nil}
-use Rattle.std.proofs.lemmas.List.Elements.{All-cons, All-head, All-nil, All-tail}
+use Rattle.std.proofs.lemmas.List.Elements.{All-head, All-tail}
 use Rattle.std.proofs.lemmas.List.Sums.{fold_push}
 use Rattle.base.specs.Each.{EachAfter}
+use Rattle.base.proofs.ListLaws.{All-weaker}
 use Rattle.txn_records.specs.Records.{IsRecordOf, Moment}
 use Rattle.change_board.specs.Transcripts.{Item, entries, lines}
 use Rattle.change_spec.specs.Endings.{moved_to, status_of}
@@ -151,10 +152,6 @@ module _ (history : List HistoryLine) (w : World) where
   logs_are ns logs slots events ends =
       logs_by_slot logs (events ∙ ap (map (λ n. done_by n w.events)) (sym slots)) ends ∙ ap (map (log_of history w)) slots
 
-all_by : {A : Type 0} (P Q : A → Type 0) (xs : List A) → ((x : A) → P x → Q x) → All P xs → All Q xs
-all_by P Q [] f h = All-nil Q
-all_by P Q (x ∷ xs) f h = All-cons Q x xs (f x (All-head P x xs h)) (all_by P Q xs f (All-tail P x xs h))
-
 both_or_none : (a b : Bool) → cond a b false ≡ (a && b)
 both_or_none true b = refl
 both_or_none false b = refl
@@ -222,7 +219,7 @@ module _ (join : JoinsMembers) (lawful : IsLawfulWhereJoined) (stays : RestStays
   logs : report.logs ≡ map (log_of report.history w) (range_with_len 0 (length w.machine.config.slots))
   logs = logs_are report.history w (range_with_len 0 (length w.machine.config.slots)) report.logs
       (has.slots ∙ ap (λ (c : Configuration). range_with_len 0 (length c.slots)) config) of_rounds.logs_are
-      (all_by (IsFolded joined.0 report.history) (EndsSo report.history w) report.logs
+      (All-weaker (IsFolded joined.0 report.history) (EndsSo report.history w) report.logs
       (λ l h. subst (λ o. EndsAs o (moved_to report.history l.slot) l.last) (ap (λ es. fold_of_node es l.slot) events ∙ sym (one l.slot)) h) by_law.folds)
 
   unfinished : report.unfinished ≡ unfinished_in statements w

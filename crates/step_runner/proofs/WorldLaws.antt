@@ -1,5 +1,5 @@
 -- The worlds behind items of a transcript, one list behind the other.
-use Rattle.std.proofs.Common.{◌≡◌, ◌∙◌, Bool, true, false, cond, List, [], ◌∷◌, ◌++◌, map, Option, Some, None, refl, ap, subst}
+use Rattle.std.proofs.Common.{◌≡◌, ◌∙◌, Bool, List, [], ◌∷◌, ◌++◌, map, Option, Some, None, refl, ap, subst}
 use Rattle.std.specs.Prelude.{⊤, ℕ, flat_map, fold}
 use Rattle.std.specs.List.{cons_option}
 use Rattle.std.specs.Option.{option_map_or}
@@ -105,13 +105,6 @@ play_deeds w (d ∷ deeds) =
 pub play_closes : (w : World) (ps : List ℕ) → play_items w (map close_item ps) ≡ after_changes w (map Close ps)
 play_closes w [] = refl
 play_closes w (p ∷ ps) = play_closes (with_event w (Close p)) ps
-
--- ---- looks and scans
-
-one_look : (p v : ℕ) (l : HistoryLine) (b : Bool) (xs : List Entry)
-    → cons_option (entry_in (cond b (told (Looked p v) l) (silent (Looked p v)))) xs ≡ Looked p v ∷ xs
-one_look p v l true xs = refl
-one_look p v l false xs = refl
 
 pub looks_leave : (w : World) (fs : List Found) → fold play w (map look_entry fs) ≡ w
 looks_leave w [] = refl

@@ -77,7 +77,7 @@ fn begin<B: Board + Drop>(
 }
 
 /// Carries the parts out, as far as they come. Answers which one was given up, if any.
-fn carry_out<B: Board + Drop>(
+fn roll_part<B: Board + Drop>(
     alloc: Global,
     engine: &mut Engine<B>,
     name: Text,
@@ -144,7 +144,7 @@ pub fn roll_in_rounds<N: Nodes + Drop>(
         within,
     } = asked;
     let mut engine = begin(alloc, board, start, run)?;
-    let given_up = carry_out(alloc, &mut engine, name, args.into_vec(), parts, within)?;
+    let given_up = roll_part(alloc, &mut engine, name, args.into_vec(), parts, within)?;
     let graph = close_down(engine);
     Ok(RollEnd { given_up, graph })
 }

@@ -18,8 +18,8 @@ use Rattle.config_graph.proofs.KindLaws.{one_provision}
 use Rattle.quiesce_word.specs.Words.{FitsTarget}
 use Rattle.quiesce_core.specs.Effect.{new_gates, with_node, with_removed}
 use Rattle.quiesce_core.specs.Reach.{IsPortOf, has_no_cycle, reaches, wiring_of}
-use Rattle.quiesce_core.specs.Rules.{has_provision, is_live_port}
-use Rattle.quiesce_core.specs.State.{Configuration, gate, is_live, owner, depends, ports_of, provides, slot}
+use Rattle.quiesce_core.specs.Rules.{has_provision}
+use Rattle.quiesce_core.specs.State.{Configuration, gate, is_live, depends, ports_of, provides, slot}
 use Rattle.quiesce_core.specs.WellFormed.{IsSound, LeadsToProvision}
 use Rattle.quiesce_core.specs.declared.state.Slot.{Slot}
 use Rattle.quiesce_core.proofs.CycleLaws.{all_of, no_cycle_if_ranked, of_all, ranked_if_no_cycle}
@@ -38,9 +38,6 @@ kept_of f d same c n = ap (λ o. option_map_or f o d) (slice_get-map bare_slot c
 
 pub live_kept : (c : Configuration) (n : ℕ) → is_live (bare c) n ≡ is_live c n
 live_kept c n = kept_of (λ m. m.live) false (λ m. refl) c n
-
-pub live_port_kept : (c : Configuration) (p : ℕ) → is_live_port (bare c) p ≡ is_live_port c p
-live_port_kept c p = ap (λ b. nat_lt p (length c.gates) && b) (live_kept c (owner c p))
 
 provides_kept : (c : Configuration) (n : ℕ) → provides (bare c) n ≡ provides c n
 provides_kept c n = kept_of (λ m. length (row m.node.kind).provides) 0 (λ m. refl) c n

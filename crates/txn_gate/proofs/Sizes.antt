@@ -1,27 +1,22 @@
 -- How many nodes and ports were made, as a record grows.
 use Rattle.std.proofs.Common.{◌≡◌, ◌∙◌, ℕ, ◌+◌, ◌<◌, ◌≤◌, true, false, ◌&&◌, not, List, [], ◌∷◌, ◌++◌, length, set, Option, Some, None, refl, sym, ap, subst, arith}
-use Rattle.std.specs.Prelude.{IfSome, is_some}
 use Rattle.std.specs.Option.{option_map_or}
-use Rattle.std.proofs.lemmas.Bool.{and_parts, both_ways}
-use Rattle.std.proofs.lemmas.Option.{slice_get_within}
+use Rattle.std.proofs.lemmas.Bool.{both_ways}
 use Rattle.std.proofs.lemmas.List.{length-append, length-set}
 use Rattle.base.proofs.OptionLaws.{map_or_at}
 use Rattle.base.proofs.PlaceLaws.{slice_get-last}
 use Rattle.config_graph.specs.Kinds.{row}
-use Rattle.config_graph.specs.declared.TheConstants.{MAX_NODES, MAX_PORTS}
+use Rattle.config_graph.specs.declared.TheConstants.{MAX_PORTS}
 use Rattle.config_graph.specs.declared.kind.Kind.{Kind}
 use Rattle.config_graph.specs.declared.node.Node.{Node}
-use Rattle.quiesce_word.specs.SlotWords.{FitsSlotWord}
 use Rattle.txn_records.specs.Entries.{config_of}
 use Rattle.txn_records.specs.declared.entry.Entry.{Entry}
 use Rattle.txn_records.specs.declared.entry.Entry.TheVariants.{Did, Looked}
 use Rattle.quiesce_core.specs.Effect.{with_node}
 use Rattle.quiesce_core.specs.Knowledge.{nothing_known}
-use Rattle.quiesce_core.specs.Legal.{CanMake}
-use Rattle.quiesce_core.specs.Rules.{can_move, has_its_argument, is_kind, is_path_taken, was_moved}
+use Rattle.quiesce_core.specs.Rules.{is_kind}
 use Rattle.quiesce_core.specs.Words.{slot_fields_of}
 use Rattle.quiesce_core.specs.declared.state.Slot.{Slot}
-use Rattle.quiesce_core.proofs.ArgumentLaws.{argument_fits}
 use Rattle.quiesce_core.proofs.TableLaws.{new_gates_length}
 use Rattle.quiesce_core.specs.State.{Configuration, slot}
 use Rattle.quiesce_core.specs.declared.event.Event.{Event}
@@ -32,7 +27,6 @@ use Rattle.txn_spec.specs.declared.view.ChangeView.{ChangeView}
 use Rattle.txn_gate.specs.TablesOf.{IsTableOf}
 use Rattle.txn_gate.specs.Tabled.{Tabled}
 use Rattle.txn_records.proofs.EntryLaws.{config_did, config_looked}
-use Rattle.txn_gate.proofs.NextTables.{room_of}
 use Rattle.txn_gate.specs.Calls.{made_node}
 
 -- an event that makes no node, or a look: as many nodes and ports
@@ -111,26 +105,6 @@ newest_made c k first node from seats nodes ports =
 source_there : (o : Option Slot) (kind : Kind) → option_map_or (λ (m : Slot). not m.live && is_kind m.node.kind kind) o false ≡ true → (m : Slot) × (o ≡ Some m)
 source_there None kind h = absurd (both_ways false refl h)
 source_there (Some m) kind h = (m, refl)
-
-source_fits : (c : Configuration) (kind : Kind) (from : Option ℕ) → length c.slots < MAX_NODES → option_map_or (λ k. can_move c k kind) from true ≡ true → IfSome from (λ k. k < MAX_NODES)
-source_fits c kind None few moves = tt
-source_fits c kind (Some k) few moves =
-    let parts = and_parts (option_map_or (λ (m : Slot). not m.live && is_kind m.node.kind kind) (slot c k) false) (not (was_moved c k)) moves in
-    let m = source_there (slot c k) kind parts.0 in
-    let below = slice_get_within c.slots k m.0 m.1 in
-    omega (arith, below, few)
-
-pub new_slot_fits : (c : Configuration) (n : ℕ) (node : Node) (from : Option ℕ) → CanMake c n node from
-    → FitsSlotWord (record { kind = node.kind; first_port = length c.gates; arg = node.arg; from = from })
-new_slot_fits c n node from may =
-    let room = room_of c n node from may in
-    let arg = argument_fits (is_some (row node.kind).arg) node.arg (and_parts (not (is_path_taken c node.path)) (has_its_argument node) may.new_path).1 in
-    record {
-      first_port = (let few = room.ports in omega (arith, few));
-      present = arg.0;
-      arg = arg.1;
-      from = source_fits c node.kind from (let next = room.next in let few = room.few in omega (arith, next, few)) may.moves;
-    }
 
 -- ---- the change's seat with one entry more
 

@@ -30,7 +30,8 @@ use Rattle.txn_spec.specs.Traces.{port_place, FitsNode, HaveOwnSlots, Holds, Kno
 use Rattle.txn_spec.specs.declared.view.ChangeView.{ChangeView}
 use Rattle.txn_spec.specs.declared.view.NodeView.{NodeView}
 use Rattle.txn_spec.proofs.GrowthLaws.{prolonged, stays, straight}
-use Rattle.txn_spec.proofs.TraceLaws.{all_into, same_words, sees}
+use Rattle.txn_spec.proofs.TraceLaws.{same_words, sees}
+use Rattle.base.proofs.ListLaws.{all_into}
 
 -- ---- a node that was removed services nothing
 

@@ -5,6 +5,7 @@ use Rattle.std.specs.List.{AllByRecursion, list_any}
 use Rattle.std.proofs.lemmas.Bool.{eqb-true, false≢true, or_cases}
 use Rattle.atomic_table.specs.Table.{State as Table}
 use Rattle.base.proofs.OptionLaws.{Some-from_is_some}
+use Rattle.base.proofs.ListLaws.{all_into}
 use Rattle.quiesce_laws.specs.Steps.{IsNoted}
 use Rattle.txn_records.specs.Entries.{config_of, events_in}
 use Rattle.txn_records.specs.Notes.{is_noted}
@@ -20,7 +21,6 @@ use Rattle.quiesce_laws.specs.Events.{is_reopen_or_link, removes, reopens}
 use Rattle.quiesce_laws.proofs.DrainingLaws.{settled_if_drained}
 use Rattle.txn_spec.proofs.EarlierNotes.{still_drained, still_settled}
 use Rattle.txn_spec.proofs.MergingLaws.{log_is}
-use Rattle.txn_spec.proofs.TraceLaws.{all_into}
 use Rattle.txn_spec.specs.Views.{is_among, log_in, of_change, of_node}
 use Rattle.txn_spec.specs.Traces.{FitsNode, HasSlot, Holds, IsThere, KnowsNode, Trace}
 use Rattle.txn_spec.specs.declared.view.ChangeView.{ChangeView}

@@ -10,6 +10,7 @@ use Rattle.atomic_table.specs.Table.{Allows, Joins, Splits, State as Table, keep
 use Rattle.atomic_table.proofs.Lists.{at_last, at_set, set_else}
 use Rattle.base.proofs.OptionLaws.{option_map_some}
 use Rattle.base.proofs.PlaceLaws.{slice_get-there}
+use Rattle.base.proofs.ListLaws.{all_into}
 use Rattle.config_graph.specs.declared.TheConstants.{MAX_NODES, MAX_PORTS}
 use Rattle.quiesce_word.specs.declared.operands.TheConstants.{CLOSED}
 use Rattle.quiesce_word.specs.SlotWords.{unpack_slot}
@@ -35,7 +36,7 @@ use Rattle.txn_spec.specs.declared.view.ChangeView.{ChangeView}
 use Rattle.txn_spec.specs.declared.view.NodeView.{NodeView}
 use Rattle.txn_spec.specs.declared.view.View.{View}
 use Rattle.txn_spec.proofs.GrowthLaws.{prolonged, stays, straight}
-use Rattle.txn_spec.proofs.TraceLaws.{place_below, all_into, goes_on_joined, goes_on_parted, set_there, stays_there, there_before}
+use Rattle.txn_spec.proofs.TraceLaws.{place_below, goes_on_joined, goes_on_parted, set_there, stays_there, there_before}
 use mathlib.Core.Option.{none, some, some-injective, some-ne-none}
 use lib.ListN.{get_elem?}
 

@@ -1,6 +1,5 @@
 -- What the words and the views show after a step: of a trace with one event, look or sight more, or of the same trace.
-use Rattle.std.proofs.Common.{◌≡◌, ◌≢◌, ◌∙◌, ℕ, zero, suc, ◌+◌, ◌*◌, ◌%◌, ◌/◌, ◌<◌, ◌⊎◌, inl, inr, true, false, ◌||◌, List, [], ◌∷◌, ◌++◌, length, set, Some, None, refl, sym, ap, subst, ⊎_elim, arith}
-use Rattle.std.specs.List.{AllByRecursion}
+use Rattle.std.proofs.Common.{◌≡◌, ◌≢◌, ◌∙◌, ℕ, zero, suc, ◌+◌, ◌<◌, ◌⊎◌, inl, inr, true, false, ◌||◌, List, [], ◌∷◌, ◌++◌, length, set, Some, None, refl, sym, ap, subst, ⊎_elim, arith}
 use Rattle.std.specs.Prelude.{◌==◌, slice_index}
 use Rattle.std.proofs.lemmas.Bool.{cases_eq}
 use Rattle.std.proofs.lemmas.List.{append-nil, get_or-set_other, get_or-set_same, length-set, set-get_or}
@@ -34,6 +33,7 @@ use Rattle.txn_spec.specs.declared.view.View.{View}
 use Rattle.txn_spec.proofs.KnowingLaws.{known_grows, known_stays, no_doer, one_doer}
 use mathlib.Core.Option.{Option as Maybe, some, some-injective, some-ne-none}
 use lib.ListN.{get_elem?}
+use Rattle.base.proofs.ListLaws.{all_into}
 
 -- ---- words
 
@@ -87,12 +87,6 @@ module _ (words : List ℕ) (s t : State) (e : Event) (w : IsWellFormed s) (step
 -- a load leaves the words
 pub same_words : (words : List ℕ) (i : ℕ) → set words i (slice_index words i) ≡ words
 same_words words i = set-get_or words i 0
-
--- ---- views
-
-pub all_into : {A : Type 0} (P Q : A → Type 0) (xs : List A) → ((x : A) → P x → Q x) → AllByRecursion P xs → AllByRecursion Q xs
-all_into P Q [] f all = tt
-all_into P Q (x ∷ xs) f all = (f x all.0, all_into P Q xs f all.1)
 
 -- what becomes of a view that fits, where that of all seats but one does
 pub record Passes (w w' : Trace) (id : ℕ) : Type 0 where

@@ -1,24 +1,18 @@
 -- What is noted of a run are the counts of its graphs, and so are the lines of an observer by it.
-use Rattle.std.proofs.Common.{◌≡◌, ◌==◌, ◌&&◌, ℕ, ◌+◌, ◌-◌, ◌<◌, ◌≤◌, Bool, true, false, nat_le, nat_lt, cond, List, [], ◌∷◌, ◌++◌, All, length, refl, sym, subst, ap, ◌∙◌, ⊎_elim, arith}
+use Rattle.std.proofs.Common.{◌≡◌, ◌==◌, ◌&&◌, ℕ, ◌+◌, ◌-◌, ◌<◌, ◌≤◌, Bool, true, false, nat_le, nat_lt, cond, List, [], ◌∷◌, All, length, refl, sym, subst, ap, ◌∙◌, ⊎_elim, arith}
 use Rattle.std.specs.Prelude.{slice_get, Some}
 use Rattle.std.specs.Option.{option_map_or}
 use Rattle.std.proofs.lemmas.Bool.{and_parts, eqb-true, leb-true, ltb-true}
-use Rattle.std.proofs.lemmas.List.{length-append}
 use Rattle.std.proofs.lemmas.List.Elements.{All-cons, All-nil}
 use Rattle.std.proofs.lemmas.List.Kept.{AllPairs-cons}
 use Rattle.std.proofs.lemmas.Option.{slice_get_within}
 use Rattle.base.proofs.OptionLaws.{map_or_at, map_or_true}
-use Rattle.base.proofs.PlaceLaws.{slice_get-front, slice_get-last, slice_get-push_cases, slice_get-there}
+use Rattle.base.proofs.PlaceLaws.{slice_get-push_cases, slice_get-there}
 use Rattle.config_graph.specs.Graph.{Graph}
 use Rattle.watch_lines.specs.Lists.{no_graph}
 use Rattle.watch_lines.specs.Counts.{AreCountsOf, before_all, is_counted, is_next, lines_from, lines_of}
-use Rattle.watch_lines.specs.Sightings.{AreSightingsOf, CountsOf, IsBelow, IsSightingOf}
+use Rattle.watch_lines.specs.Sightings.{AreSightingsOf, IsBelow, IsSightingOf}
 use Rattle.watch_lines.specs.declared.sighting.Sighting.{Sighting}
-
--- ---- what is noted of a run
-
-sighting_on : (graphs : List Graph) (g : Graph) (s : Sighting) → IsSightingOf graphs s → IsSightingOf (graphs ++ g ∷ []) s
-sighting_on graphs g s is = (is.0, slice_get-front (no_graph ∷ graphs) (g ∷ []) s.commits is.0 is.1, is.2)
 
 pub counts_of_none : AreCountsOf [] (before_all ∷ [])
 counts_of_none = record {
@@ -27,21 +21,6 @@ counts_of_none = record {
       (λ (t : (number ≡ 0) × (before_all ≡ s)). subst (λ (x : Sighting). (x.commits ≡ number) × IsSightingOf [] x) t.1 (sym t.0, (no_graph, refl, (refl, refl))))
       (slice_get-push_cases [] before_all number s there);
 }
-
-pub counts_more : (graphs : List Graph) (g : Graph) (counts : List Sighting) (s : Sighting) → AreCountsOf graphs counts → s.commits ≡ length counts → CountsOf s g → AreCountsOf (graphs ++ g ∷ []) (counts ++ s ∷ [])
-counts_more graphs g counts s are number counted = record {
-  count = (let n = length-append counts (s ∷ []) in let m = length-append graphs (g ∷ []) in let k = are.count in omega (arith, n, m, k));
-  each = λ k x there. ⊎_elim (λ (old : slice_get counts k ≡ Some x). let e = are.each k x old in (e.0, sighting_on graphs g x e.1))
-      (λ (t : (k ≡ length counts) × (s ≡ x)). subst (λ (y : Sighting). (y.commits ≡ k) × IsSightingOf (graphs ++ g ∷ []) y) t.1 (number ∙ sym t.0, last_sighting graphs g s (number ∙ are.count) counted))
-      (slice_get-push_cases counts s k x there);
-}
-  where
-    last_sighting : (graphs : List Graph) (g : Graph) (s : Sighting) → s.commits ≡ length graphs + 1 → CountsOf s g → IsSightingOf (graphs ++ g ∷ []) s
-    last_sighting graphs g s number counted = (
-      g,
-      subst (λ (n : ℕ). slice_get (no_graph ∷ graphs ++ g ∷ []) n ≡ Some g) (let e : length (no_graph ∷ graphs) ≡ length graphs + 1 = omega arith in e ∙ sym number) (slice_get-last (no_graph ∷ graphs) g),
-      counted,
-    )
 
 -- ---- the lines of an observer
 

@@ -1,12 +1,12 @@
 -- What is noted of a list stays so as the list grows, and a look at the whole of it may be noted behind.
-use Rattle.std.proofs.Common.{◌≡◌, ℕ, zero, suc, ◌+◌, ◌-◌, ◌<◌, ◌≤◌, Bool, true, false, nat_lt, List, [], ◌∷◌, ◌++◌, All, AllPairs, length, get_or, refl, sym, subst, ap, ◌∙◌, ⊎_elim, arith}
+use Rattle.std.proofs.Common.{◌≡◌, ℕ, ◌-◌, ◌<◌, ◌≤◌, true, false, nat_lt, List, [], ◌∷◌, ◌++◌, All, AllPairs, length, get_or, refl, sym, subst, ap, ◌∙◌, ⊎_elim, arith}
 use Rattle.std.specs.Prelude.{slice_get, Option, None, Some, fold}
 use Rattle.std.specs.Option.{option_map_or}
 use Rattle.std.proofs.lemmas.Bool.{cases_lt, ltb-true, ltb-false, true≢false}
-use Rattle.std.proofs.lemmas.List.Elements.{All-get_or, All-from_get_or, All-nil, All-push, All-weaker}
+use Rattle.std.proofs.lemmas.List.Elements.{All-get_or, All-from_get_or, All-push, All-weaker}
 use Rattle.std.proofs.lemmas.List.Quantifiers.{all_pairs_push}
-use Rattle.std.proofs.lemmas.Option.{get_or_from_slice_get, none-some, same_Some, slice_get_within}
-use Rattle.base.proofs.PlaceLaws.{slice_get-front, slice_get-there}
+use Rattle.std.proofs.lemmas.Option.{get_or_from_slice_get, none-some, slice_get_within}
+use Rattle.base.proofs.PlaceLaws.{slice_get-front, slice_get-there, parted_at_last}
 use Rattle.config_graph.specs.Graph.{Graph}
 use Rattle.watch_lines.specs.Sightings.{CountsOf, IsBelow, IsSightingOf}
 use Rattle.watch_lines.specs.declared.sighting.Sighting.{Sighting}
@@ -40,12 +40,6 @@ sighted_within list s is = let low = slice_get_within (no_graph ∷ list) s.comm
 
 at_place : {A : Type 0} (P : A → Type 0) (xs : List A) (i : ℕ) (x : A) → All P xs → slice_get xs i ≡ Some x → P x
 at_place P xs i x all is = subst P (get_or_from_slice_get xs i x x is) (All-get_or P xs i x (slice_get_within xs i x is) all)
-
-parted_at_last : {A : Type 0} (xs : List A) (n : ℕ) (x : A) → slice_get xs n ≡ Some x → length xs ≡ n + 1 → (earlier : List A) × (xs ≡ earlier ++ x ∷ [])
-parted_at_last [] n x is long = absurd (none-some x is)
-parted_at_last (y ∷ []) zero x is long = ([], ap (λ z. z ∷ []) (same_Some y x is))
-parted_at_last (y ∷ z ∷ zs) zero x is long = absurd (omega (arith, long))
-parted_at_last (y ∷ ys) (suc n) x is long = let rest = parted_at_last ys n x is (omega (arith, long)) in (y ∷ rest.0, ap (λ zs. y ∷ zs) rest.1)
 
 -- no number that was noted is above that of the last
 rises_to : (noted : List Sighting) (last : Sighting) → slice_get noted (length noted - 1) ≡ Some last → AllPairs IsBelow noted → All (λ s. s.commits ≤ last.commits) noted

@@ -5,7 +5,7 @@ use Rattle.std.specs.List.{count_by, list_any}
 use Rattle.std.proofs.lemmas.Bool.{both_ways, cases_Bool, or_right}
 use Rattle.std.proofs.lemmas.List.Folds.{list_any-append}
 use Rattle.base.specs.Each.{Each}
-use Rattle.base.proofs.ContainsLaws.{Contains-here, any_if}
+use Rattle.base.proofs.ContainsLaws.{Contains-here, any_if, any_of}
 use Rattle.base.proofs.EachLaws.{each_at}
 use Rattle.base.proofs.MapLaws.{count_by-append}
 use Rattle.quiesce_core.specs.declared.event.Event.{Event}
@@ -13,15 +13,13 @@ use Rattle.quiesce_core.specs.declared.event.Event.TheVariants as event
 use Rattle.quiesce_core.specs.Runs.{IsRun, done_by, is_begin_of, is_end_of, state_after}
 use Rattle.quiesce_core.specs.State.{exchange}
 use Rattle.quiesce_core.proofs.RunLaws.{fronts_are_runs}
-use Rattle.quiesce_laws.specs.Events.{is_root_of}
+use Rattle.quiesce_laws.specs.Events.{is_root_of, ends_transaction}
 use Rattle.quiesce_laws.specs.Roots.{has_root, is_open_root_after}
 use Rattle.quiesce_laws.proofs.OrderLaws.{begun_count, in_order, was_begun}
-use Rattle.node_turn_laws.specs.Round.{ends_transaction}
 use Rattle.report_types.specs.declared.report.HistoryLine.TheVariants as to
 use Rattle.change_spec.specs.Lawful.{EndedSince, IsDrainedAt, IsEndedAt, Merge}
 use Rattle.change_spec.specs.Members.{Member, of_history, event_of, events, lines, without_roots}
 use Rattle.change_spec.proofs.MemberLaws.{at_line, events_parts, lines_parts}
-use Rattle.quiesce_laws.proofs.MemberLaws.{any_of}
 use Rattle.base.proofs.ListLaws.{count_by-some}
 use Rattle.worked_report_laws.specs.WrongLooks.{hasty}
 use Rattle.worked_report_laws.proofs.PlaceLemmas.{passes_there}

@@ -10,6 +10,8 @@ use Rattle.base.specs.Each.{Each}
 use Rattle.base.proofs.EachLaws.{each_at}
 use Rattle.base.proofs.MapLaws.{list_any-map}
 use Rattle.base.proofs.PlaceLaws.{heads_are}
+use Rattle.base.proofs.ListLaws.{all_parts}
+use Rattle.base.proofs.CountLaws.{counted_some}
 use Rattle.config_graph.specs.Graph.{Graph}
 use Rattle.config_graph.specs.declared.kind.Kind.TheVariants as kind
 use Rattle.config_graph.proofs.GraphByLaws.{one_graph}
@@ -32,9 +34,8 @@ use Rattle.change_spec.specs.Scene.{Seen, config_after, drained_line}
 use Rattle.change_spec.specs.Serial.{Serial}
 use Rattle.change_spec.specs.Statements.{Statement, finish, start}
 use Rattle.change_spec.proofs.SerialLaws.{one_serial}
-use Rattle.change_spec.proofs.MemberLaws.{all_parts, at_line, config_of_lines, events_parts, lines_of_nodes, lines_parts}
+use Rattle.change_spec.proofs.MemberLaws.{at_line, config_of_lines, events_parts, lines_of_nodes, lines_parts}
 use Rattle.change_spec.proofs.StandingLaws.{graph_by}
-use Rattle.change_spec.proofs.TestLaws.{counted_some}
 use Rattle.worked_report_laws.specs.Alone.{log_0, report, report_of, script, start_lines as lone_starts, stop_lines as lone_stops}
 use Rattle.worked_report_laws.specs.Ran as ran
 use Rattle.worked_report_laws.specs.Shown as shown

@@ -11,7 +11,7 @@ use Rattle.base.specs.Each.{Each}
 use Rattle.base.proofs.ContainsLaws.{Contains-here}
 use Rattle.base.proofs.EachLaws.{each_at}
 use Rattle.base.proofs.MapLaws.{count_by-append}
-use Rattle.base.proofs.PlaceLaws.{heads_are}
+use Rattle.base.proofs.PlaceLaws.{heads_are, parted_at}
 use Rattle.base.proofs.RangeLaws.{all_in_range}
 use Rattle.config_graph.specs.declared.node.Target.{Target}
 use Rattle.quiesce_core.specs.Legal.{Legal}
@@ -23,18 +23,17 @@ use Rattle.quiesce_core.specs.declared.event.Event.TheVariants as event
 use Rattle.quiesce_core.proofs.CarryLaws.{takes_carry_begins}
 use Rattle.quiesce_core.proofs.InductionLaws.{place}
 use Rattle.quiesce_core.proofs.RunLaws.{done_by_more, fronts_are_runs}
-use Rattle.quiesce_laws.specs.Events.{is_take_of}
+use Rattle.quiesce_laws.specs.Events.{is_take_of, ends_transaction}
 use Rattle.quiesce_core.proofs.PortEventLaws.{next_serial}
 use Rattle.quiesce_laws.proofs.OrderLaws.{begun_count, in_order, was_begun}
-use Rattle.node_turn_laws.specs.Round.{ends_transaction}
 use Rattle.report_types.specs.declared.report.HistoryLine.TheVariants as to
 use Rattle.report_types.specs.declared.report.Last.TheVariants as last
 use Rattle.report_types.specs.declared.report.NodeLog.{NodeLog}
 use Rattle.change_spec.specs.Lawful.{EndedSince, IsEndedAt, Merge}
 use Rattle.change_spec.specs.Members.{Member, by_node, of_history, event_of, events}
-use Rattle.change_spec.proofs.MemberLaws.{at_line, events_of_nodes, events_parts, parted_at}
-use Rattle.change_spec.proofs.TestLaws.{counted_some}
+use Rattle.change_spec.proofs.MemberLaws.{at_line, events_of_nodes, events_parts}
 use Rattle.base.proofs.ListLaws.{count_by-some}
+use Rattle.base.proofs.CountLaws.{counted_some}
 use Rattle.worked_report_laws.specs.WrongLogs.{altered, hurried, swapped}
 use Rattle.worked_report_laws.proofs.PlaceLemmas.{done_at, passes_there}
 

@@ -9,9 +9,10 @@ use Rattle.std.proofs.lemmas.List.Folds.{list_any-append}
 use Rattle.std.proofs.Math.Seq.{drop-append_seam, take-append_seam}
 use Rattle.base.specs.Each.{Each}
 use Rattle.base.proofs.EachLaws.{each_at}
-use Rattle.base.proofs.PlaceLaws.{tails_are}
+use Rattle.base.proofs.PlaceLaws.{tails_are, parted_at}
 use Rattle.base.proofs.RangeLaws.{all_in_range}
 use Rattle.base.proofs.BoolLaws.{then_so}
+use Rattle.base.proofs.ListLaws.{all_parts}
 use Rattle.quiesce_word.specs.Phases.{is_idle}
 use Rattle.quiesce_core.specs.Effect.{effect}
 use Rattle.quiesce_core.specs.Runs.{IsRun, done_by, is_begin_of, state_after}
@@ -34,7 +35,7 @@ use Rattle.change_spec.specs.Lawful.{IsDrainedAt, IsOfItsKind, Merge, StoodOpenW
 use Rattle.change_spec.specs.Members.{Member, of_history, event_of, events, is_close, lines, state_at}
 use Rattle.change_spec.specs.Roots.{StoodSinceClose}
 use Rattle.change_spec.proofs.StoodLaws.{stood_since}
-use Rattle.change_spec.proofs.MemberLaws.{all_parts, at_line, events_parts, line_there, lines_parts, none_happens, parted_at}
+use Rattle.change_spec.proofs.MemberLaws.{at_line, events_parts, line_there, lines_parts, none_happens}
 use Rattle.worked_report_laws.specs.WrongLooks.{early, outdated}
 use Rattle.worked_report_laws.proofs.PlaceLemmas.{done_at}
 use Rattle.worked_report_laws.proofs.WrongLogLemmas.{begun_before, log_of_s, some_log}

@@ -10,7 +10,7 @@ use Rattle.base.specs.Each.{Each}
 use Rattle.base.proofs.ContainsLaws.{Contains-here, Contains-there}
 use Rattle.base.proofs.EachLaws.{each_at}
 use Rattle.base.proofs.MapLaws.{count_by-append}
-use Rattle.base.proofs.PlaceLaws.{heads_are, tails_are}
+use Rattle.base.proofs.PlaceLaws.{heads_are, tails_are, parted_at}
 use Rattle.component_trait.specs.Moves as moves
 use Rattle.component_trait.specs.States.{NodeState}
 use Rattle.component_trait.specs.Tables.{opening}
@@ -22,17 +22,16 @@ use Rattle.quiesce_core.specs.Effect.{effect}
 use Rattle.quiesce_core.specs.Runs.{IsRun, done_by, done_from, is_end_of, state_after}
 use Rattle.quiesce_core.specs.State.{Configuration, empty, is_live, slot}
 use Rattle.quiesce_core.proofs.RunLaws.{fronts_are_runs, done_parts}
-use Rattle.quiesce_laws.specs.Events.{is_take_of}
+use Rattle.quiesce_laws.specs.Events.{is_take_of, ends_transaction}
 use Rattle.quiesce_laws.proofs.OrderLaws.{in_order}
-use Rattle.node_turn_laws.specs.Round.{ends_transaction}
 use Rattle.report_types.specs.declared.report.HistoryLine.{HistoryLine}
 use Rattle.report_types.specs.declared.report.HistoryLine.TheVariants as to
 use Rattle.change_spec.specs.Lawful.{CameToRest, EndedSince, IsFinishAt, IsOfItsKind, IsRunAt, Merge, is_done}
 use Rattle.change_spec.specs.Members.{Member, by_node, of_history, event_of, events, lines, state_at}
 use Rattle.change_spec.specs.Opening.{fold_at}
 use Rattle.change_spec.specs.Scene.{config_after}
-use Rattle.change_spec.proofs.MemberLaws.{AtLine, all_parts, at_line, config_of_lines, events_parts, lines_of_nodes, lines_parts, parted_at}
-use Rattle.base.proofs.ListLaws.{count_by-some}
+use Rattle.change_spec.proofs.MemberLaws.{AtLine, at_line, config_of_lines, events_parts, lines_of_nodes, lines_parts}
+use Rattle.base.proofs.ListLaws.{count_by-some, all_parts}
 use Rattle.worked_report_laws.specs.Filled.{log_0, log_1}
 use Rattle.worked_report_laws.specs.Systems.{buffer_at}
 use Rattle.worked_report_laws.specs.WrongRuns.{rested_before}

@@ -6,7 +6,7 @@ use Rattle.std.specs.Option.{option_map_or}
 use Rattle.base.specs.Each.{Each}
 use Rattle.base.proofs.EachLaws.{each_at}
 use Rattle.base.proofs.MapLaws.{count_by-append}
-use Rattle.base.proofs.PlaceLaws.{heads_are, tails_are}
+use Rattle.base.proofs.PlaceLaws.{heads_are, tails_are, parted_at}
 use Rattle.component_trait.specs.Moves as moves
 use Rattle.component_trait.specs.States.{NodeState}
 use Rattle.component_trait.specs.Tables.{opening}
@@ -15,7 +15,7 @@ use Rattle.quiesce_core.specs.declared.event.Event.{Event}
 use Rattle.quiesce_core.specs.declared.state.Slot.{Slot}
 use Rattle.quiesce_core.specs.Runs.{IsRun, done_by, state_after}
 use Rattle.quiesce_core.specs.State.{slot}
-use Rattle.node_turn_laws.specs.Round.{ends_transaction}
+use Rattle.quiesce_laws.specs.Events.{ends_transaction}
 use Rattle.report_types.specs.declared.report.HistoryLine.{HistoryLine}
 use Rattle.report_types.specs.declared.report.HistoryLine.TheVariants as to
 use Rattle.report_types.specs.declared.report.Last.TheVariants as last
@@ -24,7 +24,7 @@ use Rattle.change_spec.specs.Lawful.{CameToRest, EndedSince, EndsAs, IsEndedAt, 
 use Rattle.change_spec.specs.Members.{Member, by_node, of_history, event_of, events}
 use Rattle.change_spec.specs.Opening.{fold_of_node}
 use Rattle.change_spec.specs.Serial.{Serial}
-use Rattle.change_spec.proofs.MemberLaws.{at_line, events_of_nodes, events_parts, parted_at}
+use Rattle.change_spec.proofs.MemberLaws.{at_line, events_of_nodes, events_parts}
 use Rattle.change_spec.proofs.SerialLaws.{one_serial}
 use Rattle.worked_report_laws.specs.RunOut.{history, report, script}
 use Rattle.change_plan_laws.specs.Systems.{source_at}

@@ -27,9 +27,10 @@ use Rattle.change_spec.specs.Lawful.{IsDrainedAt, Merge, StoodOpenWhereSaid}
 use Rattle.change_spec.specs.Members.{Member, of_history, events, is_close, lines, state_at, without_roots}
 use Rattle.change_spec.specs.Roots.{StoodSinceClose}
 use Rattle.change_spec.proofs.StoodLaws.{stood_since}
-use Rattle.change_spec.proofs.MemberLaws.{at_line, events_parts, lines_parts, parted_at}
+use Rattle.change_spec.proofs.MemberLaws.{at_line, events_parts, lines_parts}
 use Rattle.base.proofs.ListLaws.{count_by-some}
 use Rattle.base.proofs.BoolLaws.{then_so}
+use Rattle.base.proofs.PlaceLaws.{parted_at}
 use Rattle.worked_report_laws.specs.WrongSerials.{ahead, between, late, log_of_a}
 use Rattle.worked_report_laws.proofs.PlaceLemmas.{DoneAt}
 use Rattle.worked_report_laws.proofs.WrongChangeLemmas.{any_left, any_right}

@@ -7,14 +7,14 @@ use Rattle.change_board.specs.Transcripts.{entries}
 use Rattle.report_types.specs.declared.report.HistoryLine.TheVariants as to
 use Rattle.change_engine.specs.Passivating.{AreLivePorts, passivation_items}
 use Rattle.change_engine.specs.Stopping.{Stops}
-use Rattle.change_engine.proofs.Breaking.{broke_in_stop, on_err}
+use Rattle.change_engine.proofs.Breaking.{broke_in_stop}
 use Rattle.change_engine.proofs.Growing.{grew_none}
 use Rattle.change_engine.proofs.Quieting.{all_live, all_noted, stop_grew}
 use Rattle.change_engine.specs.Growing.{telling}
 use Rattle.change_engine.proofs.stopping.stop.Goals as goal
 use Rattle.std.proofs.lemmas.Result.{IfOk-weaker}
 use Rattle.std.proofs.lemmas.List.{nil_from_length}
-use Rattle.base.proofs.AnswerLaws.{if_err}
+use Rattle.base.proofs.AnswerLaws.{if_err, on_err}
 
 nothing_left : {A : Type 0} (xs : List A) (n : ℕ) → n ≡ length xs → (n == 0) ≡ true → xs ≡ []
 nothing_left xs n e h = nil_from_length xs (sym e ∙ eqb-true n 0 h)

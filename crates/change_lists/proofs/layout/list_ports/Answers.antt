@@ -1,5 +1,5 @@
 use Rattle.config_graph.specs.Graph.{ports}
-use Rattle.change_lists.proofs.ListingLaws.{took_more}
+use Rattle.base.proofs.PlaceLaws.{took_more}
 use Rattle.change_lists.proofs.layout.list_ports.Goals as goal
 
 pub loop-number-preserved : goal.loop-number-preserved

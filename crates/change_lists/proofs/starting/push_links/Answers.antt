@@ -3,9 +3,9 @@ use Rattle.std.specs.List.{enumerate_from}
 use Rattle.std.proofs.lemmas.List.{take_all}
 use Rattle.std.proofs.lemmas.List.FromFn.{length-enumerate_from}
 use Rattle.config_graph.specs.Graph.{ports}
-use Rattle.quiesce_core.proofs.GraphLaws.{get_numbered}
 use Rattle.quiesce_laws.specs.Starts.{link_of}
 use Rattle.change_lists.proofs.ListingLaws.{picked_on}
+use Rattle.base.proofs.PlaceLaws.{get_numbered}
 use Rattle.change_lists.proofs.starting.push_links.Goals as goal
 
 pub loop-port-preserved : goal.loop-port-preserved

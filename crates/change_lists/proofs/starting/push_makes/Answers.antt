@@ -3,9 +3,9 @@ use Rattle.std.specs.List.{enumerate_from}
 use Rattle.std.proofs.lemmas.List.{take_all}
 use Rattle.std.proofs.lemmas.List.FromFn.{length-enumerate_from}
 use Rattle.quiesce_core.specs.declared.event.Event.TheVariants.{Make}
-use Rattle.quiesce_core.proofs.GraphLaws.{get_numbered}
 use Rattle.quiesce_laws.specs.Starts.{make_of}
 use Rattle.change_lists.proofs.ListingLaws.{mapped_on}
+use Rattle.base.proofs.PlaceLaws.{get_numbered}
 use Rattle.change_lists.proofs.starting.push_makes.Goals as goal
 
 pub loop-slot-preserved : goal.loop-slot-preserved

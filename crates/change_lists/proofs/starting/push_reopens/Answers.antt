@@ -2,10 +2,9 @@ use Rattle.std.proofs.Common.{◌<◌, ◌++◌, length, map, Some, refl, ap, �
 use Rattle.std.specs.List.{enumerate_from}
 use Rattle.std.proofs.lemmas.List.{take_all}
 use Rattle.std.proofs.lemmas.List.FromFn.{length-enumerate_from}
-use Rattle.base.proofs.PlaceLaws.{slice_get-there}
+use Rattle.base.proofs.PlaceLaws.{slice_get-there, get_numbered}
 use Rattle.config_graph.specs.Graph.{ports}
 use Rattle.quiesce_core.specs.declared.event.Event.TheVariants.{Reopen}
-use Rattle.quiesce_core.proofs.GraphLaws.{get_numbered}
 use Rattle.quiesce_laws.specs.Starts.{reopen_of}
 use Rattle.change_lists.proofs.ListingLaws.{mapped_on}
 use Rattle.change_lists.proofs.starting.push_reopens.Goals as goal

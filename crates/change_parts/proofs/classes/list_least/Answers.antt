@@ -1,7 +1,7 @@
 use Rattle.std.proofs.Common.{◌∙◌, [], length, ap, sym, subst, All}
 use Rattle.std.proofs.lemmas.List.FromFn.{length-range_with_len}
 use Rattle.change_parts.specs.Classes.{AreClasses, IsTieBelow}
-use Rattle.change_parts.proofs.PairLemmas.{written_back}
+use Rattle.base.proofs.PlaceLaws.{written_back}
 use Rattle.change_parts.proofs.classes.list_least.Goals as goal
 
 pub tie_all-requires : goal.tie_all-requires

@@ -3,10 +3,11 @@ use Rattle.std.specs.List.{range_with_len}
 use Rattle.change_plan.specs.Differences.{IsGone}
 use Rattle.change_plan.specs.Selects.{Selects}
 use Rattle.change_plan.specs.Selects.Selects.{ends}
-use Rattle.change_plan.proofs.DifferenceLemmas.{not_gone, read_at}
+use Rattle.change_plan.proofs.DifferenceLemmas.{not_gone}
 use Rattle.change_plan.proofs.NodeLaws.{from_none, from_some}
 use Rattle.change_plan.proofs.SelectsLaws.{places_pass, places_push}
 use Rattle.change_plan.proofs.differences.list_gone.Goals as goal
+use Rattle.base.proofs.PlaceLaws.{read_at}
 use Rattle.change_plan.proofs.differences.list_gone.Goals.{then-is_none+in_ok-push, else-is_none}
 
 pub loop-index-init : goal.loop-index-init

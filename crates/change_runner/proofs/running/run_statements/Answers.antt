@@ -24,8 +24,8 @@ loop-step-init g c =
       e,
     )
 
-pub carry_out-requires : goal.carry_out-requires
-carry_out-requires g c =
+pub carry_out_step-requires : goal.carry_out_step-requires
+carry_out_step-requires g c =
     let W = g.B.Board in
     let H = g.L.Listener.heard in
     let l = c.loop-step in
@@ -43,7 +43,7 @@ loop-step-preserved g c =
     let step = c.in-Some.step in
     let rest = c.next.new.self.rest.items in
     let same = c.in-Some.ensures.steps.0 in
-    let new = c.carry_out.new in
+    let new = c.carry_out_step.new in
     let p = subst (λ rs. Progress W H c.args.start l.yielded rs l.engine l.listener l.given_up) same l.invariant.2 in
     let x = c.in_ok-given_up.ensures.carried (items_of p.pieces) p.idle p.flag (ready W H c.args.start l.yielded step rest l.engine l.listener l.given_up p) in (
       tt,

@@ -2,7 +2,7 @@ use Rattle.std.proofs.Common.{◌≡◌, ◌∙◌, [], ◌∷◌, ◌++◌, ◌
 use Rattle.std.specs.Int.{w32}
 use Rattle.std.proofs.lemmas.Int.{ints, to_z-of_z}
 use Rattle.change_script.specs.Numbers.{is_integer, integer, integer_fits}
-use Rattle.change_script.proofs.LeftLemmas.{left_pass, left_more, left_none}
+use Rattle.base.proofs.MapLaws.{left_pass, left_more, left_none}
 use Rattle.change_script.proofs.arguments.integer_values.Goals as goal
 
 pub loop-word-init : goal.loop-word-init

@@ -1,5 +1,5 @@
 use Rattle.std.proofs.Common.{◌==◌, arith}
-use Rattle.change_script.proofs.LineLemmas.{cut_at, cut_none}
+use Rattle.base.proofs.LinesLaws.{cut_none, cut_at}
 use Rattle.change_script.proofs.cuts.cut.Goals as goal
 
 pub returns-then-len-bytes-clause-cut : goal.returns-then-len-bytes-clause-cut

@@ -3,7 +3,8 @@ use Rattle.std.proofs.lemmas.Bool.{true≢false}
 use Rattle.config_graph.specs.Cycles.{LeadsToUnmarked, leads_by}
 use Rattle.config_graph.specs.Graph.{Graph, requires_at}
 use Rattle.config_graph.specs.Marks.{IsMarked}
-use Rattle.config_graph.proofs.CycleLaws.{ForSome-from_IfSome, leads_by-MayCall, leads_only, requires_is}
+use Rattle.config_graph.proofs.CycleLaws.{leads_by-MayCall, leads_only, requires_is}
+use Rattle.base.proofs.OptionLaws.{ForSome-from_IfSome}
 use Rattle.config_graph.proofs.cycles.leads_only_to.Goals as goal
 
 pub is_set-requires : goal.is_set-requires

@@ -8,12 +8,13 @@ use Rattle.std.proofs.lemmas.Bool.{false≢true}
 use Rattle.config_graph.specs.Graph.{Graph}
 use Rattle.config_graph.specs.Wiring.{MayCall}
 use Rattle.config_graph.specs.Marks.{IsMarked}
-use Rattle.config_graph.proofs.CycleLaws.{range_below}
 use Rattle.config_graph.proofs.WalkLaws.{acyclic_next}
 use Rattle.config_graph.proofs.ClosureLaws.{IsClosedAt, closed_left, closed_marked, cycle_if_unmarked}
 use Rattle.config_graph.proofs.MarkLaws.{marked_only, none_marked}
-use Rattle.config_graph.proofs.SearchLaws.{All-before_last, All-last, clear_falls}
+use Rattle.config_graph.proofs.SearchLaws.{clear_falls}
 use Rattle.config_graph.proofs.cycles.list_acyclic.Goals as goal
+use Rattle.base.proofs.RangeLaws.{range_below}
+use Rattle.base.proofs.ListLaws.{All-last, All-before_last}
 use Rattle.config_graph.proofs.cycles.list_acyclic.Goals.{In_ok-push_predecessors}
 
 in_range : (n i : ℕ) → i < n → Contains (range_with_len 0 n) i

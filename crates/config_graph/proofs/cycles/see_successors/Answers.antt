@@ -3,8 +3,9 @@ use Rattle.std.specs.Prelude.{option_to_list}
 use Rattle.config_graph.specs.Cycles.{leads_by}
 use Rattle.config_graph.specs.Graph.{requires_at}
 use Rattle.config_graph.specs.Search.{see_all, seen_of, successors_by}
-use Rattle.config_graph.proofs.CycleLaws.{ForSome-from_IfSome, requires_is}
+use Rattle.config_graph.proofs.CycleLaws.{requires_is}
 use Rattle.config_graph.proofs.SearchLaws.{see_all-append, see_all-extends, successors_by-more}
+use Rattle.base.proofs.OptionLaws.{ForSome-from_IfSome}
 use Rattle.config_graph.proofs.cycles.see_successors.Goals as goal
 
 pub see_next-requires : goal.see_next-requires

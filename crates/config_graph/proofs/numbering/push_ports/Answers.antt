@@ -1,5 +1,5 @@
 use Rattle.std.proofs.Common.{◌∙◌}
-use Rattle.config_graph.proofs.NumberingLaws.{row_more}
+use Rattle.base.proofs.RangeLaws.{row_more}
 use Rattle.config_graph.proofs.numbering.push_ports.Goals as goal
 
 pub loop-require-preserved : goal.loop-require-preserved

@@ -7,7 +7,8 @@ use Rattle.config_graph.specs.declared.node.Node.{Node}
 use Rattle.std.proofs.lemmas.List.{length-map}
 use Rattle.elaborator.specs.Links.{IsProvisionNamed}
 use Rattle.elaborator.proofs.PortLemmas.{numbered_within}
-use Rattle.elaborator.proofs.LinkLemmas.{value_read, decl_read, place_within, node_within, port_read, not_provided-composite, not_provided-requirement, provided_of_read}
+use Rattle.elaborator.proofs.LinkLemmas.{decl_read, place_within, node_within, port_read, not_provided-composite, not_provided-requirement, provided_of_read}
+use Rattle.base.proofs.PlaceLaws.{value_read}
 use Rattle.elaborator.proofs.links.provision_at.Goals as goal
 
 pub returns-in_err-node : goal.returns-in_err-node

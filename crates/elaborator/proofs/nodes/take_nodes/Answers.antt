@@ -2,8 +2,8 @@ use Rattle.std.proofs.Common.{◌∙◌, ◌<◌, [], ◌∷◌, ◌++◌, Some,
 use Rattle.std.proofs.lemmas.Option.{slice_get_within, same_Some}
 use Rattle.elaborator.specs.Expansion.{expanded_of, made_of}
 use Rattle.elaborator.specs.NodeOrder.{nodes_in}
-use Rattle.elaborator.proofs.LinkLemmas.{value_read}
 use Rattle.elaborator.proofs.TakenLemmas.{instance_there, taken_next, kept_next}
+use Rattle.base.proofs.PlaceLaws.{value_read}
 use Rattle.elaborator.proofs.nodes.take_nodes.Goals as goal
 
 pub index_mut-instance-requires : goal.index_mut-instance-requires

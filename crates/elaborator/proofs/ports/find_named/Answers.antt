@@ -7,8 +7,8 @@ use Rattle.darwin_parser.specs.Tree.{port_of}
 use Rattle.darwin_walk.specs.Walked.{walked_end}
 use Rattle.elaborator.specs.Expansion.{expanded_of, instance_in}
 use Rattle.elaborator.specs.Ports.{place_of}
-use Rattle.elaborator.proofs.NamingLemmas.{position_within}
 use Rattle.elaborator.proofs.PortLemmas.{instance_numbered, stands_numbered, numbered_within, same_instance, resolve-no_port, named_found}
+use Rattle.base.proofs.FindLaws.{position_within}
 use Rattle.elaborator.proofs.ports.find_named.Goals as goal
 
 pub instance-requires-clause-within : goal.instance-requires-clause-within

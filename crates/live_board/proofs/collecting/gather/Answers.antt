@@ -8,7 +8,8 @@ use Rattle.txn_gate.specs.Seats.{collected_in, node_in, record_of}
 use Rattle.txn_spec.specs.Traces.{HaveOwnSlots}
 use Rattle.txn_spec.specs.declared.view.ChangeView.{ChangeView}
 use Rattle.txn_records.specs.Entries.{config_of}
-use Rattle.live_board.proofs.EndLemmas.{each_of, taken_end, gathers}
+use Rattle.live_board.proofs.EndLemmas.{taken_end, gathers}
+use Rattle.base.proofs.ListLaws.{each_of}
 use Rattle.live_board.proofs.collecting.gather.Goals as goal
 
 pub returns-clause-gathers : goal.returns-clause-gathers

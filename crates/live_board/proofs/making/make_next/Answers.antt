@@ -16,9 +16,10 @@ use Rattle.txn_records.specs.Entries.{config_of}
 use Rattle.txn_records.specs.declared.entry.Entry.{Entry}
 use Rattle.txn_records.specs.declared.entry.Entry.TheVariants.{Did}
 use Rattle.live_board.proofs.LineLaws.{line_behind}
-use Rattle.live_board.proofs.MakeLemmas.{make_fits, make_limits, rotated, slot_below, source_behind, source_guest}
+use Rattle.live_board.proofs.MakeLemmas.{make_fits, make_limits, slot_below, source_behind, source_guest}
 use Rattle.live_board.proofs.SightingLaws.{looked}
 use Rattle.node_host.proofs.HostedLaws.{rests_told}
+use Rattle.base.proofs.ListLaws.{rotated}
 use Rattle.live_board.proofs.making.make_next.Goals as goal
 
 pub handed-guest-requires-clause-rests : goal.handed-guest-requires-clause-rests

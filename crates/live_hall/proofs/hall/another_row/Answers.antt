@@ -17,7 +17,7 @@ loop-at-preserved g c =
     let ls = c.loop-at.locks.items in
     let ms = c.loop-at.more.items in
     let l = c.index_mut.result.now in
-    let new : Lock = record { key = c.another-key.result; missed = 0 } in
+    let new : Lock = record { key = c.second_key-key.result; missed = 0 } in
     let few : length ms < length xs = omega arith in
     let old = here Opens xs ls c.loop-at.at c.index.result.now l i.opens (omega arith) (omega arith) (search rules) c.index_mut.ensures.value in
     let p = paired_second Opens xs ms c.index.result.now new (found_is_there xs (length ms) c.index.result.now few (search rules)) i.more_open (search rules) in

@@ -7,9 +7,10 @@ use Rattle.std.proofs.lemmas.List.FromFn.{length-enumerate_from}
 use Rattle.config_graph.specs.Graph.{first_port}
 use Rattle.quiesce_core.specs.declared.state.Slot.{Slot}
 use Rattle.quiesce_core.specs.Start.{slot_of}
-use Rattle.quiesce_core.proofs.GraphLaws.{get_numbered, first_port_more, first_port_fits}
+use Rattle.quiesce_core.proofs.GraphLaws.{first_port_more, first_port_fits}
 use Rattle.quiesce_core.proofs.starting.list_slots.Goals as goal
 use Rattle.base.proofs.MapLaws.{mapped_more}
+use Rattle.base.proofs.PlaceLaws.{get_numbered}
 
 pub overflow_add-first_port : goal.overflow_add-first_port
 overflow_add-first_port c =

@@ -1,7 +1,7 @@
 use Rattle.std.proofs.Common.{◌∙◌, ◌<◌, arith, below_more, sym}
 use Rattle.std.proofs.lemmas.Option.{get_or_from_slice_get}
 use Rattle.component_trait.specs.Moves as moves
-use Rattle.report_check.proofs.NumberLemmas.{alike, unlike}
+use Rattle.base.proofs.BytesLaws.{alike, unlike}
 use Rattle.report_check.proofs.leading.has_numbers.Goals as goal
 
 pub returns-then-state_word-number : goal.returns-then-state_word-number

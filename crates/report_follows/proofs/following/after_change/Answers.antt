@@ -5,9 +5,10 @@ use Rattle.merge_laws.specs.Reading.{IsChangeSo}
 use Rattle.report_follows.specs.Fronts.{HasNoFront, LeadsTo}
 use Rattle.report_follows.specs.Readers.{EndsSo, IsEndedSo}
 use Rattle.report_follows.proofs.EndLemmas.{ended, none_by, not_ended, not_opened, opening, read_by}
-use Rattle.report_follows.proofs.FoundLemmas.{none_so, some_so, where_both}
 use Rattle.report_follows.proofs.following.after_change.Goals as goal
 use Rattle.std.proofs.lemmas.Result.{IfOk-weaker}
+use Rattle.base.proofs.AnswerLaws.{where_both}
+use Rattle.base.proofs.OptionLaws.{some_so, none_so}
 
 pub returns-in-Some-clause-found : goal.returns-in-Some-clause-found
 returns-in-Some-clause-found c =

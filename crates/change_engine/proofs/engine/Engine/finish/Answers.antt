@@ -2,11 +2,11 @@ use Rattle.std.proofs.Common.{refl}
 use Rattle.change_engine.specs.Calls.{HasFinished}
 use Rattle.change_engine.specs.Finishing.{Finished}
 use Rattle.change_engine.specs.declared.engine.Engine.{Engine}
-use Rattle.change_engine.proofs.Breaking.{on_both_errs}
 use Rattle.change_engine.proofs.EngineLemmas.{has_finished}
 use Rattle.change_engine.specs.Growing.{telling}
 use Rattle.change_engine.proofs.engine.Engine.finish.Goals as goal
 use Rattle.std.proofs.lemmas.Result.{IfOk-weaker}
+use Rattle.base.proofs.AnswerLaws.{on_both_errs}
 
 pub returns-clause-ok : goal.returns-clause-ok
 returns-clause-ok g c =

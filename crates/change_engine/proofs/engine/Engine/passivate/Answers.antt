@@ -7,7 +7,8 @@ use Rattle.change_engine.specs.Draining.{Waits}
 use Rattle.change_engine.specs.Growing.{BrokeOff, telling}
 use Rattle.change_engine.specs.Passivating.{AreLivePorts, HasPlaceFor}
 use Rattle.change_engine.proofs.Breaking.{broke_off}
-use Rattle.change_engine.proofs.ChangeLemmas.{all_live, drained, has_broken_off, has_left, has_passivated, no_memory_if, ok_if, open_place, pending_if}
+use Rattle.change_engine.proofs.ChangeLemmas.{all_live, drained, has_broken_off, has_left, has_passivated, no_memory_if, open_place, pending_if}
+use Rattle.base.proofs.AnswerLaws.{ok_if}
 use Rattle.change_engine.proofs.engine.Engine.passivate.Goals as goal
 
 pub drain-drained-requires : goal.drain-drained-requires

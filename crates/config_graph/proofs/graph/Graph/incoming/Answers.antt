@@ -4,8 +4,9 @@ use Rattle.config_graph.specs.Graph.{IsGraph, provides_at, incoming_ports}
 use Rattle.config_graph.specs.Indexes.{graph_in}
 use Rattle.config_graph.specs.Numbering.{provisions}
 use Rattle.config_graph.proofs.IncomingLaws.{incoming-linked, incoming-rising, incoming-within}
-use Rattle.config_graph.proofs.LinkLaws.{get-provisions, table_read}
+use Rattle.config_graph.proofs.LinkLaws.{get-provisions}
 use Rattle.config_graph.proofs.graph.Graph.incoming.Goals as goal
+use Rattle.base.proofs.MapLaws.{table_read}
 use Rattle.config_graph.proofs.graph.Graph.incoming.Goals.{After-as_slice}
 
 lists : (c : After-as_slice) → c.as_slice.result.now ≡ incoming_ports c.args.self.now c.args.node c.args.provide

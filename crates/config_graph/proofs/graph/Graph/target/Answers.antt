@@ -1,7 +1,8 @@
 use Rattle.std.proofs.Common.{◌≡◌, ◌<◌, ◌∙◌, ap, slice_get, All}
 use Rattle.config_graph.specs.Graph.{IsLinkWithin, ports, target_of, requires_at}
-use Rattle.config_graph.proofs.LinkLaws.{IfSome-target, get-ports, table_read}
+use Rattle.config_graph.proofs.LinkLaws.{IfSome-target, get-ports}
 use Rattle.config_graph.proofs.graph.Graph.target.Goals as goal
+use Rattle.base.proofs.MapLaws.{table_read}
 use Rattle.config_graph.proofs.graph.Graph.target.Goals.{After-index}
 
 is_target : (c : After-index) → c.index.result.now ≡ target_of c.args.self.now.links c.args.index c.args.require

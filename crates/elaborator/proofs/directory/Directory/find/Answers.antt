@@ -1,7 +1,8 @@
 use Rattle.std.proofs.Common.{◌∙◌, refl, arith}
 use Rattle.std.proofs.lemmas.Option.{slice_get_read}
 use Rattle.darwin_types.specs.Checked.{description}
-use Rattle.elaborator.proofs.NamingLemmas.{position_within, place_among, component-none, component-at, primitive_told}
+use Rattle.elaborator.proofs.NamingLemmas.{place_among, component-none, component-at, primitive_told}
+use Rattle.base.proofs.FindLaws.{position_within}
 use Rattle.elaborator.proofs.directory.Directory.find.Goals as goal
 
 pub returns-in_err-place : goal.returns-in_err-place

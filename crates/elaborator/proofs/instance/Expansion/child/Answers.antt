@@ -3,10 +3,11 @@ use Rattle.std.specs.List.{slice_get}
 use Rattle.std.proofs.lemmas.Bool.{false≢true}
 use Rattle.std.proofs.lemmas.Option.{slice_get_read, same_Some, slice_get_within}
 use Rattle.base.proofs.PlaceLaws.{slice_get-map_at, slice_get-map_some}
+use Rattle.base.proofs.OptionLaws.{same_option, same_option_back}
 use Rattle.elaborator.specs.PathNumbers.{path_hash}
 use Rattle.elaborator.specs.Expansion.{paths_of, instance_in}
 use Rattle.elaborator.specs.declared.instance.Instance as code_instance
-use Rattle.elaborator.proofs.ChildLaws.{find-child, find-no_child, same_option, same_option_back}
+use Rattle.elaborator.proofs.ChildLaws.{find-child, find-no_child}
 use Rattle.elaborator.proofs.HashLemmas.{start-kept}
 use Rattle.elaborator.proofs.instance.Expansion.child.Goals as goal
 

@@ -2,7 +2,7 @@ use Rattle.std.proofs.Common.{◌≡◌, ◌<◌, length, slice_get, arith}
 use Rattle.std.proofs.lemmas.Grind.{common_steps}
 use Rattle.std.proofs.lemmas.Option.{gets}
 use Rattle.passive_set.proofs.MarkLemmas.{marked_below}
-use Rattle.passive_set.proofs.PortLemmas.{IfSome-read}
+use Rattle.base.proofs.PlaceLaws.{IfSome-read}
 use Rattle.passive_set.proofs.port_set.PortSet.get.Goals as goal
 
 pub returns-clause-below : goal.returns-clause-below

@@ -7,7 +7,7 @@ use Rattle.txn_spec.specs.Views.{is_among}
 use Rattle.txn_records.specs.Entries.{config_of}
 use Rattle.watch_lines.specs.Observers.{AreToldOf}
 use Rattle.watch_lines.specs.Sightings.{AreSightingsOf}
-use Rattle.live_run.proofs.running.carry_out.Goals as goal
+use Rattle.live_run.proofs.running.run_watched.Goals as goal
 
 pub returns-clause-carried : goal.returns-clause-carried
 returns-clause-carried g c =

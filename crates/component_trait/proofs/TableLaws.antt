@@ -26,15 +26,6 @@ Small vs = All (λ v. v < value_limit) vs
 abbrev pub node : Kind → ℕ → Kept → Option Service → NodeState
 node k a kept o = record { kind = k; arg = a; kept = kept; service = o }
 
--- serving keeps what is wanted
-pub wants_stay : (k : Kind) (a : ℕ) (kept : Kept) (v : ℕ) (x : Ask) → wants k a kept ≡ Some x → wants k a (serve k a kept v).kept ≡ Some x
-wants_stay Philosopher a kept v x e = e
-wants_stay Source a kept v x e = e
-wants_stay Teller a kept v x e = e
-wants_stay Asker a kept v x e = e
-wants_stay Buffer a kept v x e = search rules
-wants_stay _ a kept v x e = search rules
-
 -- what is replied as an answer is no request
 gives_ask_nothing : (b : Bool) (r : ℕ) → asked_by (cond b None (Some (next.Give r))) ≡ None
 gives_ask_nothing true r = refl

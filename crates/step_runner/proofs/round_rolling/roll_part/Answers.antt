@@ -6,7 +6,7 @@ use Rattle.change_parts.specs.Carrying.{CanCarryOutAll}
 use Rattle.change_plan_laws.specs.Committing.{made_in}
 use Rattle.step_runner.specs.Rolling.{HasRolledUpTo, WherePending}
 use Rattle.change_transcript_laws.specs.Pieces.{config_at}
-use Rattle.step_runner.proofs.round_rolling.carry_out.Goals as goal
+use Rattle.step_runner.proofs.round_rolling.roll_part.Goals as goal
 
 pub returns-in-Ok : goal.returns-in-Ok
 returns-in-Ok g c = λ t idle can. c.in-Ok.ensures.ok t idle can

@@ -1,7 +1,7 @@
 use Rattle.std.proofs.Common.{sym, subst}
 use Rattle.change_runner.specs.Doing.{Carried}
 use Rattle.change_runner.proofs.DoingLemmas.{finished, ran, shown}
-use Rattle.change_runner.proofs.running.carry_out.Goals as goal
+use Rattle.change_runner.proofs.running.carry_out_step.Goals as goal
 
 pub returns-in_ok-run-in-Run-clause-carried : goal.returns-in_ok-run-in-Run-clause-carried
 returns-in_ok-run-in-Run-clause-carried g c = λ t idle flag ready.

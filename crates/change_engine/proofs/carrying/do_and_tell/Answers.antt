@@ -1,6 +1,6 @@
 use Rattle.std.proofs.Common.{◌≡◌, ◌++◌, cond, ap, ◌∙◌}
 use Rattle.change_engine.proofs.CarryingLemmas.{carries}
-use Rattle.change_engine.proofs.carrying.carry_out.Goals as goal
+use Rattle.change_engine.proofs.carrying.do_and_tell.Goals as goal
 
 pub returns : goal.returns
 returns g c =
