@@ -2,6 +2,7 @@ pub mod Places
 pub mod Calls
 pub mod Told
 pub mod Seats
+pub mod Acts
 pub mod PortNotes
 pub mod Tabled
 pub mod TablesOf

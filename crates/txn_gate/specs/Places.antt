@@ -5,13 +5,21 @@ use Rattle.atomic_table.specs.Seated.{TableId}
 use Rattle.config_graph.specs.Kinds.{row}
 use Rattle.config_graph.specs.declared.TheConstants.{MAX_NODES, MAX_PORTS}
 use Rattle.node_gate.specs.Seats.{IsWithinLimits}
+use Rattle.txn_spec.specs.Steps.{IsChange, IsNode, Seat}
 use Rattle.txn_spec.specs.Views.{node_at}
 use Rattle.txn_spec.specs.declared.view.NodeView.{NodeView}
 
--- the seat is of this table, which has a word for each port and one for each slot
-pub record IsHere (seat gates : TableId) : Type 0 where
+-- the seat is of this table, which has a word for each port and one for each slot, and it is that of a node
+pub record IsNodeHere (seat gates : TableId) (me : Seat) : Type 0 where
   pub same : seat ≡ gates
   pub words : gates.words ≡ MAX_PORTS + MAX_NODES
+  pub node : IsNode me
+
+-- or that of the change
+pub record IsChangeHere (seat gates : TableId) (me : Seat) : Type 0 where
+  pub same : seat ≡ gates
+  pub words : gates.words ≡ MAX_PORTS + MAX_NODES
+  pub change : IsChange me
 
 -- so a seat's node is within the limits of a run, in the slot that the seat says
 pub within_limits : (n : NodeView) (slot first : ℕ) → n.slot ≡ slot → n.made.first_port ≡ first → slot < MAX_NODES

@@ -13,9 +13,10 @@ ghost use Rattle.quiesce_core.specs.Knowledge.{nothing_known};
 ghost use Rattle.quiesce_core.specs.Legal.{CanMake};
 ghost use Rattle.quiesce_core.specs.Rules.{is_live_port};
 ghost use Rattle.quiesce_core.specs.declared.event.Event.TheVariants as event;
-ghost use Rattle.txn_spec.specs.Views.{notes, nothing_done, of_node};
+ghost use Rattle.txn_spec.specs.Views.{nothing_done, of_node};
 ghost use Rattle.txn_spec.specs.declared.view.NodeView.{NodeView as NodeFields};
-ghost use Rattle.txn_gate.specs.Calls.{made_node};
+ghost use Rattle.txn_gate.specs.Acts.{SeatDid, SeatMade};
+ghost use Rattle.txn_gate.specs.Calls.{made_node, slot_word};
 ghost use Rattle.txn_gate.specs.Seats.{IsChangeSeatOf, change_in, collected_in, node_in, record_of, table_of_change, table_of_node};
 ghost use Rattle.txn_spec.specs.Traces.{first_words};
 
@@ -88,13 +89,8 @@ impl Gates {
         requires spare { 0 < seat.old.spare }
         requires may { CanMake (config_of (record_of seat.old))
             (length (config_of (record_of seat.old)).slots) node.now from }
-        ensures here { (table_of_change seat.new ≡ table_of_change seat.old)
-            × (table_of_node result ≡ table_of_change seat.old) }
-        ensures change { change_in seat.new ≡ record (notes (change_in seat.old)
-            (Did (event.Make (length (config_of (record_of seat.old)).slots) node.now from)))
-            { seats = (change_in seat.old).seats + 1 } }
-        ensures nodes { collected_in seat.new ≡ collected_in seat.old }
-        ensures spare { seat.new.spare + 1 ≡ seat.old.spare }
+        ensures made { SeatMade (length (config_of (record_of seat.old)).slots) node.now from seat.old seat.new }
+        ensures here { table_of_node result ≡ table_of_change seat.old }
         ensures node { node_in result ≡ made_node (length (config_of (record_of seat.old)).slots)
             (length (config_of (record_of seat.old)).gates) node.now from }
     {
@@ -123,22 +119,11 @@ impl Gates {
         requires spare { 0 < seat.old.spare }
         requires slot { slot ≡ length (config_of (record_of seat.old)).slots }
         requires may { CanMake (config_of (record_of seat.old)) slot node.now from }
-        requires made { made ≡ record {
-          kind = node.now.kind;
-          first_port = length (config_of (record_of seat.old)).gates;
-          arg = node.now.arg;
-          from = from;
-        } }
-        ensures here { (table_of_change seat.new ≡ table_of_change seat.old)
-            × (result.table_id ≡ table_of_change seat.old) }
-        ensures change { change_in seat.new ≡ record (notes (change_in seat.old) (Did (event.Make slot node.now from)))
-            { seats = (change_in seat.old).seats + 1 } }
-        ensures nodes { collected_in seat.new ≡ collected_in seat.old }
-        ensures spare { seat.new.spare + 1 ≡ seat.old.spare }
-        ensures node { result.me ≡ (
-          of_node (made_node slot (length (config_of (record_of seat.old)).gates) node.now from),
-          [],
-        ) }
+        requires made { made ≡ slot_word (length (config_of (record_of seat.old)).gates) node.now from }
+        ensures made { SeatMade slot node.now from seat.old seat.new }
+        ensures here { result.table_id ≡ table_of_change seat.old }
+        ensures node { result.me
+            ≡ (of_node (made_node slot (length (config_of (record_of seat.old)).gates) node.now from), []) }
     {
         seat.tables.make(node, from);
         steps::make::<E>(&self.words, &mut seat.seat, slot, made.pack(), node, from);
@@ -173,10 +158,7 @@ impl Gates {
     pub fn close(&self, seat: &mut ChangeSeat, port: u32)
         requires here { IsChangeSeatOf seat.old self.now }
         requires live { IsTrue (is_live_port (config_of (record_of seat.old)) port) }
-        ensures here { table_of_change seat.new ≡ table_of_change seat.old }
-        ensures change { change_in seat.new ≡ notes (change_in seat.old) (Did (event.Close port)) }
-        ensures nodes { collected_in seat.new ≡ collected_in seat.old }
-        ensures spare { seat.new.spare ≡ seat.old.spare }
+        ensures { SeatDid seat.old seat.new (Did (event.Close port)) }
     {
         seat.tables.close(port);
         steps::close::<Brand>(&self.words, &mut seat.seat, port);
@@ -186,10 +168,7 @@ impl Gates {
     pub fn reopen(&self, seat: &mut ChangeSeat, port: u32)
         requires here { IsChangeSeatOf seat.old self.now }
         requires live { IsTrue (is_live_port (config_of (record_of seat.old)) port) }
-        ensures here { table_of_change seat.new ≡ table_of_change seat.old }
-        ensures change { change_in seat.new ≡ notes (change_in seat.old) (Did (event.Reopen port)) }
-        ensures nodes { collected_in seat.new ≡ collected_in seat.old }
-        ensures spare { seat.new.spare ≡ seat.old.spare }
+        ensures { SeatDid seat.old seat.new (Did (event.Reopen port)) }
     {
         seat.tables.reopen(port);
         steps::reopen::<Brand>(&self.words, &mut seat.seat, port);
@@ -199,13 +178,8 @@ impl Gates {
     pub fn look(&self, seat: &mut ChangeSeat, port: u32) -> Look
         requires here { IsChangeSeatOf seat.old self.now }
         requires made { port < length (config_of (record_of seat.old)).gates }
-        ensures here { table_of_change seat.new ≡ table_of_change seat.old }
-        ensures change { (word : ℕ)
-            × (change_in seat.new ≡ notes (change_in seat.old) (Looked port word))
-            × (result ≡ look_of word) }
+        ensures did { (word : ℕ) × SeatDid seat.old seat.new (Looked port word) × (result ≡ look_of word) }
         ensures run { IsRecord (record_of seat.new) }
-        ensures nodes { collected_in seat.new ≡ collected_in seat.old }
-        ensures spare { seat.new.spare ≡ seat.old.spare }
     {
         let word = steps::look(&self.words, &mut seat.seat, port);
         seat.tables.look(port, word);
@@ -217,10 +191,7 @@ impl Gates {
     pub fn link(&self, seat: &mut ChangeSeat, port: u32, node: u32, provide: u32)
         requires here { IsChangeSeatOf seat.old self.now }
         requires may { MayLink (is_noted (record_of seat.old)) (config_of (record_of seat.old)) port node provide }
-        ensures here { table_of_change seat.new ≡ table_of_change seat.old }
-        ensures change { change_in seat.new ≡ notes (change_in seat.old) (Did (event.Link port node provide)) }
-        ensures nodes { collected_in seat.new ≡ collected_in seat.old }
-        ensures spare { seat.new.spare ≡ seat.old.spare }
+        ensures { SeatDid seat.old seat.new (Did (event.Link port node provide)) }
     {
         let to = Target { node, provide };
         seat.tables.link(port, to);
@@ -231,10 +202,7 @@ impl Gates {
     pub fn unlink(&self, seat: &mut ChangeSeat, port: u32)
         requires here { IsChangeSeatOf seat.old self.now }
         requires may { MayUnlink (is_noted (record_of seat.old)) (config_of (record_of seat.old)) port }
-        ensures here { table_of_change seat.new ≡ table_of_change seat.old }
-        ensures change { change_in seat.new ≡ notes (change_in seat.old) (Did (event.Unlink port)) }
-        ensures nodes { collected_in seat.new ≡ collected_in seat.old }
-        ensures spare { seat.new.spare ≡ seat.old.spare }
+        ensures { SeatDid seat.old seat.new (Did (event.Unlink port)) }
     {
         let was = seat.tables.unlink(port);
         change_steps::unlink::<Brand>(&self.words, &mut seat.seat, port, was);
@@ -244,10 +212,7 @@ impl Gates {
     pub fn remove(&self, seat: &mut ChangeSeat, node: u32)
         requires here { IsChangeSeatOf seat.old self.now }
         requires may { MayRemove (is_noted (record_of seat.old)) (config_of (record_of seat.old)) node }
-        ensures here { table_of_change seat.new ≡ table_of_change seat.old }
-        ensures change { change_in seat.new ≡ notes (change_in seat.old) (Did (event.Remove node)) }
-        ensures nodes { collected_in seat.new ≡ collected_in seat.old }
-        ensures spare { seat.new.spare ≡ seat.old.spare }
+        ensures { SeatDid seat.old seat.new (Did (event.Remove node)) }
     {
         seat.tables.remove(node);
         change_steps::remove::<Brand>(&self.words, &mut seat.seat, node);

@@ -7,11 +7,11 @@ ghost use Rattle.quiesce_word.specs.Words.{unpack};
 ghost use Rattle.quiesce_core.specs.declared.event.Event.TheVariants as event;
 ghost use Rattle.node_gate.specs.Answers.{CallSays, HearSays};
 ghost use Rattle.node_gate.specs.Moves as moves;
-ghost use Rattle.node_gate.specs.Moves.{Does};
 ghost use Rattle.node_gate.specs.Seats.{MayAsk, MayCallAt, MayHear, MaySendMore, serial_served};
-ghost use Rattle.txn_spec.specs.Steps.{WasShown, looks};
+ghost use Rattle.txn_spec.specs.Steps.{looks};
 ghost use Rattle.txn_spec.specs.Views.{does, node_at, reads};
 ghost use Rattle.txn_spec.specs.declared.view.LoadKind.TheVariants as kinds;
+ghost use Rattle.txn_gate.specs.Acts.{NodeDid, NodeMay};
 ghost use Rattle.txn_gate.specs.Calls.{ByWord, after, called_in, heard_in};
 ghost use Rattle.txn_gate.specs.Seats.{IsSeatOf, node_in, table_of_node};
 
@@ -31,10 +31,7 @@ impl Gates {
     pub fn call(&self, seat: &mut NodeSeat, port: u32, value: u32) -> CallAnswer
         requires here { IsSeatOf seat.old self.now }
         requires may { MayCallAt (node_at (node_in seat.old)) seat.old.known port value }
-        ensures here { table_of_node seat.new ≡ table_of_node seat.old }
-        ensures node { node_at (node_in seat.new) ≡ node_at (node_in seat.old) }
-        ensures does { Does (node_at (node_in seat.old)) (moves.events_of_call port value result)
-            seat.old.known seat.new.known (Some (node_in seat.old).log) (Some (node_in seat.new).log) None None }
+        ensures did { NodeDid seat.old seat.new (moves.events_of_call port value result) }
         ensures words { ByWord kinds.Own port called_in (λ a n. after n (moves.events_of_call port value a))
             result (node_in seat.old) (node_in seat.new) }
         ensures says { CallSays None port result }
@@ -149,10 +146,7 @@ impl Gates {
     pub fn hear(&self, seat: &mut NodeSeat, port: u32) -> HearAnswer
         requires here { IsSeatOf seat.old self.now }
         requires may { MayHear seat.old.known port }
-        ensures here { table_of_node seat.new ≡ table_of_node seat.old }
-        ensures node { node_at (node_in seat.new) ≡ node_at (node_in seat.old) }
-        ensures does { Does (node_at (node_in seat.old)) (moves.events_of_hear port seat.old.known result)
-            seat.old.known seat.new.known (Some (node_in seat.old).log) (Some (node_in seat.new).log) None None }
+        ensures did { NodeDid seat.old seat.new (moves.events_of_hear port seat.old.known result) }
         ensures words { ByWord kinds.Hear port heard_in (λ a n. after n (moves.events_of_hear port n.known a))
             result (node_in seat.old) (node_in seat.new) }
         ensures says { HearSays None port result }
@@ -165,13 +159,8 @@ impl Gates {
     fn hear_word(&self, seat: &mut NodeSeat, port: u32) -> u64
         requires here { IsSeatOf seat.old self.now }
         requires may { MayHear seat.old.known port }
-        ensures here { table_of_node seat.new ≡ table_of_node seat.old }
-        ensures heard { is_asked (unpack result).phase ≡ true
-            → node_in seat.new ≡ does (reads (node_in seat.old) kinds.Hear port result)
-            (event.Hear port (serial_served seat.old.known) (unpack result).value) }
-        ensures kept { is_asked (unpack result).phase ≡ false
-            → node_in seat.new ≡ reads (node_in seat.old) kinds.Hear port result }
-        ensures shown { WasShown (node_in seat.old) port result }
+        ensures { NodeMay (is_asked (unpack result).phase)
+            (event.Hear port (serial_served seat.old.known) (unpack result).value) kinds.Hear port result seat.old seat.new }
     {
         let serial = seat.serial_served();
         let found = steps::hear(&self.words, &mut seat.seat, port);

@@ -1,20 +1,18 @@
 //! The calls of nodes at the gates, of their own transactions and of the requests that they service.
 
-ghost use Rattle.std.specs.Prelude.{◌≡◌, ◌≢◌, None, ◌+◌, ◌<◌, Some, false, true};
+ghost use Rattle.std.specs.Prelude.{◌≡◌, ◌≢◌, None, ◌+◌, ◌<◌};
 ghost use Rattle.config_graph.specs.declared.TheConstants.{MAX_PORTS};
-ghost use Rattle.config_graph.specs.declared.node.Target.{Target as Linked};
 ghost use Rattle.quiesce_word.specs.Words.{FitsWord, is_message_to, unpack};
-ghost use Rattle.quiesce_word.specs.declared.phase.Phase.TheVariants as phases;
 ghost use Rattle.quiesce_core.specs.declared.event.Event.TheVariants as event;
 ghost use Rattle.quiesce_core.specs.Rules.{last_serial};
 ghost use Rattle.node_gate.specs.Answers.{BeginSays, SeeSays, TakeSays};
 ghost use Rattle.node_gate.specs.Moves as moves;
-ghost use Rattle.node_gate.specs.Moves.{Does};
 ghost use Rattle.node_gate.specs.Seats.{MayBegin, MayEnd, MayGive, MaySee, MayTake};
-ghost use Rattle.txn_spec.specs.Steps.{WasShown, seen_in};
+ghost use Rattle.txn_spec.specs.Steps.{seen_in};
 ghost use Rattle.txn_spec.specs.Views.{does, node_at, reads};
 ghost use Rattle.txn_spec.specs.declared.view.LoadKind.TheVariants as kinds;
-ghost use Rattle.txn_gate.specs.Calls.{ByWord, ByWords, after, exchanged_in, refused_in, taken_in};
+ghost use Rattle.txn_gate.specs.Acts.{NodeDid, NodeMay};
+ghost use Rattle.txn_gate.specs.Calls.{ByWord, ByWords, MayBeBegun, after, asked_word, exchanged_in, refused_in, taken_in};
 ghost use Rattle.txn_gate.specs.Seats.{IsSeatOf, node_in, table_of_node};
 
 use crate::answering::{exchanged, refusal, seen, taken};
@@ -33,10 +31,7 @@ impl Gates {
     pub fn begin(&self, seat: &mut NodeSeat, port: u32, value: u32) -> BeginAnswer
         requires here { IsSeatOf seat.old self.now }
         requires may { MayBegin (node_at (node_in seat.old)) seat.old.known port value }
-        ensures here { table_of_node seat.new ≡ table_of_node seat.old }
-        ensures node { node_at (node_in seat.new) ≡ node_at (node_in seat.old) }
-        ensures does { Does (node_at (node_in seat.old)) (moves.events_of_begin port value result)
-            seat.old.known seat.new.known (Some (node_in seat.old).log) (Some (node_in seat.new).log) None None }
+        ensures did { NodeDid seat.old seat.new (moves.events_of_begin port value result) }
         ensures words { ByWords port value result (node_in seat.old) (node_in seat.new) }
         ensures says { BeginSays None port result }
     {
@@ -96,9 +91,7 @@ impl Gates {
         requires may { MayBegin (node_at (node_in seat.old)) seat.old.known port value }
         requires word { word ≡ unpack loaded }
         requires fits { FitsWord word }
-        requires opened { word.closed ≡ false }
-        requires linked { (t : Linked) × (word.target ≡ Some t) }
-        requires unspent { word.serial < last_serial }
+        requires loaded { MayBeBegun word }
         ensures here { table_of_node seat.new ≡ table_of_node seat.old }
         ensures begun { result ≡ loaded → node_in seat.new
             ≡ does (reads (node_in seat.old) kinds.Exchange port result) E.event }
@@ -125,10 +118,7 @@ impl Gates {
     pub fn take(&self, seat: &mut NodeSeat, port: u32) -> TakeAnswer
         requires here { IsSeatOf seat.old self.now }
         requires may { MayTake seat.old.known port }
-        ensures here { table_of_node seat.new ≡ table_of_node seat.old }
-        ensures node { node_at (node_in seat.new) ≡ node_at (node_in seat.old) }
-        ensures does { Does (node_at (node_in seat.old)) (moves.events_of_take port result) seat.old.known
-            seat.new.known (Some (node_in seat.old).log) (Some (node_in seat.new).log) None None }
+        ensures did { NodeDid seat.old seat.new (moves.events_of_take port result) }
         ensures words { ByWord kinds.Take port (taken_in (node_in seat.old).slot) (λ a n.
             after n (moves.events_of_take port a)) result (node_in seat.old) (node_in seat.new) }
         ensures says { TakeSays None (node_at (node_in seat.old)) port result }
@@ -141,14 +131,8 @@ impl Gates {
     fn take_word(&self, seat: &mut NodeSeat, port: u32) -> u64
         requires here { IsSeatOf seat.old self.now }
         requires may { MayTake seat.old.known port }
-        ensures here { table_of_node seat.new ≡ table_of_node seat.old }
-        ensures slot { seat.new.slot ≡ seat.old.slot }
-        ensures taken { is_message_to seat.old.slot (unpack result) ≡ true
-            → node_in seat.new ≡ does (reads (node_in seat.old) kinds.Take port result)
-            (event.Take port (unpack result).serial (unpack result).value) }
-        ensures kept { is_message_to seat.old.slot (unpack result) ≡ false
-            → node_in seat.new ≡ reads (node_in seat.old) kinds.Take port result }
-        ensures shown { WasShown (node_in seat.old) port result }
+        ensures { NodeMay (is_message_to seat.old.slot (unpack result))
+            (event.Take port (unpack result).serial (unpack result).value) kinds.Take port result seat.old seat.new }
     {
         let found = steps::take(&self.words, &mut seat.seat, port);
         let word = Word::of(found);
@@ -237,8 +221,7 @@ impl Gates {
 /// What an idle port's word becomes where its owner asks for a value.
 fn asked_by(word: Word, value: u32) -> Word
     requires unspent { word.serial < last_serial }
-    ensures { result ≡ record word
-        { phase = phases.Asked; serial = word.serial + 1; value = value; consequent = false } }
+    ensures { result ≡ asked_word word value }
 {
     Word {
         phase: Phase::Asked,

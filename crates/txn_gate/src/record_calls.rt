@@ -1,11 +1,10 @@
 //! The calls by which the change learns of its record, and marks its scans there.
 
-ghost use Rattle.std.specs.Prelude.{◌≡◌};
 ghost use Rattle.txn_records.specs.Records.{IsRecord};
 ghost use Rattle.txn_records.specs.declared.entry.Entry.TheVariants.{Scanned};
 ghost use Rattle.txn_spec.specs.Traces.{HaveOwnSlots};
-ghost use Rattle.txn_spec.specs.Views.{notes};
-ghost use Rattle.txn_gate.specs.Seats.{IsChangeSeatOf, change_in, collected_in, record_of, table_of_change};
+ghost use Rattle.txn_gate.specs.Acts.{SeatDid, SeatStays};
+ghost use Rattle.txn_gate.specs.Seats.{IsChangeSeatOf, collected_in, record_of};
 
 use crate::change_seat::ChangeSeat;
 use crate::gates::Gates;
@@ -17,10 +16,7 @@ impl Gates {
     /// slot.
     pub fn learn(&self, seat: &mut ChangeSeat)
         requires here { IsChangeSeatOf seat.old self.now }
-        ensures here { table_of_change seat.new ≡ table_of_change seat.old }
-        ensures change { change_in seat.new ≡ change_in seat.old }
-        ensures nodes { collected_in seat.new ≡ collected_in seat.old }
-        ensures spare { seat.new.spare ≡ seat.old.spare }
+        ensures same { SeatStays seat.old seat.new }
         ensures run { IsRecord (record_of seat.new) }
         ensures apart { HaveOwnSlots (collected_in seat.new) }
     {
@@ -30,10 +26,7 @@ impl Gates {
     /// The change marks a scan in its record: whether turns might begin in it, and whether one moved.
     pub fn mark(&self, seat: &mut ChangeSeat, begins: bool, moved: bool)
         requires here { IsChangeSeatOf seat.old self.now }
-        ensures here { table_of_change seat.new ≡ table_of_change seat.old }
-        ensures change { change_in seat.new ≡ notes (change_in seat.old) (Scanned begins moved) }
-        ensures nodes { collected_in seat.new ≡ collected_in seat.old }
-        ensures spare { seat.new.spare ≡ seat.old.spare }
+        ensures did { SeatDid seat.old seat.new (Scanned begins moved) }
         ensures run { IsRecord (record_of seat.new) }
     {
         change_steps::mark::<Brand>(&self.words, &mut seat.seat, begins, moved);

@@ -5,11 +5,12 @@ ghost use Rattle.config_graph.specs.declared.TheConstants.{MAX_PORTS};
 ghost use Rattle.txn_records.specs.Records.{IsRecord};
 ghost use Rattle.txn_records.specs.declared.entry.Entry.TheVariants.{Looked};
 ghost use Rattle.txn_spec.specs.Merging.{AreAllAmong, IsOfRecord, MergeIntoRun};
-ghost use Rattle.txn_spec.specs.Steps.{IsChange, IsNode, noted};
+ghost use Rattle.txn_spec.specs.Steps.{noted};
 ghost use Rattle.txn_spec.specs.Traces.{HaveOwnSlots};
 ghost use Rattle.txn_spec.specs.Views.{change_of, given_out, node_of, seat_again, with_seat, with_sight};
 ghost use Rattle.txn_spec.specs.declared.view.NodeView.{NodeView};
-ghost use Rattle.txn_gate.specs.Places.{IsHere};
+ghost use Rattle.txn_gate.specs.Acts.{StepDid};
+ghost use Rattle.txn_gate.specs.Places.{IsChangeHere, IsNodeHere};
 
 use crate::steps::{AnySeat, Words, place_of_port};
 use atomic_table::{Join, Play, Split};
@@ -88,34 +89,26 @@ impl Play<(), View> for Merging {
 
 /// The change takes a node's seat in.
 pub fn take_in(words: &Words, seat: &mut AnySeat, node: AnySeat)
-    requires here { IsHere seat.old.table_id words.now.shared.table_id }
-    requires node_here { IsHere node.table_id words.now.shared.table_id }
-    requires change { IsChange seat.old.me }
-    requires node { IsNode node.me }
-    ensures here { seat.new.table_id ≡ seat.old.table_id }
-    ensures me { seat.new.me ≡ (with_seat seat.old.me.0 node.me.0, []) }
+    requires here { IsChangeHere seat.old.table_id words.now.shared.table_id seat.old.me }
+    requires node_here { IsNodeHere node.table_id words.now.shared.table_id node.me }
+    ensures { StepDid seat.old seat.new (with_seat seat.old.me.0 node.me.0, []) }
 {
     words.shared.join_seat::<TakingIn>(seat, node);
 }
 
 /// The change takes a node's seat in, and notes a sight of the node.
 pub fn sight(words: &Words, seat: &mut AnySeat, node: AnySeat)
-    requires here { IsHere seat.old.table_id words.now.shared.table_id }
-    requires node_here { IsHere node.table_id words.now.shared.table_id }
-    requires change { IsChange seat.old.me }
-    requires node { IsNode node.me }
-    ensures here { seat.new.table_id ≡ seat.old.table_id }
-    ensures me { seat.new.me ≡ (with_sight seat.old.me.0 node.me.0, []) }
+    requires here { IsChangeHere seat.old.table_id words.now.shared.table_id seat.old.me }
+    requires node_here { IsNodeHere node.table_id words.now.shared.table_id node.me }
+    ensures { StepDid seat.old seat.new (with_sight seat.old.me.0 node.me.0, []) }
 {
     words.shared.join_seat::<Sighting>(seat, node);
 }
 
 /// The change learns that its record is one of a run, and that no two nodes whose seats it took in are of one slot.
 pub fn learn(words: &Words, seat: &mut AnySeat)
-    requires here { IsHere seat.old.table_id words.now.shared.table_id }
-    requires change { IsChange seat.old.me }
-    ensures here { seat.new.table_id ≡ seat.old.table_id }
-    ensures me { seat.new.me ≡ seat.old.me }
+    requires here { IsChangeHere seat.old.table_id words.now.shared.table_id seat.old.me }
+    ensures did { StepDid seat.old seat.new seat.old.me }
     ensures run { IsRecord (change_of seat.old.me.0).entries }
     ensures apart { HaveOwnSlots seat.old.me.0.nodes }
 {
@@ -125,11 +118,9 @@ pub fn learn(words: &Words, seat: &mut AnySeat)
 /// The change learns of its record, and of the node whose seat it took in last. A join tells its caller nothing, so
 /// this is a load of its own.
 pub fn meet(words: &Words, seat: &mut AnySeat)
-    requires here { IsHere seat.old.table_id words.now.shared.table_id }
-    requires change { IsChange seat.old.me }
+    requires here { IsChangeHere seat.old.table_id words.now.shared.table_id seat.old.me }
     requires some { (nodes : List NodeView) × (seat.old.me.0.nodes ≡ node_of seat.old.me.0 ∷ nodes) }
-    ensures here { seat.new.table_id ≡ seat.old.table_id }
-    ensures me { seat.new.me ≡ seat.old.me }
+    ensures did { StepDid seat.old seat.new seat.old.me }
     ensures run { IsRecord (change_of seat.old.me.0).entries }
     ensures learned { IsOfRecord (change_of seat.old.me.0).entries (node_of seat.old.me.0) }
 {
@@ -138,8 +129,7 @@ pub fn meet(words: &Words, seat: &mut AnySeat)
 
 /// The change gives the seat out again that it took in last.
 pub fn give_out(words: &Words, seat: &mut AnySeat) -> AnySeat
-    requires here { IsHere seat.old.table_id words.now.shared.table_id }
-    requires change { IsChange seat.old.me }
+    requires here { IsChangeHere seat.old.table_id words.now.shared.table_id seat.old.me }
     requires some { (nodes : List NodeView) × (seat.old.me.0.nodes ≡ node_of seat.old.me.0 ∷ nodes) }
     ensures here { (seat.new.table_id ≡ seat.old.table_id) × (result.table_id ≡ seat.old.table_id) }
     ensures me { seat.new.me ≡ (given_out seat.old.me.0, []) }
@@ -150,12 +140,10 @@ pub fn give_out(words: &Words, seat: &mut AnySeat) -> AnySeat
 
 /// The change looks once more at a port, and learns that its record and the nodes that it took in are of one run.
 pub fn merge(words: &Words, seat: &mut AnySeat, port: u32) -> u64
-    requires here { IsHere seat.old.table_id words.now.shared.table_id }
-    requires change { IsChange seat.old.me }
+    requires here { IsChangeHere seat.old.table_id words.now.shared.table_id seat.old.me }
     requires port { port < MAX_PORTS }
     requires all { AreAllAmong (change_of seat.old.me.0).seats seat.old.me.0.nodes }
-    ensures here { seat.new.table_id ≡ seat.old.table_id }
-    ensures me { seat.new.me ≡ noted seat.old.me (Looked port result) }
+    ensures did { StepDid seat.old seat.new (noted seat.old.me (Looked port result)) }
     ensures merged { MergeIntoRun (change_of seat.new.me.0).entries seat.old.me.0.nodes }
 {
     words.shared.load::<Merging>(seat, place_of_port(port))
@@ -163,8 +151,7 @@ pub fn merge(words: &Words, seat: &mut AnySeat, port: u32) -> u64
 
 /// A node's seat is given on to a new one, and nobody is left in its place.
 pub fn leave(words: &Words, seat: &mut AnySeat) -> AnySeat
-    requires here { IsHere seat.old.table_id words.now.shared.table_id }
-    requires node { IsNode seat.old.me }
+    requires here { IsNodeHere seat.old.table_id words.now.shared.table_id seat.old.me }
     ensures here { (seat.new.table_id ≡ seat.old.table_id) × (result.table_id ≡ seat.old.table_id) }
     ensures node { result.me ≡ seat.old.me }
 {

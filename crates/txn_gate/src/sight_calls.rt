@@ -1,14 +1,14 @@
 //! The calls by which the change takes nodes' seats in: for a sight, or for good.
 
-ghost use Rattle.std.specs.Prelude.{◌≡◌, ◌⊎◌, ◌∷◌, ℕ, ◌<◌, false, IsTrue, Some, None, length, option_map};
+ghost use Rattle.std.specs.Prelude.{◌≡◌, ◌⊎◌, ℕ, ◌<◌, false, IsTrue, length};
 ghost use Rattle.txn_records.specs.Entries.{config_of};
 ghost use Rattle.txn_records.specs.Records.{AreAllNoted, IsRecord};
 ghost use Rattle.txn_records.specs.declared.entry.Entry.TheVariants.{Looked, Sighted};
-ghost use Rattle.quiesce_core.specs.State.{is_live, slot};
-ghost use Rattle.quiesce_core.specs.Words.{slot_fields_of};
-ghost use Rattle.txn_spec.specs.Merging.{MergeIntoRun};
-ghost use Rattle.txn_spec.specs.Views.{is_among, notes};
-ghost use Rattle.txn_gate.specs.Seats.{IsChangeSeatOf, IsSeatOf, change_in, collected_in, node_in, record_of, table_of_change, table_of_node};
+ghost use Rattle.quiesce_core.specs.State.{is_live};
+ghost use Rattle.txn_spec.specs.Merging.{IsOfRecord, MergeIntoRun};
+ghost use Rattle.txn_spec.specs.Views.{is_among};
+ghost use Rattle.txn_gate.specs.Acts.{NodeStays, SeatDid, SeatTook};
+ghost use Rattle.txn_gate.specs.Seats.{IsChangeSeatOf, IsSeatOf, collected_in, node_in, record_of};
 
 use crate::change_seat::ChangeSeat;
 use crate::gates::Gates;
@@ -21,19 +21,9 @@ impl Gates {
     pub fn sight_in(&self, seat: &mut ChangeSeat, node: &mut NodeSeat)
         requires here { IsChangeSeatOf seat.old self.now }
         requires node_here { IsSeatOf node.old self.now }
-        ensures here { (table_of_change seat.new ≡ table_of_change seat.old)
-            × (table_of_node node.new ≡ table_of_node node.old) }
-        ensures change { change_in seat.new ≡ notes (change_in seat.old)
-            (Sighted (node_in node.old).slot (node_in node.old).log) }
-        ensures nodes { collected_in seat.new ≡ collected_in seat.old }
-        ensures spare { seat.new.spare ≡ seat.old.spare }
-        ensures node { node_in node.new ≡ node_in node.old }
-        ensures kept { (node.new.slot ≡ node.old.slot) × (node.new.first_port ≡ node.old.first_port)
-            × (node.new.known ≡ node.old.known) }
-        ensures made { option_map slot_fields_of (slot (config_of (record_of seat.old))
-            (node_in node.old).slot) ≡ Some (node_in node.old).made }
-        ensures removed { is_live (config_of (record_of seat.old)) (node_in node.old).slot
-            ≡ false → (node_in node.old).known.service ≡ None }
+        ensures did { SeatDid seat.old seat.new (Sighted (node_in node.old).slot (node_in node.old).log) }
+        ensures node { NodeStays node.old node.new }
+        ensures learned { IsOfRecord (record_of seat.old) (node_in node.old) }
         ensures run { IsRecord (record_of seat.new) }
     {
         let theirs = seat_steps::leave(&self.words, &mut node.seat);
@@ -48,14 +38,8 @@ impl Gates {
         requires node_here { IsSeatOf node self.now }
         requires may { (is_live (config_of (record_of seat.old)) (node_in node).slot
             ≡ false) ⊎ AreAllNoted (record_of seat.old) }
-        ensures here { table_of_change seat.new ≡ table_of_change seat.old }
-        ensures change { change_in seat.new ≡ change_in seat.old }
-        ensures nodes { collected_in seat.new ≡ node_in node ∷ collected_in seat.old }
-        ensures spare { seat.new.spare ≡ seat.old.spare }
-        ensures made { option_map slot_fields_of (slot (config_of (record_of seat.old))
-            (node_in node).slot) ≡ Some (node_in node).made }
-        ensures removed { is_live (config_of (record_of seat.old)) (node_in node).slot
-            ≡ false → (node_in node).known.service ≡ None }
+        ensures took { SeatTook (node_in node) seat.old seat.new }
+        ensures learned { IsOfRecord (record_of seat.old) (node_in node) }
     {
         let NodeSeat { seat: theirs, .. } = node;
         seat_steps::take_in(&self.words, &mut seat.seat, theirs);
@@ -68,10 +52,7 @@ impl Gates {
         requires here { IsChangeSeatOf seat.old self.now }
         requires collected { (n : ℕ) → n < length (config_of (record_of seat.old)).slots
             → IsTrue (is_among (collected_in seat.old) n) }
-        ensures here { table_of_change seat.new ≡ table_of_change seat.old }
-        ensures change { (word : ℕ) × (change_in seat.new ≡ notes (change_in seat.old) (Looked 0 word)) }
-        ensures nodes { collected_in seat.new ≡ collected_in seat.old }
-        ensures spare { seat.new.spare ≡ seat.old.spare }
+        ensures did { (word : ℕ) × SeatDid seat.old seat.new (Looked 0 word) }
         ensures merged { MergeIntoRun (record_of seat.new) (collected_in seat.new) }
     {
         let word = seat_steps::merge(&self.words, &mut seat.seat, 0);

@@ -3,4 +3,4 @@ use Rattle.txn_gate.proofs.AsLinked as seats
 use Rattle.txn_gate.proofs.change_steps.unlink.Goals as goal
 
 pub fetch_xor-requires : goal.fetch_xor-requires
-fetch_xor-requires g c = (c.requires.here.same, (let w = c.requires.here.words in let few = c.place_of_port.ensures.few in omega arith), seats.unlinks _ _ c.args.seat.now.me c.requires.change c.args.port c.place_of_port.result c.place_of_port.ensures.place _ c.args.was _ c.requires.event c.link_operand.ensures.operand c.requires.linked c.requires.may)
+fetch_xor-requires g c = (c.requires.here.same, (let w = c.requires.here.words in let few = c.place_of_port.ensures.few in omega arith), seats.unlinks _ _ c.args.seat.now.me c.requires.here.change c.args.port c.place_of_port.result c.place_of_port.ensures.place _ c.args.was _ c.requires.event c.link_operand.ensures.operand c.requires.linked c.requires.may)

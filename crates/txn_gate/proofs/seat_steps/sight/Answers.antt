@@ -6,7 +6,7 @@ pub join_seat-requires : goal.join_seat-requires
 join_seat-requires c = (
   c.requires.here.same,
   c.requires.node_here.same,
-  ap (λ m. m.1) c.requires.node,
+  ap (λ m. m.1) c.requires.node_here.node,
   (let w = c.requires.here.words in omega arith),
-  joined.takes_sight _ c.args.seat.now.me c.requires.change _ c.args.node.me c.requires.node,
+  joined.takes_sight _ c.args.seat.now.me c.requires.here.change _ c.args.node.me c.requires.node_here.node,
 )

@@ -4,7 +4,7 @@ use Rattle.txn_gate.proofs.AsSeats as seats
 use Rattle.txn_gate.proofs.steps.begin.Goals as goal
 
 pub compare_exchange-requires : goal.compare_exchange-requires
-compare_exchange-requires g c = (c.requires.here.same, (let w = c.requires.here.words in let few = c.place_of_port.ensures.few in omega arith), seats.begins _ _ c.args.seat.now.me c.requires.node c.args.port c.place_of_port.result c.place_of_port.ensures.place c.requires.port c.args.value c.args.loaded c.args.asked _ c.requires.event c.requires.may c.requires.opened c.requires.linked.0 c.requires.linked.1 c.requires.unspent c.requires.asked)
+compare_exchange-requires g c = (c.requires.here.same, (let w = c.requires.here.words in let few = c.place_of_port.ensures.few in omega arith), seats.begins _ _ c.args.seat.now.me c.requires.here.node c.args.port c.place_of_port.result c.place_of_port.ensures.place c.requires.port c.args.value c.args.loaded c.args.asked _ c.requires.event c.requires.may c.requires.loaded.opened c.requires.loaded.linked.0 c.requires.loaded.linked.1 c.requires.loaded.unspent c.requires.asked)
 
 -- found is the word that was loaded, or another
 pub returns-clause-begun : goal.returns-clause-begun

@@ -4,4 +4,4 @@ use Rattle.txn_gate.proofs.steps.call.Goals as goal
 
 pub fetch_xor-requires : goal.fetch_xor-requires
 fetch_xor-requires g c =
-    (c.requires.here.same, (let w = c.requires.here.words in let few = c.place_of_port.ensures.few in omega arith), seats.calls _ _ c.args.seat.now.me c.requires.node c.args.port c.place_of_port.result c.place_of_port.ensures.place c.args.value c.args.loaded c.args.operand _ c.requires.event c.requires.operand c.requires.may c.requires.loaded c.requires.fits c.requires.found)
+    (c.requires.here.same, (let w = c.requires.here.words in let few = c.place_of_port.ensures.few in omega arith), seats.calls _ _ c.args.seat.now.me c.requires.here.node c.args.port c.place_of_port.result c.place_of_port.ensures.place c.args.value c.args.loaded c.args.operand _ c.requires.event c.requires.operand c.requires.may c.requires.loaded c.requires.fits c.requires.found)

@@ -4,7 +4,7 @@ use Rattle.txn_gate.proofs.AsSeats as seats
 use Rattle.txn_gate.proofs.steps.look_to_call.Goals as goal
 
 pub load-requires : goal.load-requires
-load-requires c = (c.requires.here.same, (let w = c.requires.here.words in let few = c.place_of_port.ensures.few in omega arith), seats.looks_to_call _ _ c.args.seat.now.me c.requires.node c.args.port c.place_of_port.result c.place_of_port.ensures.place c.args.value c.requires.port c.requires.may)
+load-requires c = (c.requires.here.same, (let w = c.requires.here.words in let few = c.place_of_port.ensures.few in omega arith), seats.looks_to_call _ _ c.args.seat.now.me c.requires.here.node c.args.port c.place_of_port.result c.place_of_port.ensures.place c.args.value c.requires.port c.requires.may)
 
 -- the call is missed, or may be made by this word
 pub returns-clause-missed : goal.returns-clause-missed

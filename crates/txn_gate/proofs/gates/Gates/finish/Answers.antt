@@ -7,7 +7,7 @@ pub invariant_of-seat : goal.invariant_of-seat
 invariant_of-seat c =
     let s = c.args.seat.now in
     let new = c.merge-word.new.seat.me in
-    let is = c.merge-word.ensures.me in
+    let is = c.merge-word.ensures.did.me in
     let r = (change_of s.seat.me.0).entries in
     let x = Looked 0 c.merge-word.result in
     record {

@@ -8,7 +8,7 @@ pub invariant_of-seat : goal.invariant_of-seat
 invariant_of-seat c =
     let s = c.args.seat.now in
     let new = c.mark.new.seat.me in
-    let is = c.mark.ensures.me in
+    let is = c.mark.ensures.did.me in
     let r = (change_of s.seat.me.0).entries in
     record {
       is_change = still_change s.seat.me new _ is;
