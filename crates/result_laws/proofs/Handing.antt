@@ -12,7 +12,6 @@ use Rattle.base.proofs.PlaceLaws.{slice_get-below}
 use Rattle.config_graph.specs.Kinds.{row}
 use Rattle.config_graph.specs.declared.TheConstants.{VALUE_LIMIT}
 use Rattle.config_graph.specs.declared.kind.Kind.{Kind}
-use Rattle.config_graph.specs.declared.kind.Kind.TheVariants.{Account}
 use Rattle.config_graph.specs.declared.node.Node.{Node}
 use Rattle.config_graph.specs.declared.node.Target.{Target}
 use Rattle.component_trait.specs.States.{Kept, NodeState}
@@ -43,7 +42,7 @@ use Rattle.result_laws.proofs.Adding.{sum_more, sum_one, sum_two}
 use Rattle.result_laws.proofs.Balance.{BranchHas, Calls, answered, answers, at_rest, first_idle, first_open, second_idle, second_open, taken, waiting}
 use Rattle.result_laws.proofs.Giving.{given_is_gone, given_was_moved, hands_on}
 use Rattle.result_laws.proofs.Ledger.{Has, account_is, bound, holds, held_by, is_account_at, kind_is_account, opened_in, plain, quiet, rest_has}
-use Rattle.result_laws.proofs.Offices.{Office, kind_stays, office_owned, office_stays}
+use Rattle.result_laws.proofs.Offices.{Office, no_branch_stays, office_owned, office_stays}
 use Rattle.quiesce_core.proofs.ArgumentLaws.{kinds_are_one}
 
 -- ---- what a branch carries, where nothing of its own and of its accounts changes
@@ -146,7 +145,7 @@ module _ (handed : StatesAreHanded) (es : List Event) (e : Event) (here : IsNext
     where
       in_service : (w : node.Service) → (f n).service ≡ Some w → Has s f n c → Has t g n c
       in_service w is (quiet none_ zero_) = absurd (none-some w (sym none_ ∙ is))
-      in_service w is (plain a zero_) = plain (kind_stays s.config t.config e reconfigured_so n Account a) zero_
+      in_service w is (plain a zero_) = plain (no_branch_stays s.config t.config e reconfigured_so n a) zero_
       in_service w is (bound b at o has) =
           let v = now_facts.served n w is in
           let own = office_owned s.config here.well.sound b o.branch in
