@@ -69,3 +69,4 @@ pub mod WorkedFlows
 pub mod WorkedScripts
 pub mod Bounds
 pub mod Fitting
+pub mod Rolling

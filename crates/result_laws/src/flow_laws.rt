@@ -42,6 +42,9 @@ pub fn weighed_items_are_kept()
         → AreApart statements → All (KeepsWeight weight) report.history → held weight report ≡ sent weight report }
     ensures values { (statements : List Statement) (report : Report) → Lawful statements report → IsOfFlows report.history
         → All AddsNothing report.history → (value : ℕ) → held (only value) report ≡ sent (only value) report }
+    ensures values_apart { (statements : List Statement) (report : Report) → Lawful statements report
+        → AreApart statements → All AddsNothing report.history → (value : ℕ)
+        → held (only value) report ≡ sent (only value) report }
 {
     nothing_is_open_at_the_end();
     a_moved_state_is_the_last_one();
@@ -58,6 +61,10 @@ pub fn items_are_kept_at_each_place()
         → of_nodes (stock one) before ≡ of_nodes (spent one) before + under_way one before }
     ensures weighed { (weight : ℕ → ℕ) (statements : List Statement) (report : Report) → (l : Lawful statements report)
         → IsOfFlows report.history → All (KeepsWeight weight) report.history
+        → (before after : List Event) → events l.members ≡ before ++ after
+        → of_nodes (stock weight) before ≡ of_nodes (spent weight) before + under_way weight before }
+    ensures weighed_apart { (weight : ℕ → ℕ) (statements : List Statement) (report : Report)
+        → (l : Lawful statements report) → AreApart statements → All (KeepsWeight weight) report.history
         → (before after : List Event) → events l.members ≡ before ++ after
         → of_nodes (stock weight) before ≡ of_nodes (spent weight) before + under_way weight before }
 {

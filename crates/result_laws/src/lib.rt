@@ -5,6 +5,7 @@ mod bank_laws;
 mod come_laws;
 mod flow_laws;
 mod laws;
+mod roll_laws;
 mod row_laws;
 mod script_laws;
 mod telling_laws;
@@ -22,6 +23,7 @@ pub use laws::{
     consistent_reports_keep_what_runs_keep, runs_keep_items_and_forks,
     runs_of_banks_keep_their_sums, runs_of_rows_have_their_items,
 };
+pub use roll_laws::rolls_keep_items;
 pub use row_laws::{
     rows_are_told_from_others, rows_have_their_items, sources_are_never_answered_0,
 };

@@ -11,4 +11,6 @@ returns c = record {
       each_place c.a_moved_state_is_the_last_one.ensures.handed c.nothing_is_open_at_the_end.ensures.nothing_open statements report l one (apart_described c.a_moved_state_is_the_last_one.ensures.handed c.nothing_is_open_at_the_end.ensures.nothing_open statements report l are) (λ before after e parts. one_is_fair before e);
   weighed = λ weight statements report l flows keep.
       each_place_weighed c.a_moved_state_is_the_last_one.ensures.handed c.nothing_is_open_at_the_end.ensures.nothing_open statements report l weight (apart_flows c.a_moved_state_is_the_last_one.ensures.handed c.nothing_is_open_at_the_end.ensures.nothing_open statements report l flows) keep;
+  weighed_apart = λ weight statements report l are keep.
+      each_place_weighed c.a_moved_state_is_the_last_one.ensures.handed c.nothing_is_open_at_the_end.ensures.nothing_open statements report l weight (apart_described c.a_moved_state_is_the_last_one.ensures.handed c.nothing_is_open_at_the_end.ensures.nothing_open statements report l are) keep;
 }

@@ -11,4 +11,6 @@ returns c = record {
       weighed_so c.a_moved_state_is_the_last_one.ensures.handed c.nothing_is_open_at_the_end.ensures.nothing_open statements report l weight (apart_described c.a_moved_state_is_the_last_one.ensures.handed c.nothing_is_open_at_the_end.ensures.nothing_open statements report l are) keep;
   values = λ statements report l flows adds value.
       weighed_so c.a_moved_state_is_the_last_one.ensures.handed c.nothing_is_open_at_the_end.ensures.nothing_open statements report l (only value) (apart_flows c.a_moved_state_is_the_last_one.ensures.handed c.nothing_is_open_at_the_end.ensures.nothing_open statements report l flows) (nothing_added (only value) report.history adds);
+  values_apart = λ statements report l are adds value.
+      weighed_so c.a_moved_state_is_the_last_one.ensures.handed c.nothing_is_open_at_the_end.ensures.nothing_open statements report l (only value) (apart_described c.a_moved_state_is_the_last_one.ensures.handed c.nothing_is_open_at_the_end.ensures.nothing_open statements report l are) (nothing_added (only value) report.history adds);
 }
