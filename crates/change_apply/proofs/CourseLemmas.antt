@@ -30,7 +30,7 @@ use Rattle.quiesce_laws.specs.Lists.{In}
 use Rattle.quiesce_laws.specs.Starts.{start_of}
 use Rattle.quiesce_laws.proofs.GateLaws.{all_open}
 use Rattle.quiesce_laws.proofs.MeanwhileLaws.{after_more}
-use Rattle.quiesce_laws.proofs.MemberLaws.{any_of, contains_in, in_contains}
+use Rattle.quiesce_laws.proofs.MemberLaws.{contains_in, in_contains}
 use Rattle.quiesce_laws.proofs.TurningLaws.{IsLivePort, SameLinks, live_port, live_still, same_back, same_graph, same_then}
 use Rattle.change_apply.specs.Courses.{Course, EndsIn, IsLeft, IsMade, IsReady, IsWaiting, all_drained, is_told, scene_after}
 use Rattle.change_apply.specs.Sessions.{CanChange, Change, Scene, Turned, asked, commits, denied, events_told, first_scene, gets_ready, gives_up, goes_on, goes_on_in, happened, happened_by, hears, is_over, is_ready, leaves, may_say, settles, state_of, tells, tells_by, turn, waits}
@@ -41,6 +41,7 @@ use Rattle.change_apply.specs.declared.said.Phase.TheVariants as phase
 use Rattle.change_apply.specs.declared.said.Said.{Said}
 use Rattle.change_apply.specs.declared.said.Said.TheVariants as says
 use Rattle.change_apply.proofs.StandLemmas.{are_told, grow, opens, same_made, still_drained}
+use Rattle.base.proofs.ContainsLaws.{any_of}
 
 -- what is known of the plan, from the laws of commits
 pub record Plans (c : Change) : Type 0 where

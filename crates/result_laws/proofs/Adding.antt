@@ -1,4 +1,4 @@
--- Sums over slots that are the same, or differ at one slot or two.
+-- Sums over slots or ports that are the same, or differ at one place or two.
 use Rattle.std.proofs.Common.{◌≡◌, ◌∙◌, ℕ, zero, suc, ◌+◌, ◌<◌, ◌≤◌, [], sym, ap, arith, ⊎_elim}
 use Rattle.std.specs.Prelude.{sum_by}
 use Rattle.std.specs.List.{range_with_len}
@@ -6,6 +6,9 @@ use Rattle.std.proofs.lemmas.Bool.{cases_eq, cases_lt}
 use Rattle.std.proofs.lemmas.List.Sums.{sum_by-cons}
 use Rattle.base.proofs.SumLaws.{at_term, sum_le, sum_moves, sum_place, sum_plus, sum_term, term_here, term_there}
 use Rattle.std.proofs.Math.Nat.{add-zero}
+
+pub sums_agree : (f g : ℕ → ℕ) (n : ℕ) → ((i : ℕ) → f i ≡ g i) → sum_by f (range_with_len 0 n) ≡ sum_by g (range_with_len 0 n)
+sums_agree f g n h = let a = sum_le f g 0 n (λ i. omega (arith, h i)) in let b = sum_le g f 0 n (λ i. omega (arith, h i)) in omega (arith, a, b)
 
 -- what one term loses the other gains
 less_by : (f g : ℕ → ℕ) (p r n : ℕ) → p < n → r < n → (p ≡ r → ⊥) → ((i : ℕ) → (i ≡ p → ⊥) → (i ≡ r → ⊥) → f i ≡ g i) → f p + f r ≡ g p + g r → sum_by f (range_with_len 0 n) ≤ sum_by g (range_with_len 0 n)
@@ -35,6 +38,12 @@ sum_one f g p d n made h at =
     let a = sum_place f g p 0 d n made (λ i ne. omega (arith, h i ne)) (omega (arith, at)) in
     let b = sum_place g f p d 0 n made (λ i ne. omega (arith, h i ne)) (omega (arith, at)) in omega (arith, a, b)
 
+-- all terms but one are the same
+pub sum_at : (f g : ℕ → ℕ) (p n : ℕ) → p < n → ((i : ℕ) → (i ≡ p → ⊥) → f i ≡ g i) → sum_by f (range_with_len 0 n) + g p ≡ sum_by g (range_with_len 0 n) + f p
+sum_at f g p n made h =
+    let a = sum_place f g p (g p) (f p) n made (λ i ne. omega (arith, h i ne)) (omega arith) in
+    let b = sum_place g f p (f p) (g p) n made (λ i ne. omega (arith, h i ne)) (omega arith) in omega (arith, a, b)
+
 more_from : (f : ℕ → ℕ) (a n : ℕ) → sum_by f (range_with_len a (suc n)) ≡ sum_by f (range_with_len a n) + f (a + n)
 more_from f a zero = omega (arith, sum_by-cons f a [], ap f (add-zero a))
 more_from f a (suc n) =
@@ -48,6 +57,12 @@ pub sum_more : (f : ℕ → ℕ) (n : ℕ) → sum_by f (range_with_len 0 (n + 1
 sum_more f n =
     let size : n + 1 ≡ suc n = omega arith in
     let at : 0 + n ≡ n = omega arith in ap (λ k. sum_by f (range_with_len 0 k)) size ∙ more_from f 0 n ∙ ap (λ k. sum_by f (range_with_len 0 n) + f k) at
+
+-- 1 to n + 1
+pub sum_up : (f : ℕ → ℕ) (n : ℕ) → sum_by f (range_with_len 1 (n + 1)) ≡ sum_by f (range_with_len 1 n) + f (n + 1)
+sum_up f n =
+    let size : n + 1 ≡ suc n = omega arith in
+    let at : 1 + n ≡ n + 1 = omega arith in ap (λ k. sum_by f (range_with_len 1 k)) size ∙ more_from f 1 n ∙ ap (λ k. sum_by f (range_with_len 1 n) + f k) at
 
 pub two_terms : (f : ℕ → ℕ) (p r n : ℕ) → p < n → r < n → (p ≡ r → ⊥) → f p + f r ≤ sum_by f (range_with_len 0 n)
 two_terms f p r n made_p made_r ne =

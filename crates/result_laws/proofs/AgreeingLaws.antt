@@ -1,21 +1,23 @@
 -- In each run in which each node made has a fold, what nodes have come to agrees with the machine's state; and one more
 -- event leads on the fold of the node that does it.
-use Rattle.std.proofs.Common.{◌≡◌, ◌∙◌, ◌<◌, ◌≤◌, ℕ, Bool, true, false, cond, List, [], ◌∷◌, ◌++◌, length, Option, Some, None, refl, sym, ap, subst, arith, ⊎_elim}
+use Rattle.std.proofs.Common.{◌≡◌, ◌∙◌, ◌<◌, ◌≤◌, ◌+◌, ℕ, Bool, true, false, cond, List, [], ◌∷◌, ◌++◌, length, Option, Some, None, refl, sym, ap, subst, arith, ⊎_elim}
 use Rattle.std.specs.Prelude.{◌==◌, nat_lt, option_map}
 use Rattle.std.specs.Option.{option_map_or}
 use Rattle.std.proofs.lemmas.Bool.{and_parts, both_ways, cases_lt, eqb-true, ltb-true, false_from_ne_true}
 use Rattle.std.proofs.lemmas.List.{append-nil}
 use Rattle.std.proofs.lemmas.List.Sums.{fold_push}
-use Rattle.std.proofs.lemmas.Option.{none-some, same_Some}
+use Rattle.std.proofs.lemmas.Option.{none-some, same_Some, slice_get_within}
 use Rattle.base.proofs.OptionLaws.{map_or_true, option_map_some}
 use Rattle.config_graph.specs.declared.node.Target.{Target}
 use Rattle.component_trait.specs.Fold.{after_event, asked_by, calls_at, fold_from, fold_next, is_more, is_request, is_request_at}
 use Rattle.component_trait.specs.Moves as moves
 use Rattle.component_trait.specs.States.{Kept, NodeState, at_rest}
+use Rattle.component_trait.specs.declared.next.Ask.{Ask as Request}
 use Rattle.component_trait.specs.declared.next.Next.{Next}
 use Rattle.component_trait.specs.declared.next.Next.TheVariants as next
 use Rattle.component_trait.proofs.FoldLaws.{where_so_then}
 use Rattle.quiesce_word.proofs.PhaseLaws.{answered_busy}
+use Rattle.quiesce_core.specs.Alters.{nodes_next}
 use Rattle.quiesce_core.specs.Doers.{is_of_change}
 use Rattle.quiesce_core.specs.Effect.{effect}
 use Rattle.quiesce_core.specs.Knowledge.{OwnPort, own_port, own_port_after, own_port_next, served_after, served_next}
@@ -29,13 +31,12 @@ use Rattle.quiesce_core.specs.declared.event.Event.{Event}
 use Rattle.quiesce_core.specs.declared.event.Event.TheVariants.{Begin, Call, Take, Give, End, More, Ask, Hear, Miss, Close, Reopen, Make, Link, Unlink, Remove}
 use Rattle.quiesce_core.specs.declared.known.Served.{Served}
 use Rattle.quiesce_core.specs.declared.state.Slot.{Slot}
-use Rattle.quiesce_core.proofs.AlterLaws.{reconfigured, slots_grow}
+use Rattle.quiesce_core.proofs.AlterLaws.{reconfigured}
 use Rattle.quiesce_core.proofs.ConfigurationLaws.{slot_was}
 use Rattle.quiesce_core.proofs.InductionLaws.{IsNext, always}
 use Rattle.quiesce_core.proofs.RunLaws.{done_by_more, node_events_keep_the_configuration, nodes_know, runs_are_well_formed, state_more}
-use Rattle.quiesce_core.proofs.TableLaws.{live_made}
 use Rattle.node_turn_laws.specs.Agreement.{Agrees, HasNoCall, IsInTurn, expects, ports_next}
-use Rattle.node_turn_laws.proofs.AgreementLaws.{agrees_next, no_call_where_none_is_asked, same_request, is_at}
+use Rattle.node_turn_laws.proofs.AgreementLaws.{agrees_next, no_call_where_none_is_asked, same_request}
 use Rattle.change_spec.specs.Opening.{argument_of, fold_at}
 
 -- ---- the node that does an event is live
@@ -73,6 +74,12 @@ change_does s (Unlink p) n h = refl
 change_does s (Remove k) n h = refl
 change_does s _ n h = absurd (both_ways false refl h)
 
+-- ---- an event that is legal and that the fold takes comes in turn
+
+asks_at : (first p v : ℕ) (o : Option Request) → is_request first p v o ≡ true → is_request_at first p o ≡ true
+asks_at first p v None h = absurd (both_ways false refl h)
+asks_at first p v (Some x) h = (and_parts (first + x.require == p) (x.value == v) h).0
+
 more_asks_nothing : (o : Option Next) (v first q : ℕ) → is_more v o ≡ true → is_request_at first q (asked_by o) ≡ false
 more_asks_nothing None v first q h = absurd (both_ways false refl h)
 more_asks_nothing (Some (next.More w)) v first q h = refl
@@ -109,7 +116,7 @@ module _ (es : List Event) (run : IsRun es) (n : ℕ) (m : Slot) (there : slot (
   in_turn (End p k v) t t' l mine a h = ap (λ (x : OwnPort). x.idle) (own p l.live mine) ∙ answered_busy (exchange s p).phase l.answered
   in_turn (Call p k v) t t' l mine a h =
       let w = where_so_then (is_request m.first_port p v (asked_by (moves.next t))) t t' h in
-      no_other_call m.first_port t (served_after log) (λ p. own_port_after p log) p a (is_at m.first_port p v (asked_by (moves.next t)) w.0) (ap (λ (x : OwnPort). x.idle) (own p l.live mine) ∙ l.idle)
+      no_other_call m.first_port t (served_after log) (λ p. own_port_after p log) p a (asks_at m.first_port p v (asked_by (moves.next t)) w.0) (ap (λ (x : OwnPort). x.idle) (own p l.live mine) ∙ l.idle)
   in_turn (Miss p) t t' l mine a h =
       let w = where_so_then (calls_at m.first_port t p) (moves.after_answer t 0) t' h in
       no_other_call m.first_port t (served_after log) (λ p. own_port_after p log) p a w.0 (ap (λ (x : OwnPort). x.idle) (own p l.live mine) ∙ l.idle)
@@ -148,6 +155,13 @@ agrees_more es e n m run l there mine before kept t' is =
     subst (λ u. Agrees m.first_port t' u (λ p. own_port_after p (log ++ e ∷ []))) (sym served)
     (subst (λ (f : ℕ → OwnPort). Agrees m.first_port t' (served_next (served_after log) e) f) (sym all) next_)
 
+live_below : (c : Configuration) (n : ℕ) → is_live c n ≡ true → n < length c.slots
+live_below c n live = let m = map_or_true (λ (x : Slot). x.live) (slot c n) live in slice_get_within c.slots n m.0 m.1
+
+more_nodes : (c : Configuration) (e : Event) → length c.slots ≤ nodes_next c e
+more_nodes c (Make n node from) = omega arith
+more_nodes c _ = omega arith
+
 -- by the kind of event
 agreed_next : (es : List Event) (e : Event) → IsNext es e → Agreed es → Agreed (es ++ e ∷ [])
 agreed_next es e here so_far = by (is_of_change e) refl
@@ -167,7 +181,7 @@ agreed_next es e here so_far = by (is_of_change e) refl
     by true change = record {
       unmade = λ n past.
           not_mine n (change_does (state_after es) e n change)
-          ∙ so_far.unmade n (let grows = slots_grow (state_after es).config e in let here_ = (reconfigured (state_after es) e here.legal).nodes in omega (arith, grows, here_, ap (λ (x : State). length x.config.slots) (state_more es e), past));
+          ∙ so_far.unmade n (let grows = more_nodes (state_after es).config e in let here_ = (reconfigured (state_after es) e here.legal).nodes in omega (arith, grows, here_, ap (λ (x : State). length x.config.slots) (state_more es e), past));
       made = λ n m at. ⊎_elim
           (λ (old : n < length (state_after es).config.slots).
           let was = slot_was (state_after es).config (effect (state_after es) e).config e (reconfigured (state_after es) e here.legal) n m old (sym (ap (λ (x : State). slot x.config n) (state_more es e)) ∙ at) in
@@ -182,7 +196,7 @@ agreed_next es e here so_far = by (is_of_change e) refl
           unmade = λ n past.
               let before : length (state_after es).config.slots ≤ n = subst (λ (c : Configuration). length c.slots ≤ n) config past in
               not_mine n (false_from_ne_true (is_doer (state_after es) n e) (λ mine.
-              let low = live_made (state_after es).config n (doer_lives (state_after es) e n here.well here.legal node mine) in omega (arith, low, before)))
+              let low = live_below (state_after es).config n (doer_lives (state_after es) e n here.well here.legal node mine) in omega (arith, low, before)))
               ∙ so_far.unmade n before;
           made = λ n m at'.
               let at : slot (state_after es).config n ≡ Some m = sym (ap (λ (c : Configuration). slot c n) config) ∙ at' in doer_or n m at (is_doer (state_after es) n e) refl;

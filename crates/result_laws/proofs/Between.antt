@@ -12,7 +12,7 @@ use Rattle.config_graph.specs.declared.node.Target.{Target}
 use Rattle.component_trait.specs.States.{NodeState}
 use Rattle.component_trait.proofs.FoldLaws.{fold_keeps_argument, fold_keeps_kind}
 use Rattle.quiesce_laws.specs.Steps.{is_shaping}
-use Rattle.quiesce_laws.proofs.TurningLaws.{SameLinks, links_stay}
+use Rattle.quiesce_laws.proofs.TurningLaws.{SameLinks}
 use Rattle.quiesce_word.specs.declared.word.TheConstants.{LAST_SERIAL}
 use Rattle.quiesce_word.specs.Phases.{is_idle, is_asked, is_answered}
 use Rattle.quiesce_core.specs.Doers.{is_make, is_of_change}
@@ -35,6 +35,7 @@ use Rattle.result_laws.proofs.Passing as at
 use Rattle.result_laws.specs.Coming.{HasFolds, come}
 use Rattle.result_laws.proofs.ComingLaws.{facts, folds_before, folds_on, folds_stay, fronts_fold}
 use Rattle.result_laws.proofs.EventLaws.{Now}
+use Rattle.result_laws.proofs.ReopeningLaws.{links_stay}
 use Rattle.result_laws.proofs.Rounds.{IsEndOf, IsSource, Stands, goes, resting, under_way}
 
 -- ---- two states and two tellings of nodes that are alike

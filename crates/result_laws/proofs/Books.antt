@@ -7,7 +7,6 @@ use Rattle.std.proofs.lemmas.List.{append-nil, get_or_past}
 use Rattle.std.proofs.lemmas.List.Sums.{sum_by_push}
 use Rattle.std.proofs.lemmas.Option.{none-some, same_Some, slice_get_within}
 use Rattle.base.proofs.OptionLaws.{map_or_true}
-use Rattle.base.proofs.SumLaws.{sum_same}
 use Rattle.config_graph.specs.Graph.{Graph}
 use Rattle.config_graph.specs.declared.TheConstants.{VALUE_LIMIT}
 use Rattle.config_graph.specs.declared.kind.Kind.TheVariants.{Branch, Account}
@@ -35,8 +34,9 @@ use Rattle.result_laws.proofs.ComingLaws.{at_place, facts, fits_of, folds_before
 use Rattle.result_laws.proofs.EventLaws.{Now, is_take, led_to, take_at, takes_at}
 use Rattle.result_laws.proofs.FactLaws.{Facts, Fits}
 use Rattle.result_laws.proofs.PlacedLaws.{GraphAt}
-use Rattle.result_laws.specs.Banks.{IsBank}
-use Rattle.result_laws.proofs.Adding.{sum_two, two_terms}
+use Rattle.result_laws.specs.Banks.{IsBank, banks_serve_tellers}
+use Rattle.result_laws.proofs.Linking.{AllLinked}
+use Rattle.result_laws.proofs.Adding.{sums_agree, sum_two, two_terms}
 use Rattle.result_laws.proofs.Giving.{given_is_gone, hands_on}
 use Rattle.result_laws.proofs.Handing.{all_held, carried_on, given_more, made_sum, opens_with_a_value, same_exchange, same_total, still}
 use Rattle.result_laws.proofs.Leading.{AllLeadWell, lead_on}
@@ -48,6 +48,10 @@ use Rattle.result_laws.proofs.Serials.{AtWork, Serials, counted}
 -- each reopen finds a bank
 abbrev pub OpensBanks : List Event → Type 0
 OpensBanks es = (before after : List Event) (p : ℕ) → es ≡ before ++ Reopen p ∷ after → GraphAt IsBank before
+
+-- and links join kinds as they do in banks, at each place
+abbrev pub LinkedSo : List Event → Type 0
+LinkedSo es = (before after : List Event) → es ≡ before ++ after → AllLinked banks_serve_tellers (state_after before).config
 
 pub record Books (es : List Event) : Type 0 where
   pub ledger : Ledger es
@@ -70,7 +74,7 @@ nothing_moves = record {
   serials = λ b o. absurd (cc o.there);
 }
 
-module _ (handed : StatesAreHanded) (es : List Event) (e : Event) (here : IsNext es e) (run' : IsRun (es ++ e ∷ [])) (later : HasFolds (es ++ e ∷ [])) (books : Books es) where
+module _ (handed : StatesAreHanded) (es : List Event) (e : Event) (here : IsNext es e) (run' : IsRun (es ++ e ∷ [])) (later : HasFolds (es ++ e ∷ [])) (books : Books es) (linked : AllLinked banks_serve_tellers (state_after es).config) where
   abbrev s : State
   s = state_after es
 
@@ -227,7 +231,7 @@ module _ (handed : StatesAreHanded) (es : List Event) (e : Event) (here : IsNext
     same_sum : sum_by after (range_with_len 0 size) ≡ sum_by before (range_with_len 0 size)
     same_sum = ⊎_elim
         (λ (w : Pays s f g now_facts fits e now then_facts books.leads books.serials). paid w)
-        (λ (w : Calm s f g now_facts fits e now then_facts books.leads books.serials). sum_same after before size (all_same w))
+        (λ (w : Calm s f g now_facts fits e now then_facts books.leads books.serials). sums_agree after before size (all_same w))
         (paying s f g now_facts fits e now then_facts books.leads books.serials (λ n. (l.carries n, l.has n)))
 
     opens_nothing : sum_by opened_in (es ++ e ∷ []) ≡ sum_by opened_in es
@@ -249,7 +253,7 @@ module _ (handed : StatesAreHanded) (es : List Event) (e : Event) (here : IsNext
         sum = ap (λ n. sum_by (λ n. carries_then n + holds (es ++ e ∷ []) n) (range_with_len 0 n)) same_size ∙ same_sum ∙ l.sum ∙ sym opens_nothing;
         few = let a = l.few in let b = opens_nothing in let c = same_size in omega (arith, a, ap (λ n. n * VALUE_LIMIT) c, b);
       };
-      leads = subst AllLeadWell (sym here.next) (lead_on s f now_facts e here.legal (nodes_are_named es here.run) (λ q is. absurd (both_ways (is_of_change e) of_node (ap is_of_change is))) books.leads);
+      leads = subst AllLeadWell (sym here.next) (lead_on s f now_facts e here.legal linked (nodes_are_named es here.run) (λ q is. absurd (both_ways (is_of_change e) of_node (ap is_of_change is))) books.leads);
       serials = λ b o. subst (λ x. Serials x g b) (sym here.next) (counted s f g now_facts fits e now b (subst (λ c. IsBranch c b) same_config o) (books.serials b (subst (λ c. IsBranch c b) same_config o)));
     }
 
@@ -339,7 +343,7 @@ module _ (handed : StatesAreHanded) (es : List Event) (e : Event) (here : IsNext
             by _ slots at = absurd (none-some o.made (sym (slots b.at ∙ ap (slot_next s.config b.at) at ∙ none_past) ∙ there'))
 
     leads_then : AllLeadWell t
-    leads_then = subst AllLeadWell (sym here.next) (lead_on s f now_facts e here.legal (nodes_are_named es here.run) opens books.leads)
+    leads_then = subst AllLeadWell (sym here.next) (lead_on s f now_facts e here.legal linked (nodes_are_named es here.run) opens books.leads)
 
     -- none is made
     calm_books : is_make e ≡ false → Books (es ++ e ∷ [])
@@ -348,7 +352,7 @@ module _ (handed : StatesAreHanded) (es : List Event) (e : Event) (here : IsNext
         carries = l.carries;
         has = has_then;
         sum = ap (λ n. sum_by (λ n. l.carries n + holds (es ++ e ∷ []) n) (range_with_len 0 n)) same_size
-            ∙ sum_same (λ n. l.carries n + holds (es ++ e ∷ []) n) (λ n. l.carries n + holds es n) size (λ n. ap (λ x. l.carries n + x) (all_held handed es e here run' later change none_made n)) ∙ l.sum ∙ sym opens_nothing;
+            ∙ sums_agree (λ n. l.carries n + holds (es ++ e ∷ []) n) (λ n. l.carries n + holds es n) size (λ n. ap (λ x. l.carries n + x) (all_held handed es e here run' later change none_made n)) ∙ l.sum ∙ sym opens_nothing;
         few = let a = l.few in let b = opens_nothing in let c = ap (λ n. n * VALUE_LIMIT) same_size in omega (arith, a, b, c);
       };
       leads = leads_then;
@@ -378,14 +382,14 @@ module _ (handed : StatesAreHanded) (es : List Event) (e : Event) (here : IsNext
         by (Some w) h = let v = now_facts.served size w h in absurd (none-some v.0 (sym (get_or_past s.traffic.services size None (let n = here.well.services in omega (arith, n))) ∙ v.1))
 
 -- a node is made
-made_books : (handed : StatesAreHanded) (es : List Event) (k : ℕ) (node : Node) (from : Option ℕ) (here : IsNext es (Make k node from)) (run' : IsRun (es ++ Make k node from ∷ [])) (later : HasFolds (es ++ Make k node from ∷ [])) → Books es → Books (es ++ Make k node from ∷ [])
-made_books handed es k node from here run' later books =
+made_books : (handed : StatesAreHanded) (es : List Event) (k : ℕ) (node : Node) (from : Option ℕ) (here : IsNext es (Make k node from)) (run' : IsRun (es ++ Make k node from ∷ [])) (later : HasFolds (es ++ Make k node from ∷ [])) → Books es → AllLinked banks_serve_tellers (state_after es).config → Books (es ++ Make k node from ∷ [])
+made_books handed es k node from here run' later books linked =
     let e = Make k node from in
     let l = books.ledger in
     let size = length (state_after es).config.slots in
     let opens : (q : ℕ) → e ≡ Reopen q → (x : Graph) × IsGraphOf (state_after es).config x × IsBank x = λ q is. absurd (cc is) in
     let longer : length (state_after (es ++ e ∷ [])).config.slots ≡ size + 1 = ap (λ (x : State). length x.config.slots) here.next ∙ (reconfigured (state_after es) e here.legal).nodes in
-    let zero_ = fresh_carries handed es e here run' later books refl opens in
+    let zero_ = fresh_carries handed es e here run' later books linked refl opens in
     let whole = made_sum handed es k node from here run' later l.carries zero_ in
     let pushed = sum_by_push opened_in es e in
     let value = opens_with_a_value handed es k node from here run' later in
@@ -394,35 +398,35 @@ made_books handed es k node from here run' later books =
     record {
       ledger = record {
         carries = l.carries;
-        has = has_then handed es e here run' later books refl opens;
+        has = has_then handed es e here run' later books linked refl opens;
         sum = ap (λ n. sum_by (λ n. l.carries n + holds (es ++ e ∷ []) n) (range_with_len 0 n)) longer ∙ whole ∙ ap (λ n. n + opened_in e) l.sum ∙ sym pushed;
         few = omega (arith, pushed, value, few, wider);
       };
-      leads = leads_then handed es e here run' later books refl opens;
-      serials = serials_then handed es e here run' later books refl opens;
+      leads = leads_then handed es e here run' later books linked refl opens;
+      serials = serials_then handed es e here run' later books linked refl opens;
     }
 
 module _ (handed : StatesAreHanded) where
-  books_next : (es : List Event) (e : Event) → IsNext es e → IsRun (es ++ e ∷ []) → HasFolds (es ++ e ∷ []) → ((q : ℕ) → e ≡ Reopen q → (x : Graph) × IsGraphOf (state_after es).config x × IsBank x) → Books es → Books (es ++ e ∷ [])
-  books_next es e here run' later opens books = ⊎_elim
+  books_next : (es : List Event) (e : Event) → IsNext es e → IsRun (es ++ e ∷ []) → HasFolds (es ++ e ∷ []) → ((q : ℕ) → e ≡ Reopen q → (x : Graph) × IsGraphOf (state_after es).config x × IsBank x) → Books es → AllLinked banks_serve_tellers (state_after es).config → Books (es ++ e ∷ [])
+  books_next es e here run' later opens books linked = ⊎_elim
       (λ (change : is_of_change e ≡ true). ⊎_elim
       (λ (make : is_make e ≡ true). by_make e here run' later make)
-      (λ (none_made : is_make e ≡ false). calm_books handed es e here run' later books change opens none_made)
+      (λ (none_made : is_make e ≡ false). calm_books handed es e here run' later books linked change opens none_made)
       (cases_Bool (is_make e)))
-      (λ (of_node : is_of_change e ≡ false). node_books handed es e here run' later books of_node)
+      (λ (of_node : is_of_change e ≡ false). node_books handed es e here run' later books linked of_node)
       (cases_Bool (is_of_change e))
     where
       by_make : (z : Event) → IsNext es z → IsRun (es ++ z ∷ []) → HasFolds (es ++ z ∷ []) → is_make z ≡ true → Books (es ++ z ∷ [])
-      by_make (Make k node from) here run' later h = made_books handed es k node from here run' later books
+      by_make (Make k node from) here run' later h = made_books handed es k node from here run' later books linked
       by_make _ here run' later h = absurd (both_ways false refl h)
 
-  books_from : (done rest : List Event) → IsRun (done ++ rest) → OpensBanks (done ++ rest) → HasFolds (done ++ rest) → Books done → Books (done ++ rest)
-  books_from done [] run opens folds books = subst Books (sym (append-nil done)) books
-  books_from done (e ∷ rest) run opens folds books =
+  books_from : (done rest : List Event) → IsRun (done ++ rest) → OpensBanks (done ++ rest) → HasFolds (done ++ rest) → LinkedSo (done ++ rest) → Books done → Books (done ++ rest)
+  books_from done [] run opens folds linked books = subst Books (sym (append-nil done)) books
+  books_from done (e ∷ rest) run opens folds linked books =
       let all = append_assoc done (e ∷ []) rest in
       let at = at_place handed (done ++ e ∷ rest) run folds done rest e refl in
-      let next = books_next done e (place done rest e run) at.0 at.1 (λ q is. let n = opens done rest q (ap (λ z. done ++ z ∷ rest) is) in (n.graph, n.stands, n.has)) books in
-      subst Books all (books_from (done ++ e ∷ []) rest (subst (λ xs. IsRun xs) (sym all) run) (subst (λ xs. OpensBanks xs) (sym all) opens) (subst (λ xs. HasFolds xs) (sym all) folds) next)
+      let next = books_next done e (place done rest e run) at.0 at.1 (λ q is. let n = opens done rest q (ap (λ z. done ++ z ∷ rest) is) in (n.graph, n.stands, n.has)) books (linked done (e ∷ rest) refl) in
+      subst Books all (books_from (done ++ e ∷ []) rest (subst (λ xs. IsRun xs) (sym all) run) (subst (λ xs. OpensBanks xs) (sym all) opens) (subst (λ xs. HasFolds xs) (sym all) folds) (λ before after is. linked before after (sym all ∙ is)) next)
 
-  pub keep_books : (es : List Event) → IsRun es → OpensBanks es → HasFolds es → Books es
-  keep_books es run opens folds = books_from [] es run opens folds nothing_moves
+  pub keep_books : (es : List Event) → IsRun es → OpensBanks es → HasFolds es → LinkedSo es → Books es
+  keep_books es run opens folds linked = books_from [] es run opens folds linked nothing_moves

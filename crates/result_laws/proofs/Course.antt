@@ -5,7 +5,7 @@ use Rattle.std.specs.Prelude.{◌⊎◌, ◌||◌, ◌==◌}
 use Rattle.std.proofs.lemmas.Bool.{both_ways, cases_Bool, eq-eqb, eqb-true}
 use Rattle.std.proofs.lemmas.List.{append-nil}
 use Rattle.quiesce_laws.specs.Steps.{is_shaping}
-use Rattle.quiesce_laws.proofs.TurningLaws.{live_still, same_graph, links_stay}
+use Rattle.quiesce_laws.proofs.TurningLaws.{live_still, same_graph}
 use Rattle.config_graph.specs.Graph.{Graph}
 use Rattle.config_graph.specs.declared.kind.Kind.TheVariants.{Sink, Source}
 use Rattle.config_graph.specs.declared.node.Node.{Node}
@@ -34,6 +34,7 @@ use Rattle.result_laws.specs.Coming.{HasFolds, come}
 use Rattle.result_laws.proofs.ComingLaws.{facts, folds_before, folds_on, fronts_fold}
 use Rattle.result_laws.proofs.Ends.{IsMadeWell, MakesWell, OneEach, each_is_last, last_made, last_more, same_sink, same_source, touch_next, touched, touched_more}
 use Rattle.result_laws.proofs.Passing.{Stop, passed}
+use Rattle.result_laws.proofs.ReopeningLaws.{links_stay}
 use Rattle.result_laws.proofs.Resting.{Begun, InRow, Rest, rests}
 use Rattle.result_laws.proofs.Rising.{rises}
 use Rattle.result_laws.proofs.Rounds.{IsEndOf, SourceDoes, Stands, begins, does, ends, other, resting, under_way}

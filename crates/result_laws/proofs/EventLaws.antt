@@ -21,7 +21,7 @@ use Rattle.quiesce_core.specs.Rules.{is_taken}
 use Rattle.quiesce_core.specs.Runs.{is_doer}
 use Rattle.quiesce_core.specs.State.{Configuration, State, exchange, owner, service, target}
 use Rattle.quiesce_core.specs.declared.event.Event.{Event}
-use Rattle.quiesce_core.specs.declared.event.Event.TheVariants.{Begin, Call, Take, Give, End, More, Ask, Hear, Miss}
+use Rattle.quiesce_core.specs.declared.event.Event.TheVariants.{Begin, Call, Take, Give, End, More, Ask, Hear, Miss, Close, Reopen, Make, Link, Unlink, Remove}
 use Rattle.quiesce_core.specs.declared.state.Exchange.{Exchange}
 use Rattle.quiesce_core.specs.declared.state.Service.{Service}
 use Rattle.quiesce_core.proofs.AlterLaws.{exchanges_next, services_next}
@@ -80,6 +80,16 @@ pub record Now (s : State) (f g : ℕ → NodeState) (e : Event) : Type 0 where
   pub legal : Legal s e
   pub of_node : is_of_change e ≡ false
   pub folds : FoldsTo s e f g
+
+-- an event of the change does nothing at a port
+pub nothing_there : (s : State) (q : ℕ) (z : Event) → is_of_change z ≡ true → exchange_next s q z ≡ exchange s q
+nothing_there s q (Close p) h = refl
+nothing_there s q (Reopen p) h = refl
+nothing_there s q (Make n node from) h = refl
+nothing_there s q (Link p n x) h = refl
+nothing_there s q (Unlink p) h = refl
+nothing_there s q (Remove n) h = refl
+nothing_there s q _ h = absurd (both_ways false refl h)
 
 module _ (s : State) (f g : ℕ → NodeState) (facts : Facts s f) where
   pub does_at : (q n x : ℕ) → target s.config q ≡ Some (record { node = n; provide = x }) → option_map_or (λ m. m == n) (option_map (λ (t : Target). t.node) (target s.config q)) false ≡ true

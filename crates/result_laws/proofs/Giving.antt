@@ -1,11 +1,11 @@
 -- Nodes whose state went to another: they are gone, and it went to no second one.
-use Rattle.std.proofs.Common.{◌≡◌, ◌∙◌, ℕ, Bool, true, false, List, [], ◌∷◌, ◌++◌, length, Option, Some, None, refl, sym, ap, ⊎_elim}
+use Rattle.std.proofs.Common.{◌≡◌, ◌∙◌, ℕ, true, false, List, [], ◌∷◌, ◌++◌, length, Option, Some, None, refl, sym, ap, ⊎_elim}
+use Rattle.std.proofs.lemmas.Map.Keys.{any_passes_from_place}
 use Rattle.std.specs.Prelude.{◌==◌}
 use Rattle.std.specs.List.{list_any}
 use Rattle.std.specs.Option.{option_map_or}
 use Rattle.std.proofs.lemmas.Bool.{both_ways, eq-eqb, eqb-true, or_cases}
 use Rattle.std.proofs.lemmas.List.Folds.{list_any-append}
-use Rattle.std.proofs.lemmas.Map.Keys.{any_passes_from_place}
 use Rattle.quiesce_core.specs.Effect.{effect}
 use Rattle.quiesce_core.specs.Rules.{was_moved}
 use Rattle.quiesce_core.specs.Runs.{IsRun, state_after}
@@ -17,11 +17,7 @@ use Rattle.quiesce_core.proofs.AlterLaws.{reconfigured}
 use Rattle.quiesce_core.proofs.InductionLaws.{IsNext, always}
 use Rattle.quiesce_core.proofs.SourceLaws.{sources_are_gone}
 use Rattle.result_laws.proofs.ComingLaws.{stays}
-
--- whether an event makes a node that takes over from the one in slot n
-abbrev pub hands_on : ℕ → Event → Bool
-hands_on n (Make k node from) = option_map_or (λ i. i == n) from false
-hands_on n _ = false
+pub use Rattle.result_laws.specs.UnderWay.{hands_on}
 
 -- some node took over from it
 pub record TookOver (c : Configuration) (n : ℕ) : Type 0 where

@@ -11,7 +11,6 @@ use Rattle.base.proofs.OptionLaws.{map_or_true}
 use Rattle.config_graph.specs.Kinds.{row}
 use Rattle.config_graph.specs.declared.TheConstants.{VALUE_LIMIT}
 use Rattle.config_graph.specs.declared.kind.Kind.{Kind}
-use Rattle.config_graph.specs.declared.kind.Kind.TheVariants.{Account}
 use Rattle.config_graph.specs.declared.node.Node.{Node}
 use Rattle.config_graph.specs.declared.node.Target.{Target}
 use Rattle.component_trait.specs.States.{Kept, NodeState}
@@ -28,20 +27,21 @@ use Rattle.quiesce_core.specs.declared.event.Event.TheVariants.{Make, Remove}
 use Rattle.quiesce_core.specs.declared.state.Exchange.{Exchange}
 use Rattle.quiesce_core.specs.declared.state.Service.{Service}
 use Rattle.quiesce_core.specs.declared.state.Slot.{Slot}
-use Rattle.quiesce_core.proofs.AlterLaws.{exchanges_next, reconfigured, services_next, change_exchange}
+use Rattle.quiesce_core.proofs.AlterLaws.{exchanges_next, reconfigured, services_next}
 use Rattle.quiesce_core.proofs.InductionLaws.{IsNext}
 use Rattle.quiesce_core.proofs.StabilityLaws.{serving_nodes_stay}
 use Rattle.change_round_laws.proofs.FoldLaws.{StatesAreHanded}
 use Rattle.result_laws.specs.Coming.{HasFolds, come}
 use Rattle.result_laws.proofs.AgreeingLaws.{change_does}
 use Rattle.result_laws.proofs.ComingLaws.{facts, folds_before, folds_stay, given_to, made_has, old_stays}
+use Rattle.result_laws.proofs.EventLaws.{nothing_there}
 use Rattle.result_laws.proofs.FactLaws.{Facts}
 use Rattle.result_laws.specs.Sums.{is_account}
 use Rattle.result_laws.proofs.Adding.{sum_more, sum_one, sum_two}
 use Rattle.result_laws.proofs.Balance.{BranchHas, Calls, answered, answers, at_rest, first_idle, first_open, second_idle, second_open, taken, waiting}
 use Rattle.result_laws.proofs.Giving.{given_is_gone, given_was_moved, hands_on}
 use Rattle.result_laws.proofs.Ledger.{Has, account_is, bound, holds, held_by, is_account_at, kind_is_account, opened_in, plain, quiet, rest_has}
-use Rattle.result_laws.proofs.Offices.{Office, kind_stays, office_owned, office_stays}
+use Rattle.result_laws.proofs.Offices.{Office, no_branch_stays, office_owned, office_stays}
 use Rattle.quiesce_core.proofs.ArgumentLaws.{kinds_are_one}
 
 -- ---- what a branch carries, where nothing of its own and of its accounts changes
@@ -121,7 +121,7 @@ module _ (handed : StatesAreHanded) (es : List Event) (e : Event) (here : IsNext
   reconfigured_so = subst (λ (x : State). Reconfigures s.config e x.config) (sym here.next) (reconfigured s e here.legal)
 
   pub same_exchange : (q : ℕ) → exchange t q ≡ exchange s q
-  same_exchange q = ap (λ (x : State). exchange x q) here.next ∙ exchanges_next s e here.well here.legal q ∙ change_exchange s q e change
+  same_exchange q = ap (λ (x : State). exchange x q) here.next ∙ exchanges_next s e here.well here.legal q ∙ nothing_there s q e change
 
   same_service : (n : ℕ) → service t n ≡ service s n
   same_service n = ap (λ (x : State). service x n) here.next ∙ services_next s e here.well here.legal n ∙ ap (λ b. cond b (service_by (service s n) e) (service s n)) (change_does s e n change)
@@ -144,7 +144,7 @@ module _ (handed : StatesAreHanded) (es : List Event) (e : Event) (here : IsNext
     where
       in_service : (w : node.Service) → (f n).service ≡ Some w → Has s f n c → Has t g n c
       in_service w is (quiet none_ zero_) = absurd (none-some w (sym none_ ∙ is))
-      in_service w is (plain a zero_) = plain (kind_stays s.config t.config e reconfigured_so n Account a) zero_
+      in_service w is (plain a zero_) = plain (no_branch_stays s.config t.config e reconfigured_so n a) zero_
       in_service w is (bound b at o has) =
           let v = now_facts.served n w is in
           let own = office_owned s.config here.well.sound b o.branch in

@@ -9,7 +9,6 @@ use Rattle.std.proofs.lemmas.List.Elements.{All-head}
 use Rattle.base.specs.Each.{Each, EachAfter}
 use Rattle.base.proofs.ContainsLaws.{Contains-cons_cases, Contains-nil}
 use Rattle.base.proofs.EachLaws.{each_joined}
-use Rattle.base.proofs.ListLaws.{all_parts, none_both}
 use Rattle.config_graph.specs.Graph.{Graph, ports, target_of}
 use Rattle.config_graph.specs.declared.kind.Kind.{Kind}
 use Rattle.config_graph.specs.declared.kind.Kind.TheVariants.{Sink, Source}
@@ -47,6 +46,7 @@ use Rattle.result_laws.specs.Rows.{IsRow}
 use Rattle.result_laws.proofs.Committing.{commit_well}
 use Rattle.result_laws.proofs.Making.{OnceFrom, Well, calm_well, makes_well, none_map, one_sink_at, one_source_at}
 use Rattle.result_laws.proofs.ReopeningLaws.{front_runs, graph_on}
+use Rattle.base.proofs.ListLaws.{all_parts, none_both}
 
 -- ---- events of the change alone
 
@@ -113,6 +113,15 @@ none_linked g (x ∷ xs) t h = by (target_of g.links x.1.node x.1.require) (none
     by : (o : Option Target) → list_any t (filter_map (link_of g) xs) ≡ false → list_any t (cons_option (option_map (λ (u : Target). event.Link x.0 u.node u.provide) o) (filter_map (link_of g) xs)) ≡ false
     by None rest = rest
     by (Some u) rest = ap (λ b. b || list_any t (filter_map (link_of g) xs)) (h x.0 u.node u.provide) ∙ rest
+
+pub start_kept : (g : Graph) → filter is_of_change (start_of g) ≡ start_of g
+start_kept g =
+    let makes = map make_of (enumerate_from 0 g.nodes) in
+    let links = filter_map (link_of g) (enumerate_from 0 (ports g.nodes)) in
+    kept_all (start_of g)
+    (none_both is_of_node (makes ++ links) (map reopen_of (enumerate_from 0 (ports g.nodes)))
+    (none_both is_of_node makes links (none_map is_of_node make_of (λ x. refl) (enumerate_from 0 g.nodes)) (none_linked g (enumerate_from 0 (ports g.nodes)) is_of_node (λ p n x. refl)))
+    (none_map is_of_node reopen_of (λ x. refl) (enumerate_from 0 (ports g.nodes))))
 
 pub start_well : (g : Graph) → IsRow g → EachAfter Well [] (start_of g)
 start_well g q =

@@ -32,14 +32,13 @@ use Rattle.change_round_laws.proofs.AloneLaws.{changes_run}
 use Rattle.change_round_laws.proofs.CommitGraphLaws.{AreRightAfter, CommitsByConfiguration, CommitsLeaveGraphs, EachMayCommit, Fits, begun}
 use Rattle.change_round_laws.proofs.FoldLaws.{StatesAreHanded}
 use Rattle.change_round_laws.proofs.LineLaws.{changes, changes_both, changes_of_lines}
-use Rattle.change_round_laws.proofs.RoundLaws.{kept_start}
 use Rattle.result_laws.specs.Describing.{Describes}
 use Rattle.result_laws.specs.Keeping.{AreRows, KeepEndsFrom}
 use Rattle.result_laws.specs.Rows.{IsRow}
 use Rattle.result_laws.specs.Coming.{HasFolds}
 use Rattle.result_laws.proofs.Course.{CourseAt, CourseNext, Course, RowAt, course_at, course_next}
 use Rattle.result_laws.proofs.Ends.{IsMadeWell, MakesWell, last_next, touch_next}
-use Rattle.result_laws.proofs.Histories.{all_well, closes_makeless, described_has, looks_makeless, makeless, start_well}
+use Rattle.result_laws.proofs.Histories.{all_well, closes_makeless, described_has, looks_makeless, makeless, start_kept, start_well}
 use Rattle.result_laws.proofs.Making.{Well, calm_well}
 use Rattle.result_laws.proofs.PlacedLaws.{opened_at}
 use Rattle.result_laws.proofs.Placing.{PlacedCourse, placed_at}
@@ -63,7 +62,7 @@ module _ (each_may : EachMayCommit) (by_config : CommitsByConfiguration) (leaves
           let first = begun each_may by_config leaves statements name args g rest all_are says p.lines right_so in
           let has : IsRow g = described_has each_may by_config leaves statements [] rest (start name args g) all_are all in
           let lines_are : changes p.lines ≡ start_of g =
-          ap changes right_so ∙ changes_both (to.Start name args ∷ lines_of_events (start_of g)) (to.Commit ∷ []) ∙ append-nil (changes (lines_of_events (start_of g))) ∙ changes_of_lines (start_of g) ∙ kept_start g in
+          ap changes right_so ∙ changes_both (to.Start name args ∷ lines_of_events (start_of g)) (to.Commit ∷ []) ∙ append-nil (changes (lines_of_events (start_of g))) ∙ changes_of_lines (start_of g) ∙ start_kept g in
           let own : Each Well (changes p.lines) = subst (Each Well) (sym lines_are) (start_well g has) in
           subst (Each Well) (sym (changes_both p.lines (lines_of ps)))
           (each_joined Well [] (changes p.lines) (changes (lines_of ps)) own

@@ -1,21 +1,21 @@
--- Ports that are open or busy lead to accounts, from branches, and to branches whose own ports lead to accounts.
-use Rattle.std.proofs.Common.{◌≡◌, ◌∙◌, ℕ, ◌+◌, ◌<◌, Bool, true, false, cond, length, Some, None, refl, sym, ap, subst, arith, inl, inr, ⊎_elim}
+-- Ports that are open or busy lead to accounts, from branches, to branches whose own ports lead to accounts, or out of the
+-- bank.
+use Rattle.std.proofs.Common.{◌≡◌, ◌∙◌, ℕ, ◌+◌, Bool, true, false, cond, length, Some, None, refl, sym, ap, subst, arith, inl, inr, ⊎_elim}
 use Rattle.std.specs.Prelude.{◌⊎◌, ◌==◌, ◌&&◌, nat_le, nat_lt, option_map}
+use Rattle.std.specs.Option.{option_map_or}
 use Rattle.std.proofs.lemmas.Bool.{and_parts, both_ways, cases_Bool, eqb-true, ltb-true, not-true}
-use Rattle.std.proofs.lemmas.Option.{same_Some, slice_get_within}
+use Rattle.std.proofs.lemmas.Option.{same_Some}
 use Rattle.base.proofs.ContainsLaws.{at_some_place}
 use Rattle.base.proofs.OptionLaws.{map_or_true}
-use Rattle.config_graph.specs.Cycles.{IsLinked}
 use Rattle.config_graph.specs.Graph.{Graph}
 use Rattle.config_graph.specs.Kinds.{row}
 use Rattle.config_graph.specs.Wiring.{direct}
 use Rattle.config_graph.specs.declared.kind.Kind.{Kind}
-use Rattle.config_graph.specs.declared.kind.Kind.TheVariants.{Teller, Branch, Account}
+use Rattle.config_graph.specs.declared.kind.Kind.TheVariants.{Philosopher, Place, Fork, Source, Map, Buffer, Sink, Teller, Branch, Account, Asker, Adder}
 use Rattle.config_graph.specs.declared.node.Node.{Node}
 use Rattle.config_graph.specs.declared.node.Target.{Target}
 use Rattle.component_trait.specs.States.{NodeState}
 use Rattle.quiesce_word.specs.Phases.{is_idle}
-use Rattle.quiesce_word.proofs.PhaseLaws.{serving_busy}
 use Rattle.quiesce_core.specs.Alters.{exchange_next, gate_next}
 use Rattle.quiesce_core.specs.Doers.{is_of_change, relinks}
 use Rattle.quiesce_core.specs.Effect.{effect}
@@ -23,8 +23,8 @@ use Rattle.quiesce_core.specs.Legal.{Legal}
 use Rattle.quiesce_core.specs.Live.{IsGraphOf, StandsAt}
 use Rattle.quiesce_core.specs.Named.{AreNamed}
 use Rattle.quiesce_core.specs.Rules.{is_live_port, is_settled}
-use Rattle.quiesce_core.specs.State.{Configuration, State, depends, exchange, gate, is_live, owner, provision, service, slot, target}
-use Rattle.quiesce_core.specs.Traffic.{IsConsistent}
+use Rattle.quiesce_core.specs.Reach.{IsPortOf}
+use Rattle.quiesce_core.specs.State.{Configuration, State, depends, exchange, gate, is_live, owner, provides, provision, service, slot, target}
 use Rattle.quiesce_core.specs.WellFormed.{IsSound}
 use Rattle.quiesce_core.specs.declared.event.Event.{Event}
 use Rattle.quiesce_core.specs.declared.event.Event.TheVariants.{Begin, Call, Close, Reopen, Make, Link, Unlink, Remove}
@@ -32,21 +32,23 @@ use Rattle.quiesce_core.specs.declared.state.Exchange.{Exchange}
 use Rattle.quiesce_core.specs.declared.state.Gate.{Gate}
 use Rattle.quiesce_core.specs.declared.state.Service.{Service}
 use Rattle.quiesce_core.specs.declared.state.Slot.{Slot}
-use Rattle.quiesce_core.proofs.AlterLaws.{exchanges_next, reconfigured, change_exchange}
+use Rattle.quiesce_core.proofs.AlterLaws.{exchanges_next, reconfigured}
 use Rattle.quiesce_core.proofs.ConfigurationLaws.{linked_made, owner_kept, port_is, target_kept}
 use Rattle.quiesce_core.proofs.LiveLinkLaws.{linked_at}
 use Rattle.quiesce_core.proofs.RunLaws.{node_events_keep_the_configuration}
 use Rattle.quiesce_core.proofs.SettledLaws.{settled_if}
 use Rattle.quiesce_core.proofs.StabilityLaws.{unsettled_ports_stay}
 use Rattle.result_laws.specs.Describing.{kind_at}
-use Rattle.result_laws.proofs.EventLaws.{idle_passes, starts_at}
+use Rattle.result_laws.proofs.EventLaws.{idle_passes, nothing_there, starts_at}
 use Rattle.result_laws.proofs.FactLaws.{Facts}
-use Rattle.result_laws.specs.Banks.{IsBank, LeadsToAccount}
-use Rattle.result_laws.proofs.Offices.{IsAccount, IsOffice, IsOfKind, Office, kind_stays, no_port_of_account, of_branch, office_owned, office_stays, port_of_branch}
+use Rattle.result_laws.specs.Banks.{IsBank, LeadsToAccount, banks_serve_tellers, is_branch, is_teller}
+use Rattle.result_laws.proofs.Linking.{AllLinked}
+use Rattle.result_laws.proofs.Offices.{IsAccount, IsOffice, IsOfKind, IsOutside, Office, kind_stays, office_owned, office_stays, outside_stays}
 
 pub data LeadsWell (c : Configuration) (q : ℕ) : Type 0 where
   to_account : (n x : ℕ) → target c q ≡ Some (record { node = n; provide = x }) → IsAccount c n → IsOfKind c (owner c q) Branch → LeadsWell c q
   to_branch : (b : Office) (x : ℕ) → target c q ≡ Some (record { node = b.at; provide = x }) → IsOffice c b → LeadsWell c q
+  elsewhere : (n x : ℕ) → target c q ≡ Some (record { node = n; provide = x }) → IsOutside c n → LeadsWell c q
 
 -- a port is open or busy
 abbrev pub InUse : State → ℕ → Type 0
@@ -55,9 +57,49 @@ InUse s q = ((gate s.config q).closed ≡ false) ⊎ (is_idle (exchange s q).pha
 abbrev pub AllLeadWell : State → Type 0
 AllLeadWell s = (q : ℕ) (t : Target) → InUse s q → target s.config q ≡ Some t → LeadsWell s.config q
 
+-- ---- by the kinds that links join
+
+-- a port leads to an account or out of the bank, or from a teller to a branch
+by_kinds : (c : Configuration) → IsSound c → AllLinked banks_serve_tellers c → (q : ℕ) (t : Target) → target c q ≡ Some t → LeadsWell c q ⊎ (IsOfKind c (owner c q) Teller × IsOfKind c t.node Branch)
+by_kinds c sound linked q t leads = by into.0.node.kind refl (linked q t own.node into.0 leads own.made into.1)
+  where
+    own : IsPortOf c (owner c q) q
+    own = sound.ports q (linked_made c q t leads)
+
+    into : (m : Slot) × (slot c t.node ≡ Some m) × (m.live ≡ true)
+    into = map_or_true (λ (m : Slot). m.live) (slot c t.node) (sound.targets q t leads).live
+
+    teller_if : (k : Kind) → is_teller k ≡ true → k ≡ Teller
+    teller_if Teller h = refl
+    teller_if k h = cc h
+
+    branch_if : (k : Kind) → is_branch k ≡ true → k ≡ Branch
+    branch_if Branch h = refl
+    branch_if k h = cc h
+
+    outside : (k : Kind) → into.0.node.kind ≡ k → (k ≡ Branch → ⊥) → (k ≡ Account → ⊥) → LeadsWell c q ⊎ (IsOfKind c (owner c q) Teller × IsOfKind c t.node Branch)
+    outside k is no_branch no_account = inl (elsewhere t.node t.provide leads (record { made = into.0; there = into.1; no_branch = λ h. no_branch (sym is ∙ h); no_account = λ h. no_account (sym is ∙ h) }))
+
+    by : (k : Kind) → into.0.node.kind ≡ k → banks_serve_tellers own.node.node.kind into.0.node.kind ≡ true → LeadsWell c q ⊎ (IsOfKind c (owner c q) Teller × IsOfKind c t.node Branch)
+    by Account is h =
+        inl (to_account t.node t.provide leads (record { made = into.0; there = into.1; kind = is })
+        (record { made = own.node; there = own.made; kind = branch_if own.node.node.kind (sym (ap (banks_serve_tellers own.node.node.kind) is) ∙ h) }))
+    by Branch is h =
+        inr (record { made = own.node; there = own.made; kind = teller_if own.node.node.kind (sym (ap (banks_serve_tellers own.node.node.kind) is) ∙ h) }, record { made = into.0; there = into.1; kind = is })
+    by Philosopher is h = outside Philosopher is (λ e. cc e) (λ e. cc e)
+    by Place is h = outside Place is (λ e. cc e) (λ e. cc e)
+    by Fork is h = outside Fork is (λ e. cc e) (λ e. cc e)
+    by Source is h = outside Source is (λ e. cc e) (λ e. cc e)
+    by Map is h = outside Map is (λ e. cc e) (λ e. cc e)
+    by Buffer is h = outside Buffer is (λ e. cc e) (λ e. cc e)
+    by Sink is h = outside Sink is (λ e. cc e) (λ e. cc e)
+    by Teller is h = outside Teller is (λ e. cc e) (λ e. cc e)
+    by Asker is h = outside Asker is (λ e. cc e) (λ e. cc e)
+    by Adder is h = outside Adder is (λ e. cc e) (λ e. cc e)
+
 -- ---- where the graph is a bank
 
-module _ (c : Configuration) (sound : IsSound c) (named : AreNamed c) (g : Graph) (is : IsGraphOf c g) (bank : IsBank g) where
+module _ (c : Configuration) (sound : IsSound c) (named : AreNamed c) (linked : AllLinked banks_serve_tellers c) (g : Graph) (is : IsGraphOf c g) (bank : IsBank g) where
   one_stands : (n k i : ℕ) → StandsAt c g.nodes n i → StandsAt c g.nodes k i → n ≡ k
   one_stands n k i a b = named.paths n k a.made b.made a.there b.there a.live b.live (ap (λ (x : Node). x.path) (same_Some a.made.node b.made.node (sym a.stands ∙ b.stands)))
 
@@ -101,49 +143,19 @@ module _ (c : Configuration) (sound : IsSound c) (named : AreNamed c) (g : Graph
         },
       )
 
-  pub leads_in_bank : (q : ℕ) (t : Target) → is_live c (owner c q) ≡ true → target c q ≡ Some t → LeadsWell c q
-  leads_in_bank q t live leads = by (bank.kinds from.0 (slice_get_within g.nodes from.0 from.1.made.node from.1.stands))
+  pub leads_in_bank : (q : ℕ) (t : Target) → target c q ≡ Some t → LeadsWell c q
+  leads_in_bank q t leads = ⊎_elim (λ (well : LeadsWell c q). well) (λ (w : IsOfKind c (owner c q) Teller × IsOfKind c t.node Branch). to_office w.1) (by_kinds c sound linked q t leads)
     where
-      from : (i : ℕ) × StandsAt c g.nodes (owner c q) i
-      from = live_stands (owner c q) live
-
-      to : (j : ℕ) × StandsAt c g.nodes t.node j
-      to = live_stands t.node (sound.targets q t leads).live
-
-      made : q < length c.gates
-      made = linked_made c q t leads
-
-      linked : IsLinked g from.0 (gate c q).require to.0 t.provide
-      linked = (is.links_are from.0 (gate c q).require to.0 t.provide).1 ((linked_at c g.nodes from.0 (gate c q).require to.0 t.provide).0
-          (record { port = q; to = t.node; leads = leads; requirement = refl; from_there = from.1; to_there = to.1 }))
-
-      low : (gate c q).require < length (row from.1.made.node.kind).requires_
-      low = (port_is c sound q from.1.made made from.1.there).1
-
-      has : (k : Kind) → kind_at g from.0 ≡ Some k → length (row from.1.made.node.kind).requires_ ≡ length (row k).requires_
-      has k h = ap (λ (x : Kind). length (row x).requires_) (same_Some from.1.made.node.kind k (sym (ap (option_map (λ (x : Node). x.kind)) from.1.stands) ∙ h))
-
-      by_branch : (r : ℕ) → (gate c q).require ≡ r → LeadsToAccount g from.0 r → kind_at g from.0 ≡ Some Branch → LeadsWell c q
-      by_branch r at l kind = to_account t.node t.provide leads (account l) (kind_there (owner c q) from.0 Branch from.1 kind)
-        where
-          account : LeadsToAccount g from.0 r → IsAccount c t.node
-          account l =
-              let here : to.0 ≡ l.account = ap (λ (x : Target). x.node) (same_Some _ _ (sym (subst (λ k. IsLinked g from.0 k to.0 t.provide) at linked) ∙ l.linked)) in
-              kind_there t.node to.0 Account to.1 (ap (kind_at g) here ∙ l.is_account)
-
-      by : (kind_at g from.0 ≡ Some Teller) ⊎ (kind_at g from.0 ≡ Some Branch) ⊎ (kind_at g from.0 ≡ Some Account) → LeadsWell c q
-      by (inl teller) =
-          let o = office_at t.node to.0 to.1 (bank.tellers from.0 (gate c q).require to.0 t.provide teller linked) in
+      to_office : IsOfKind c t.node Branch → LeadsWell c q
+      to_office kind =
+          let to = live_stands t.node (sound.targets q t leads).live in
+          let here : kind_at g to.0 ≡ Some Branch = ap (option_map (λ (x : Node). x.kind)) to.1.stands ∙ ap (λ (m : Slot). Some m.node.kind) (same_Some to.1.made kind.made (sym to.1.there ∙ kind.there)) ∙ ap Some kind.kind in
+          let o = office_at t.node to.0 to.1 here in
           to_branch o.0 t.provide (leads ∙ ap (λ n. Some (record { node = n; provide = t.provide })) (sym o.1)) o.2
-      by (inr (inl branch)) = ⊎_elim
-          (λ (e : (gate c q).require ≡ 0). by_branch 0 e (bank.from from.0 branch) branch)
-          (λ (ne : (gate c q).require ≡ 0 → ⊥). by_branch 1 (omega (arith, ne, low, has Branch branch)) (bank.to from.0 branch) branch)
-          (Rattle.std.proofs.lemmas.Bool.cases_eq (gate c q).require 0)
-      by (inr (inr account)) = absurd (omega (arith, low, has Account account))
 
 -- ---- what an event leaves
 
-module _ (s : State) (f : ℕ → NodeState) (facts : Facts s f) (e : Event) (legal : Legal s e) where
+module _ (s : State) (f : ℕ → NodeState) (facts : Facts s f) (e : Event) (legal : Legal s e) (linked : AllLinked banks_serve_tellers s.config) where
   abbrev after : State
   after = effect s e
 
@@ -158,6 +170,7 @@ module _ (s : State) (f : ℕ → NodeState) (facts : Facts s f) (e : Event) (le
   moved_on q same stay (to_branch b x leads o) =
       let w = stay b x leads o in
       to_branch b x (same ∙ leads) (office_stays s.config after.config e (reconfigured s e legal) b o w.0 w.1)
+  moved_on q same stay (elsewhere n x leads o) = elsewhere n x (same ∙ leads) (outside_stays s.config after.config e (reconfigured s e legal) n o)
 
   -- a node to which a port in use leads isn't settled
   unsettled : (q n x : ℕ) → InUse s q → target s.config q ≡ Some (record { node = n; provide = x }) → is_settled s n ≡ true → ⊥
@@ -199,7 +212,7 @@ module _ (s : State) (f : ℕ → NodeState) (facts : Facts s f) (e : Event) (le
       gate_is z at = (reconfigured s e legal).gates q ∙ ap (gate_next s.config q) at
 
       idle_is : (z : Event) → e ≡ z → is_of_change z ≡ true → exchange after q ≡ exchange s q
-      idle_is z at h = exchanges_next s e facts.well legal q ∙ ap (exchange_next s q) at ∙ change_exchange s q z h
+      idle_is z at h = exchanges_next s e facts.well legal q ∙ ap (exchange_next s q) at ∙ nothing_there s q z h
 
       -- the gate is as closed as it was
       as_was : (z : Event) → e ≡ z → is_of_change z ≡ true → (gate after.config q).closed ≡ (gate s.config q).closed → InUse s q
@@ -271,37 +284,26 @@ module _ (s : State) (f : ℕ → NodeState) (facts : Facts s f) (e : Event) (le
       by (used before same) = used_on q before same (well q t before (sym same ∙ leads))
       by (reopened at live same) =
           let g = opens q at in
-          moved_on q same (λ b x l o. (stay at b.from, stay at b.to)) (leads_in_bank s.config facts.well.sound named g.0 g.1 g.2 q t live (sym same ∙ leads))
+          moved_on q same (λ b x l o. (stay at b.from, stay at b.to)) (leads_in_bank s.config facts.well.sound named linked g.0 g.1 g.2 q t (sym same ∙ leads))
         where
           stay : e ≡ Reopen q → (p : ℕ) → target after.config p ≡ target s.config p
           stay at p = target_kept s.config after.config e (reconfigured s e legal) p (ap (relinks p) at)
 
   -- ---- an event of a node
 
-  -- the port of a call is one of a branch, and leads to an account
-  called : (q k v : ℕ) → Legal s (Call q k v) → AllLeadWell s → (t : Target) → target s.config q ≡ Some t → LeadsWell s.config q
-  called q k v l well t leads = by (well w.0.port (record { node = owner s.config q; provide = it.provide }) (inr (serving_busy (exchange s w.0.port).phase it.busy)) it.linked)
+  -- the port of a call is of no teller, since that serves nobody
+  called : (q k v : ℕ) → Legal s (Call q k v) → (t : Target) → target s.config q ≡ Some t → LeadsWell s.config q
+  called q k v l t leads = ⊎_elim (λ (well : LeadsWell s.config q). well) (λ (teller : IsOfKind s.config (owner s.config q) Teller × IsOfKind s.config t.node Branch). absurd (serves_none teller.0)) (by_kinds s.config facts.well.sound linked q t leads)
     where
       w : (x : Service) × (service s (owner s.config q) ≡ Some x) × (depends s.config (owner s.config q) (provision s.config x.port) q ≡ true)
       w = map_or_true (λ (x : Service). depends s.config (owner s.config q) (provision s.config x.port) q) (service s (owner s.config q)) l.serves_through
 
-      it : Rattle.quiesce_core.specs.Traffic.IsServing s (owner s.config q) w.0
-      it = facts.traffic.serving (owner s.config q) w.0 w.1
-
-      made : q < length s.config.gates
-      made = linked_made s.config q t leads
-
-      at_port : (b : Office) → IsOffice s.config b → b.at ≡ owner s.config q → (q ≡ b.from) ⊎ (q ≡ b.to) → LeadsWell s.config q
-      at_port b o at (inl here) = to_account b.payer 0 (ap (target s.config) here ∙ o.from_leads) o.payer (subst (λ n. IsOfKind s.config n Branch) at (of_branch s.config b o.branch))
-      at_port b o at (inr here) = to_account b.payee 0 (ap (target s.config) here ∙ o.to_leads) o.payee (subst (λ n. IsOfKind s.config n Branch) at (of_branch s.config b o.branch))
-
-      by : LeadsWell s.config w.0.port → LeadsWell s.config q
-      by (to_account n x leads' a b) =
-          let one : n ≡ owner s.config q = ap (λ (x : Target). x.node) (same_Some _ _ (sym leads' ∙ it.linked)) in
-          absurd (no_port_of_account s.config facts.well.sound n a q made (sym one))
-      by (to_branch b x leads' o) =
-          let one : b.at ≡ owner s.config q = ap (λ (x : Target). x.node) (same_Some _ _ (sym leads' ∙ it.linked)) in
-          at_port b o one (port_of_branch s.config facts.well.sound b o.branch q made (sym one))
+      serves_none : IsOfKind s.config (owner s.config q) Teller → ⊥
+      serves_none teller =
+          let it = facts.traffic.serving (owner s.config q) w.0 w.1 in
+          let low = (facts.well.sound.targets w.0.port (record { node = owner s.config q; provide = it.provide }) it.linked).provided in
+          let none_ : provides s.config (owner s.config q) ≡ 0 = ap (λ o. option_map_or (λ (m : Slot). length (row m.node.kind).provides) o 0) teller.there ∙ ap (λ (k : Kind). length (row k).provides) teller.kind in
+          omega (arith, low, none_)
 
   by_node : is_of_change e ≡ false → AllLeadWell s → AllLeadWell after
   by_node of_node well q t in_use leads =
@@ -314,7 +316,7 @@ module _ (s : State) (f : ℕ → NodeState) (facts : Facts s f) (e : Event) (le
           well q t (inl (ap (λ i. (gate s.config i).closed) (sym one) ∙ not-true (gate s.config p).closed (subst (Legal s) at legal).opened)) l
       started (Call p k v) at h l =
           let one = eqb-true p q h in
-          called q k v (subst (λ i. Legal s (Call i k v)) one (subst (Legal s) at legal)) well t l
+          called q k v (subst (λ i. Legal s (Call i k v)) one (subst (Legal s) at legal)) t l
       started _ at h l = absurd (both_ways false refl h)
 
       by : target s.config q ≡ Some t → (gate after.config q).closed ≡ (gate s.config q).closed → InUse after q → LeadsWell s.config q

@@ -18,12 +18,12 @@ use Rattle.result_laws.specs.Coming.{come}
 use Rattle.result_laws.specs.Sums.{is_account}
 use Rattle.result_laws.proofs.Balance.{BranchHas, answers, at_rest, first_idle, first_open, second_idle, second_open}
 use Rattle.result_laws.proofs.Giving.{hands_on}
-use Rattle.result_laws.proofs.Offices.{IsAccount, IsOffice, IsOfKind, Office, of_branch, one_kind}
+use Rattle.result_laws.proofs.Offices.{IsAccount, IsNoBranch, IsOffice, IsOfKind, Office, of_branch, one_kind}
 
 -- what the node in slot n carries
 pub data Has (s : State) (f : ℕ → NodeState) (n c : ℕ) : Type 0 where
   quiet : (f n).service ≡ None → c ≡ 0 → Has s f n c
-  plain : IsAccount s.config n → c ≡ 0 → Has s f n c
+  plain : IsNoBranch s.config n → c ≡ 0 → Has s f n c
   bound : (b : Office) → b.at ≡ n → IsOffice s.config b → BranchHas s f b c → Has s f n c
 
 -- a branch at rest carries nothing

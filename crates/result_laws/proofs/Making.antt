@@ -1,10 +1,10 @@
 -- Each make of a commit from a row to a row stands behind an unlink or a removal, and a source or a sink takes over from the last one.
 use Rattle.std.proofs.Common.{◌≡◌, ◌∙◌, ℕ, ◌<◌, Bool, true, false, cond, List, [], ◌∷◌, ◌++◌, append_assoc, length, map, Option, Some, refl, sym, ap, subst, inl, inr, ⊎_elim}
+use Rattle.std.proofs.lemmas.Option.{slice_get_within}
 use Rattle.std.specs.Prelude.{◌⊎◌, ⊤, ◌||◌, Contains, slice_get}
 use Rattle.std.specs.List.{list_any}
 use Rattle.std.proofs.lemmas.Bool.{both_ways, cases_Bool, or_parts}
 use Rattle.std.proofs.lemmas.List.{append-nil}
-use Rattle.std.proofs.lemmas.Option.{slice_get_within}
 use Rattle.base.specs.Each.{EachAfter}
 use Rattle.base.proofs.ContainsLaws.{Contains-here, Contains-there}
 use Rattle.base.proofs.OptionLaws.{option_map_some}

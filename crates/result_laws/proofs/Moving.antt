@@ -141,6 +141,9 @@ posted total m h =
     cond (m == 1) (cond (nat_le h total) (record { kept = with_total (total - h); reply = 1 }) (record { kept = with_total total; reply = 0 }))
     (cond (nat_lt (total + h) (2 ^ 64)) (record { kept = with_total (total + h); reply = 1 }) (record { kept = with_total total; reply = 0 }))
 
+posts : (a : ℕ) (before : Kept) (x : ℕ) → serve Account a before x ≡ posted before.total (x % 2) (x / 2)
+posts a before x = refl
+
 -- what is taken out is less by what is carried then
 pub paid : (a : ℕ) (before : Kept) (v : ℕ) → (serve Account a before (2 * v + 1)).kept.total + cond ((serve Account a before (2 * v + 1)).reply == 1) v 0 ≡ before.total
 paid a before v =

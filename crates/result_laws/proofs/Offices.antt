@@ -41,6 +41,19 @@ pub record IsOfKind (c : Configuration) (n : ℕ) (k : Kind) : Type 0 where
 abbrev pub IsAccount : Configuration → ℕ → Type 0
 IsAccount c n = IsOfKind c n Account
 
+-- one of another kind than those of banks that serve
+pub record IsOutside (c : Configuration) (n : ℕ) : Type 0 where
+  pub made : Slot
+  pub there : slot c n ≡ Some made
+  pub no_branch : made.node.kind ≡ Branch → ⊥
+  pub no_account : made.node.kind ≡ Account → ⊥
+
+-- one that is no branch
+pub record IsNoBranch (c : Configuration) (n : ℕ) : Type 0 where
+  pub made : Slot
+  pub there : slot c n ≡ Some made
+  pub other : made.node.kind ≡ Branch → ⊥
+
 -- its ports lead to these accounts
 pub record IsOffice (c : Configuration) (b : Office) : Type 0 where
   pub branch : IsBranch c b
@@ -67,13 +80,6 @@ port_of_branch c sound b o q made owned =
     let at = p.0 in
     let low = p.1 in ⊎_elim (λ (e : (gate c q).require ≡ 0). inl (omega (arith, e, at, first))) (λ (ne : (gate c q).require ≡ 0 → ⊥). inr (omega (arith, ne, at, low, two, first, second))) (cases_eq (gate c q).require 0)
 
--- an account has no port
-pub no_port_of_account : (c : Configuration) → IsSound c → (n : ℕ) → IsAccount c n → (q : ℕ) → q < length c.gates → owner c q ≡ n → ⊥
-no_port_of_account c sound n a q made owned =
-    let p = port_is c sound q a.made made (ap (slot c) owned ∙ a.there) in
-    let none_ : length (row a.made.node.kind).requires_ ≡ 0 = ap (λ (k : Kind). length (row k).requires_) a.kind in
-    let low = p.1 in omega (arith, low, none_)
-
 -- what was made in a slot is of one kind
 pub one_kind : (c : Configuration) (n : ℕ) (j k : Kind) → IsOfKind c n j → IsOfKind c n k → j ≡ k
 one_kind c n j k a b = sym a.kind ∙ ap (λ (m : Slot). m.node.kind) (same_Some a.made b.made (sym a.there ∙ b.there)) ∙ b.kind
@@ -94,6 +100,23 @@ one_office c b d o w at =
 -- what was made stays of its kind
 pub kind_stays : (c d : Configuration) (e : Event) → Reconfigures c e d → (n : ℕ) (k : Kind) → IsOfKind c n k → IsOfKind d n k
 kind_stays c d e r n k a = let w = stays c d e r n a.made a.there in record { made = w.then_; there = w.there; kind = ap (λ (x : Node). x.kind) w.node ∙ a.kind }
+
+pub outside_stays : (c d : Configuration) (e : Event) → Reconfigures c e d → (n : ℕ) → IsOutside c n → IsOutside d n
+outside_stays c d e r n a =
+    let w = stays c d e r n a.made a.there in
+    let same = ap (λ (x : Node). x.kind) w.node in record { made = w.then_; there = w.there; no_branch = λ h. a.no_branch (sym same ∙ h); no_account = λ h. a.no_account (sym same ∙ h) }
+
+pub no_branch_stays : (c d : Configuration) (e : Event) → Reconfigures c e d → (n : ℕ) → IsNoBranch c n → IsNoBranch d n
+no_branch_stays c d e r n a = let w = stays c d e r n a.made a.there in record { made = w.then_; there = w.there; other = λ h. a.other (sym (ap (λ (x : Node). x.kind) w.node) ∙ h) }
+
+pub account_no_branch : (c : Configuration) (n : ℕ) → IsAccount c n → IsNoBranch c n
+account_no_branch c n a = record { made = a.made; there = a.there; other = λ h. cc (sym a.kind ∙ h) }
+
+pub outside_no_branch : (c : Configuration) (n : ℕ) → IsOutside c n → IsNoBranch c n
+outside_no_branch c n a = record { made = a.made; there = a.there; other = a.no_branch }
+
+pub branch_or_not : (c : Configuration) (n : ℕ) → IsOfKind c n Branch → IsNoBranch c n → ⊥
+branch_or_not c n b a = a.other (ap (λ (m : Slot). m.node.kind) (same_Some a.made b.made (sym a.there ∙ b.there)) ∙ b.kind)
 
 pub branch_stays : (c d : Configuration) (e : Event) → Reconfigures c e d → (b : Office) → IsBranch c b → IsBranch d b
 branch_stays c d e r b o =

@@ -19,7 +19,6 @@ use Rattle.quiesce_core.specs.declared.event.Event.TheVariants.{Begin, Call, Tak
 use Rattle.quiesce_core.specs.declared.state.Slot.{Slot}
 use Rattle.result_laws.proofs.EventLaws.{is_take, kept_but_by_take}
 use Rattle.result_laws.proofs.FactLaws.{at_work, of_parts}
-use Rattle.base.proofs.BoolLaws.{or_nothing}
 
 -- ---- the way of a value
 
@@ -113,6 +112,10 @@ pub data MapDoes (first : ℕ) (a : ℕ) (kept : Kept) (x r : ℕ) (answers : Li
 port_is : (first p : ℕ) (b : Bool) → ((first + 0 == p) && b) ≡ true → p ≡ first
 port_is first p b h = let same = eqb-true (first + 0) p (and_parts (first + 0 == p) b h).0 in omega (arith, same)
 
+or_no_more : (b : Bool) → (b || false) ≡ true → b ≡ true
+or_no_more true h = refl
+or_no_more false h = h
+
 pub map_does : (first a : ℕ) (kept : Kept) (x r : ℕ) (answers : List ℕ) (e : Event) (t : NodeState) → after_event first (at_work Map a kept x r answers) e ≡ Some t
     → MapDoes first a kept x r answers t e
 map_does first a kept x r answers (Begin p j v) t h = absurd (none-some t h)
@@ -132,7 +135,7 @@ map_does first a kept x r (b ∷ bs) (More p j v) t h = absurd (none-some t h)
 map_does first a kept x r answers (Hear p j v) t h = absurd (none-some t h)
 map_does first a kept x r [] (Ask p j v) t h =
     let w = where_so_then (((first + 0 == p) || false) && (v == 0)) (at_work Map a kept x r []) t h in
-    asks p j v refl (let same = eqb-true (first + 0) p (or_nothing (first + 0 == p) (and_parts ((first + 0 == p) || false) (v == 0) w.0).0) in omega (arith, same))
+    asks p j v refl (let same = eqb-true (first + 0) p (or_no_more (first + 0 == p) (and_parts ((first + 0 == p) || false) (v == 0) w.0).0) in omega (arith, same))
 map_does first a kept x r (b ∷ bs) (Ask p j v) t h = absurd (none-some t h)
 map_does first a kept x r [] (End p j v) t h =
     let w = where_so_then (first + 0 == p) (at_work Map a kept x r (v ∷ [])) t h in

@@ -21,15 +21,16 @@ use Rattle.quiesce_core.specs.State.{State, exchange, owner, service, target}
 use Rattle.quiesce_core.specs.declared.event.Event.{Event}
 use Rattle.quiesce_core.specs.declared.event.Event.TheVariants.{Call, Take, Give, More, Hear, Miss}
 use Rattle.quiesce_core.specs.declared.state.Service.{Service}
+use Rattle.quiesce_core.specs.declared.state.Slot.{Slot}
 use Rattle.quiesce_core.proofs.AlterLaws.{services_next}
 use Rattle.quiesce_core.proofs.ConfigurationLaws.{linked_made}
 use Rattle.quiesce_core.proofs.RunLaws.{node_events_keep_the_configuration}
 use Rattle.result_laws.proofs.EventLaws.{Now, idle_not_asked, is_take, kept_but_by_take, led_to, no_take, takes_at}
 use Rattle.result_laws.proofs.FactLaws.{Facts, Fits, at_work, of_parts}
 use Rattle.result_laws.proofs.Balance.{BranchHas, Keeps, account_kind, at_rest, keeps, rest_idle}
-use Rattle.result_laws.proofs.Leading.{AllLeadWell, LeadsWell, to_account, to_branch}
+use Rattle.result_laws.proofs.Leading.{AllLeadWell, LeadsWell, elsewhere, to_account, to_branch}
 use Rattle.result_laws.proofs.Ledger.{Has, bound, plain, quiet}
-use Rattle.result_laws.proofs.Offices.{IsAccount, IsBranch, IsOffice, IsOfKind, Office, of_branch, one_kind, one_office, port_of_branch}
+use Rattle.result_laws.proofs.Offices.{IsAccount, IsBranch, IsNoBranch, IsOffice, IsOfKind, IsOutside, Office, account_no_branch, branch_or_not, of_branch, one_kind, one_office, outside_no_branch, port_of_branch}
 use Rattle.result_laws.proofs.Serials.{Serials}
 
 module _ (s : State) (f g : ℕ → NodeState) (facts : Facts s f) (fits : Fits s.config f) (e : Event) (now : Now s f g e) (facts' : Facts (effect s e) g) (well : AllLeadWell s) (serials : (b : Office) → IsBranch s.config b → Serials s f b) where
@@ -39,6 +40,10 @@ module _ (s : State) (f g : ℕ → NodeState) (facts : Facts s f) (fits : Fits 
   -- a branch and an account are two
   apart : (n : ℕ) → IsOfKind s.config n Branch → IsAccount s.config n → ⊥
   apart n b a = cc (one_kind s.config n Branch Account b a)
+
+  -- and so are one and a node that is none
+  other_than : (n : ℕ) → IsOfKind s.config n Branch → IsNoBranch s.config n → ⊥
+  other_than n b a = branch_or_not s.config n b a
 
   -- a branch at rest takes nothing at its ports
   rest_takes_none : (b : Office) → IsOffice s.config b → (f b.at).service ≡ None → (takes_at b.from e ≡ false) × (takes_at b.to e ≡ false)
@@ -57,6 +62,9 @@ module _ (s : State) (f g : ℕ → NodeState) (facts : Facts s f) (fits : Fits 
 
   account_then : (n : ℕ) → IsAccount s.config n → IsAccount (effect s e).config n
   account_then n a = subst (λ c. IsAccount c n) (sym same_config) a
+
+  no_branch_then : (n : ℕ) → IsNoBranch s.config n → IsNoBranch (effect s e).config n
+  no_branch_then n a = subst (λ c. IsNoBranch c n) (sym same_config) a
 
   office_then : (b : Office) → IsOffice s.config b → IsOffice (effect s e).config b
   office_then b o = subst (λ c. IsOffice c b) (sym same_config) o
@@ -124,7 +132,7 @@ module _ (s : State) (f g : ℕ → NodeState) (facts : Facts s f) (fits : Fits 
   taken_port q k v l t leads = well q t (inr (asked_busy (exchange s q).phase l.asked)) leads
 
   pub went : (n c : ℕ) → Has s f n c → ((b : Office) → b.at ≡ n → IsOffice s.config b → (f b.payee).kept.total + c < 2 ^ 64) → Went n c
-  went n c (plain a zero_) room = no_office n c zero_ (plain (account_then n a) refl) (λ b at o. apart n (subst (λ i. IsOfKind s.config i Branch) at (of_branch s.config b o.branch)) a)
+  went n c (plain a zero_) room = no_office n c zero_ (plain (no_branch_then n a) refl) (λ b at o. other_than n (subst (λ i. IsOfKind s.config i Branch) at (of_branch s.config b o.branch)) a)
   went n c (bound b at o has) room = by_office n c b at o (room b at o) has
   went n c (quiet none_ zero_) room = by (is_doer s n e) refl
     where
@@ -137,11 +145,16 @@ module _ (s : State) (f g : ℕ → NodeState) (facts : Facts s f) (fits : Fits 
         puts = λ b at o h. absurd (both_ways (takes_at b.to e) (rest_takes_none b o (ap (λ i. (f i).service) at ∙ none_)).1 h);
       }
 
+      no_branch_here : IsNoBranch s.config n → Went n c
+      no_branch_here here = no_office n c zero_ (plain (no_branch_then n here) refl) (λ b at o. other_than n (subst (λ i. IsOfKind s.config i Branch) at (of_branch s.config b o.branch)) here)
+
       by_taken : (q x : ℕ) → target s.config q ≡ Some (record { node = n; provide = x }) → LeadsWell s.config q → Went n c
       by_taken q x leads (to_account m y leads' a own) =
           let one : m ≡ n = ap (λ (t : Target). t.node) (same_Some _ _ (sym leads' ∙ leads)) in
-          let here = subst (IsAccount s.config) one a in
-          no_office n c zero_ (plain (account_then n here) refl) (λ b at o. apart n (subst (λ i. IsOfKind s.config i Branch) at (of_branch s.config b o.branch)) here)
+          no_branch_here (account_no_branch s.config n (subst (IsAccount s.config) one a))
+      by_taken q x leads (elsewhere m y leads' a) =
+          let one : m ≡ n = ap (λ (t : Target). t.node) (same_Some _ _ (sym leads' ∙ leads)) in
+          no_branch_here (outside_no_branch s.config n (subst (IsOutside s.config) one a))
       by_taken q x leads (to_branch b y leads' o) =
           let one : b.at ≡ n = ap (λ (t : Target). t.node) (same_Some _ _ (sym leads' ∙ leads)) in
           by_office n c b one o (room b one o) (subst (BranchHas s f b) (sym zero_) (at_rest (ap (λ i. (f i).service) one ∙ none_)))
@@ -187,7 +200,7 @@ module _ (s : State) (f g : ℕ → NodeState) (facts : Facts s f) (fits : Fits 
 
       -- whose port leads to an account, that has a call there
       by_owner : (q k v : ℕ) → e ≡ Take q k v → (m : ℕ) → owner s.config q ≡ m → IsOfKind s.config m Branch → is_idle (exchange s q).phase ≡ false → q < length s.config.gates → (c : ℕ) → Has s f m c → Pays ⊎ Calm
-      by_owner q k v at m own kind busy made c (plain a zero_) = absurd (apart m kind a)
+      by_owner q k v at m own kind busy made c (plain a zero_) = absurd (other_than m kind a)
       by_owner q k v at m own kind busy made c (quiet none_ zero_) =
           let b : Office = record { at = m; from = kind.made.first_port; to = kind.made.first_port + 1; payer = 0; payee = 0 } in
           let o : IsBranch s.config b = record { made = kind.made; there = kind.there; kind = kind.kind; first = refl; second = refl } in
@@ -237,6 +250,21 @@ module _ (s : State) (f g : ℕ → NodeState) (facts : Facts s f) (fits : Fits 
                 absurd (apart b.at kind (subst (IsAccount s.config) one a));
           })
 
+      -- nor is one that leads out of the bank
+      by_outside : (q k v : ℕ) → e ≡ Take q k v → (n x : ℕ) → target s.config q ≡ Some (record { node = n; provide = x }) → IsOutside s.config n → Pays ⊎ Calm
+      by_outside q k v at n x leads o =
+          let no_account : (m : ℕ) → m ≡ n → IsAccount s.config m → ⊥ =
+          λ m one a. let b = subst (IsAccount s.config) one a in o.no_account (ap (λ (y : Slot). y.node.kind) (same_Some o.made b.made (sym o.there ∙ b.there)) ∙ b.kind) in
+          let none_ : (p m : ℕ) → target s.config p ≡ Some (record { node = m; provide = 0 }) → IsAccount s.config m → takes_at p e ≡ false =
+          λ p m l a. ap (takes_at p) at ∙ false_from_ne_true (q == p) (λ h.
+          no_account m (ap (λ (t : Target). t.node) (same_Some _ _ (sym l ∙ ap (target s.config) (sym (eqb-true q p h)) ∙ leads))) a) in
+          inr (record {
+            no_office_pays = λ d w. (none_ d.from d.payer w.from_leads w.payer, none_ d.to d.payee w.to_leads w.payee);
+            no_account_takes = λ m a does.
+                let led = led_to s f g facts q m (subst (λ z. is_doer s m z ≡ true) at does) in
+                absurd (no_account m (sym led.2 ∙ ap (λ (t : Target). t.node) (same_Some led.0 _ (sym led.1 ∙ leads))) a);
+          })
+
       by : (z : Event) → e ≡ z → Pays ⊎ Calm
       by (Take q k v) at =
           let l = subst (Legal s) at now.legal in
@@ -247,6 +275,7 @@ module _ (s : State) (f g : ℕ → NodeState) (facts : Facts s f) (fits : Fits 
           at_port : LeadsWell s.config q → is_idle (exchange s q).phase ≡ false → q < length s.config.gates → Pays ⊎ Calm
           at_port (to_account n x leads a kind) busy made = let w = all (owner s.config q) in by_owner q k v at (owner s.config q) refl kind busy made w.0 w.1
           at_port (to_branch b x leads o) busy made = by_branch q k v at b x leads o
+          at_port (elsewhere n x leads o) busy made = by_outside q k v at n x leads o
       by _ at = nothing (ap is_take at) (λ q. ap (takes_at q) at)
 
   -- ---- what an account keeps

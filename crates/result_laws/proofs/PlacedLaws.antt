@@ -6,7 +6,6 @@ use Rattle.std.proofs.lemmas.Bool.{both_ways}
 use Rattle.std.proofs.lemmas.List.Elements.{All-head}
 use Rattle.std.proofs.lemmas.Option.{same_Some}
 use Rattle.base.proofs.PlaceLaws.{heads_are, tails_are}
-use Rattle.base.proofs.ListLaws.{all_parts}
 use Rattle.config_graph.specs.Graph.{Graph}
 use Rattle.quiesce_core.specs.Doers.{is_of_change}
 use Rattle.quiesce_core.specs.Live.{IsGraphOf}
@@ -24,6 +23,7 @@ use Rattle.change_round_laws.specs.SoundStatements.{AreSound}
 use Rattle.change_round_laws.proofs.CommitGraphLaws.{CommitsByConfiguration, CommitsLeaveGraphs, EachMayCommit}
 use Rattle.result_laws.specs.Describing.{Describes}
 use Rattle.result_laws.proofs.ReopenedLaws.{reopened_at}
+use Rattle.base.proofs.ListLaws.{all_parts}
 
 -- where an event stands among the members
 pub record Placed (m : List Member) (before : List Event) (e : Event) : Type 0 where

@@ -7,7 +7,6 @@ use Rattle.std.proofs.lemmas.List.Elements.{All-cons, All-nil, filter-append}
 use Rattle.base.proofs.ContainsLaws.{Contains-here, Contains-there}
 use Rattle.base.specs.Each.{Each, EachAfter}
 use Rattle.base.proofs.EachLaws.{each_at}
-use Rattle.base.proofs.ListLaws.{all_parts}
 use Rattle.config_graph.specs.Graph.{Graph}
 use Rattle.quiesce_laws.specs.Steps.{change_all}
 use Rattle.quiesce_core.specs.Doers.{is_of_change}
@@ -29,6 +28,7 @@ use Rattle.change_round_laws.proofs.CommitGraphLaws.{CommitsByConfiguration, Com
 use Rattle.change_round_laws.proofs.LineLaws.{changes}
 use Rattle.result_laws.specs.Describing.{Describes}
 use Rattle.result_laws.proofs.ReopeningLaws.{Opens, history_ends, history_opens}
+use Rattle.base.proofs.ListLaws.{all_parts}
 
 pub rooted : (l : HistoryLine) (xs : List HistoryLine) → is_root l ≡ true → without_roots (l ∷ xs) ≡ without_roots xs
 rooted l xs e = rw e refl

@@ -8,7 +8,6 @@ use Rattle.std.proofs.lemmas.Grind.{flat_map-append}
 use Rattle.std.proofs.lemmas.List.Elements.{All-head, filter_map-append}
 use Rattle.base.specs.Each.{Each, EachAfter}
 use Rattle.base.proofs.EachLaws.{each_joined}
-use Rattle.base.proofs.ListLaws.{all_parts, none_both, any_of_none}
 use Rattle.config_graph.specs.Graph.{Graph, ports, target_of}
 use Rattle.config_graph.specs.declared.node.Target.{Target}
 use Rattle.change_plan.specs.declared.plan_data.Plan.{Plan}
@@ -17,14 +16,18 @@ use Rattle.config_graph.specs.declared.node.Made.{Made}
 use Rattle.config_graph.specs.declared.node.Port.{Port}
 use Rattle.quiesce_laws.specs.Steps.{change_all, is_shaping, live_ports}
 use Rattle.quiesce_laws.specs.Work.{link_new, make_new, work_of}
-use Rattle.quiesce_laws.proofs.TurningLaws.{SameLinks, same_graph, same_back, links_stay}
+use Rattle.quiesce_laws.proofs.TurningLaws.{SameLinks, same_graph, same_turned}
 use Rattle.change_plan_laws.specs.Commit.{commit_events, commit_steps, new_links, ports_to_close, reopened_ports, work}
+use Rattle.quiesce_core.specs.Effect.{effect}
+use Rattle.quiesce_core.specs.Legal.{Legal}
 use Rattle.quiesce_core.specs.Live.{AreLinked, IsGraphOf, IsLiveNode}
 use Rattle.quiesce_core.specs.Runs.{IsRun, state_after}
-use Rattle.quiesce_core.specs.State.{Configuration}
+use Rattle.quiesce_core.specs.State.{Configuration, State}
 use Rattle.quiesce_core.specs.declared.event.Event.{Event}
 use Rattle.quiesce_core.specs.declared.event.Event.TheVariants as event
+use Rattle.quiesce_core.proofs.InductionLaws.{along}
 use Rattle.quiesce_core.proofs.RunLaws.{fronts_are_runs}
+use Rattle.quiesce_core.proofs.TableLaws.{gate_place}
 use Rattle.quiesce_laws.specs.Starts.{link_of, make_of, reopen_of, start_of}
 use Rattle.report_types.specs.declared.report.HistoryLine.{HistoryLine}
 use Rattle.report_types.specs.declared.report.HistoryLine.TheVariants as to
@@ -37,6 +40,27 @@ use Rattle.change_round_laws.specs.SoundStatements.{AreSound, GoOnSoundly}
 use Rattle.change_round_laws.proofs.CommitGraphLaws.{AreRightAfter, CommitsByConfiguration, CommitsLeaveGraphs, EachMayCommit, Fits, Onward, begun, onward}
 use Rattle.change_round_laws.proofs.LineLaws.{changes, changes_both, config_of, none_of_events}
 use Rattle.result_laws.specs.Describing.{Describes}
+use Rattle.base.proofs.ListLaws.{all_parts, none_both, any_of_none}
+
+-- ---- lines that shape nothing leave the graph
+
+turned : (c : Configuration) (s : State) (e : Event) → Legal s e → is_shaping e ≡ false → SameLinks c s.config → SameLinks c (effect s e).config
+turned c s (event.Close p) l h same = same_turned c s.config p true (gate_place s p l.live) same
+turned c s (event.Reopen p) l h same = same_turned c s.config p false (gate_place s p l.live) same
+turned c s (event.Make n node from) l h same = absurd (both_ways true h refl)
+turned c s (event.Link p n x) l h same = absurd (both_ways true h refl)
+turned c s (event.Unlink p) l h same = absurd (both_ways true h refl)
+turned c s (event.Remove n) l h same = absurd (both_ways true h refl)
+turned c s _ l h same = same
+
+pub links_stay : (es more_ : List Event) → IsRun (es ++ more_) → list_any is_shaping more_ ≡ false → SameLinks (state_after es).config (state_after (es ++ more_)).config
+links_stay es more_ goes h =
+    along (λ xs. SameLinks (state_after es).config (state_after xs).config) is_shaping
+    (λ before e here free same. subst (λ (s : State). SameLinks (state_after es).config s.config) (sym here.next) (turned (state_after es).config (state_after before) e here.legal free same))
+    es more_ goes h (record { slots = refl; long = refl; owners = λ q. refl; requirements = λ q. refl; targets = λ q. refl })
+
+back : (c d : Configuration) → SameLinks c d → SameLinks d c
+back c d h = record { slots = sym h.slots; long = sym h.long; owners = λ q. sym (h.owners q); requirements = λ q. sym (h.requirements q); targets = λ q. sym (h.targets q) }
 
 -- the configurations before and behind such lines
 same_lines : (h xs : List HistoryLine) → IsRun (changes (h ++ xs)) → list_any is_shaping (changes xs) ≡ false → SameLinks (config_after h) (config_after (h ++ xs))
@@ -50,7 +74,7 @@ pub graph_on : (h xs : List HistoryLine) (g : Graph) → IsRun (changes (h ++ xs
 graph_on h xs g goes calm = same_graph (config_after h) (config_after (h ++ xs)) g (same_lines h xs goes calm)
 
 graph_back : (h xs : List HistoryLine) (g : Graph) → IsRun (changes (h ++ xs)) → list_any is_shaping (changes xs) ≡ false → IsGraphOf (config_after (h ++ xs)) g → IsGraphOf (config_after h) g
-graph_back h xs g goes calm = same_graph (config_after (h ++ xs)) (config_after h) g (same_back (config_after h) (config_after (h ++ xs)) (same_lines h xs goes calm))
+graph_back h xs g goes calm = same_graph (config_after (h ++ xs)) (config_after h) g (back (config_after h) (config_after (h ++ xs)) (same_lines h xs goes calm))
 
 pub front_runs : (h xs : List HistoryLine) → IsRun (changes (h ++ xs)) → IsRun (changes h)
 front_runs h xs goes = fronts_are_runs (changes h) (changes xs) (subst IsRun (changes_both h xs) goes)

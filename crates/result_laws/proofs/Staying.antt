@@ -27,11 +27,12 @@ use Rattle.quiesce_core.specs.declared.state.Exchange.{Exchange}
 use Rattle.quiesce_core.specs.declared.state.Gate.{Gate}
 use Rattle.quiesce_core.specs.declared.state.Slot.{Slot}
 use Rattle.quiesce_core.proofs.ConfigurationLaws.{owner_kept}
-use Rattle.quiesce_core.proofs.AlterLaws.{exchanges_next, reconfigured, change_exchange}
+use Rattle.quiesce_core.proofs.AlterLaws.{exchanges_next, reconfigured}
 use Rattle.quiesce_core.proofs.InductionLaws.{IsNext, always}
 use Rattle.change_round_laws.proofs.FoldLaws.{StatesAreHanded}
 use Rattle.result_laws.proofs.AtRest.{IsStill}
 use Rattle.result_laws.specs.Coming.{HasFolds, come}
+use Rattle.result_laws.proofs.EventLaws.{nothing_there}
 use Rattle.result_laws.proofs.ComingLaws.{given_to, made_has, old_stays}
 use Rattle.result_laws.proofs.Ends.{IsMadeWell, last_made, last_more, last_next, same_sink, same_source}
 use Rattle.result_laws.proofs.Resting.{Rest}
@@ -125,7 +126,7 @@ calm_last k o _ h = refl
 module _ (handed : StatesAreHanded) (es : List Event) (e : Event) (here : IsNext es e) (run' : IsRun (es ++ e ∷ [])) (later : HasFolds (es ++ e ∷ [])) (change : is_of_change e ≡ true) where
   still_on : is_reopen e ≡ false → IsStill (state_after es) (come es) → IsStill (state_after (es ++ e ∷ [])) (come (es ++ e ∷ []))
   still_on calm still = record {
-    idle = λ q. ap (λ (s : State). is_idle (exchange s q).phase) here.next ∙ ap (λ (x : Exchange). is_idle x.phase) (exchanges_next (state_after es) e here.well here.legal q ∙ change_exchange (state_after es) q e change) ∙ still.idle q;
+    idle = λ q. ap (λ (s : State). is_idle (exchange s q).phase) here.next ∙ ap (λ (x : Exchange). is_idle x.phase) (exchanges_next (state_after es) e here.well here.legal q ∙ nothing_there (state_after es) q e change) ∙ still.idle q;
     opened = λ q open_.
         let now : gate (state_after (es ++ e ∷ [])).config q ≡ gate_next (state_after es).config q e = ap (λ (s : State). gate s.config q) here.next ∙ (reconfigured (state_after es) e here.legal).gates q in
         let was = was_open (state_after es).config e q calm (sym (ap (λ (g : Gate). g.closed) now) ∙ open_) in
@@ -187,7 +188,7 @@ module _ (handed : StatesAreHanded) (es : List Event) (e : Event) (here : IsNext
       r = subst (λ (s : State). Reconfigures (state_after es).config e s.config) (sym here.next) (reconfigured (state_after es) e here.legal)
 
       same : exchange (state_after (es ++ e ∷ [])) q ≡ exchange (state_after es) q
-      same = ap (λ (s : State). exchange s q) here.next ∙ exchanges_next (state_after es) e here.well here.legal q ∙ change_exchange (state_after es) q e change
+      same = ap (λ (s : State). exchange s q) here.next ∙ exchanges_next (state_after es) e here.well here.legal q ∙ nothing_there (state_after es) q e change
 
       of_old : q < length (state_after es).config.gates → (exchange (state_after (es ++ e ∷ [])) q).serial ≤ length past
       of_old made =

@@ -1,15 +1,14 @@
 -- What a plan from a row to a row creates: nothing, unless something is unlinked or removed; and a source or a sink that it creates
 -- takes over from the live one.
-use Rattle.std.proofs.Common.{◌≡◌, ◌∙◌, ℕ, true, false, List, [], length, Some, sym, ap, subst}
+use Rattle.std.proofs.Common.{◌≡◌, ◌∙◌, ℕ, Bool, true, false, List, [], length, Some, sym, ap, subst}
+use Rattle.std.proofs.lemmas.Map.Keys.{any_passes_from_place}
 use Rattle.std.specs.Prelude.{◌==◌, ◌&&◌, Contains, is_some, option_and_then}
-use Rattle.std.specs.List.{range_with_len}
+use Rattle.std.specs.List.{list_any, range_with_len}
 use Rattle.std.proofs.lemmas.Bool.{and_from, eq-eqb}
 use Rattle.std.proofs.lemmas.Option.{same_Some, slice_get_within}
-use Rattle.std.proofs.lemmas.Map.Keys.{any_passes_from_place}
-use Rattle.base.proofs.ContainsLaws.{Contains-filter, Contains-nil, any_if}
+use Rattle.base.proofs.ContainsLaws.{Contains-filter, Contains-nil, at_some_place}
 use Rattle.base.proofs.FindLaws.{is_some-position}
 use Rattle.base.proofs.OptionLaws.{Some-from_is_some}
-use Rattle.base.proofs.RangeLaws.{Contains-places}
 use Rattle.config_graph.specs.Cycles.{IsLinked}
 use Rattle.config_graph.specs.Graph.{Graph}
 use Rattle.config_graph.specs.declared.kind.Kind.{Kind}
@@ -38,6 +37,10 @@ use Rattle.result_laws.specs.Rows.{IsRow}
 use Rattle.result_laws.proofs.Rising.{stand_of}
 use Rattle.result_laws.proofs.RowChanges.{nothing_created}
 use Rattle.result_laws.proofs.Takeovers.{taken_over}
+use Rattle.base.proofs.RangeLaws.{Contains-places}
+
+any_listed : {A : Type 0} (f : A → Bool) (xs : List A) (x : A) → Contains xs x → f x ≡ true → list_any f xs ≡ true
+any_listed f xs x there passes = let w = at_some_place xs x there in any_passes_from_place f xs w.0 x w.1 passes
 
 module _ (c : Configuration) (old new : Graph) (sound_old : IsSoundGraph old) (sound_new : IsSoundGraph new) (is : IsGraphOf c old) (moves : List Move) (plan : Plan) (is_plan : IsPlanOf old new moves plan) where
   -- where no node is removed and no port unlinked, none is created
@@ -48,7 +51,7 @@ module _ (c : Configuration) (old new : Graph) (sound_old : IsSoundGraph old) (s
       nodes_kept i w =
           let listed = Selects-has (IsGone old new) (range_with_len 0 (length old.nodes)) plan.remove is_plan.steps.remove i (Contains-places (length old.nodes) i (slice_get_within old.nodes i w.node w.here)) w in
           let at = stand_of c old is i w.node w.here in
-          let passes = any_if (λ k. stands_in old k c at.0) plan.remove i listed (in_if_stands c old at.0 i at.1) in
+          let passes = any_listed (λ k. stands_in old k c at.0) plan.remove i listed (in_if_stands c old at.0 i at.1) in
           Contains-nil at.0 (subst (λ xs. Contains xs at.0) no_removes (Contains-filter (is_one_of old plan.remove c) (range_with_len 0 (length c.slots)) at.0
           (Contains-places (length c.slots) at.0 (slice_get_within c.slots at.0 at.1.made at.1.there)) passes))
 
@@ -57,7 +60,7 @@ module _ (c : Configuration) (old new : Graph) (sound_old : IsSoundGraph old) (s
           let listed = unlinked old new sound_old.is_graph sound_new.is_graph plan is_plan.steps l there lost in
           let linked : IsLinked old l.from l.require l.to l.provide = (linked_if_listed old sound_old.sound.in_order l.from l.require l.to l.provide).1 there in
           let w = (linked_at c old.nodes l.from l.require l.to l.provide).1 ((is.links_are l.from l.require l.to l.provide).0 linked) in
-          let passes = any_if (λ (q : Port). stands_in old q.node c (owner c w.port) && (gate c w.port).require == q.require) plan.unlink (link_port l) listed
+          let passes = any_listed (λ (q : Port). stands_in old q.node c (owner c w.port) && (gate c w.port).require == q.require) plan.unlink (link_port l) listed
           (and_from (stands_in old l.from c (owner c w.port)) ((gate c w.port).require == l.require) (in_if_stands c old (owner c w.port) l.from w.from_there) (eq-eqb (gate c w.port).require l.require w.requirement)) in
           Contains-nil w.port (subst (λ xs. Contains xs w.port) no_unlinks (Contains-filter (is_unlinked_by old plan c) (range_with_len 0 (length c.gates)) w.port
           (Contains-places (length c.gates) w.port (linked_made c w.port _ w.leads)) passes))

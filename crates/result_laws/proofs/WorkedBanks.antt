@@ -1,44 +1,17 @@
 -- The definitions of banks and of their sums, on small systems.
-use Rattle.std.proofs.Common.{◌≡◌, ◌∙◌, ◌<◌, ℕ, zero, suc, ◌+◌, false, Option, Some, None, refl, sym, ap, arith, inl, inr}
-use Rattle.std.specs.Prelude.{◌⊎◌, is_some}
-use Rattle.std.proofs.lemmas.Bool.{both_ways, ne_eqb}
-use Rattle.config_graph.specs.Cycles.{IsLinked}
-use Rattle.config_graph.specs.Graph.{target_of}
+use Rattle.std.proofs.Common.{◌≡◌, ℕ, zero, suc, ◌+◌, false, Some, refl, ap, arith}
+use Rattle.std.specs.Prelude.{is_some}
+use Rattle.std.proofs.lemmas.Bool.{both_ways}
 use Rattle.config_graph.specs.declared.kind.Kind.TheVariants.{Teller, Branch, Account}
-use Rattle.config_graph.specs.declared.node.Target.{Target}
 use Rattle.result_laws.specs.Describing.{kind_at}
-use Rattle.result_laws.specs.Banks.{IsBank, LeadsToAccount}
+use Rattle.result_laws.specs.Banks.{IsBank, LeadsToAccount, banks_serve_tellers}
+use Rattle.result_laws.proofs.Testing.{links_pass}
 use Rattle.result_laws.specs.Sums.{live_sum, opened_sum, removed_sum}
-use Rattle.result_laws.specs.WorkedBanks.{bank, report, with_teller_at_account}
-
--- where a link leads
-abbrev led_node : Option Target → ℕ
-led_node None = 9
-led_node (Some t) = t.node
+use Rattle.result_laws.specs.WorkedBanks.{bank, bank_beside_row, report, with_half_a_branch, with_teller_at_account}
 
 pub bank_is_one : IsBank bank
-bank_is_one = record { kinds = kinds; tellers = tellers; from = from; to = to }
+bank_is_one = record { links = links_pass banks_serve_tellers bank refl; from = from; to = to }
   where
-    kinds : (i : ℕ) → i < 5 → (kind_at bank i ≡ Some Teller) ⊎ (kind_at bank i ≡ Some Branch) ⊎ (kind_at bank i ≡ Some Account)
-    kinds zero h = inr (inr refl)
-    kinds (suc zero) h = inr (inr refl)
-    kinds (suc (suc zero)) h = inr (inl refl)
-    kinds (suc (suc (suc zero))) h = inl refl
-    kinds (suc (suc (suc (suc zero)))) h = inl refl
-    kinds (suc (suc (suc (suc (suc i))))) h = absurd (omega (arith, h))
-
-    tellers : (i r j x : ℕ) → kind_at bank i ≡ Some Teller → IsLinked bank i r j x → kind_at bank j ≡ Some Branch
-    tellers (suc (suc (suc zero))) zero j x k l = sym (ap (λ o. kind_at bank (led_node o)) l)
-    tellers (suc (suc (suc zero))) (suc r) j x k l =
-        let none_ : target_of bank.links 3 (suc r) ≡ None = rw (ne_eqb 0 (suc r) (λ e. omega (arith, e))) refl in absurd (both_ways false refl (sym (ap is_some none_) ∙ ap is_some l))
-    tellers (suc (suc (suc (suc i)))) r j x k l =
-        let none_ : target_of bank.links (suc (suc (suc (suc i)))) r ≡ None =
-        rw (ne_eqb 2 (suc (suc (suc (suc i)))) (λ e. omega (arith, e))) (rw (ne_eqb 3 (suc (suc (suc (suc i)))) (λ e. omega (arith, e))) refl) in
-        absurd (both_ways false refl (sym (ap is_some none_) ∙ ap is_some l))
-    tellers zero r j x k l = absurd (cc k)
-    tellers (suc zero) r j x k l = absurd (cc k)
-    tellers (suc (suc zero)) r j x k l = absurd (cc k)
-
     from : (i : ℕ) → kind_at bank i ≡ Some Branch → LeadsToAccount bank i 0
     from (suc (suc zero)) h = record { account = 0; linked = refl; is_account = refl }
     from zero h = absurd (cc h)
@@ -55,9 +28,37 @@ bank_is_one = record { kinds = kinds; tellers = tellers; from = from; to = to }
     to (suc (suc (suc (suc zero)))) h = absurd (cc h)
     to (suc (suc (suc (suc (suc i))))) h = absurd (cc h)
 
--- its teller leads to an account, and would have to lead to a branch
+-- a row beside one leaves it one
+pub beside_is_one : IsBank bank_beside_row
+beside_is_one = record { links = links_pass banks_serve_tellers bank_beside_row refl; from = from; to = to }
+  where
+    from : (i : ℕ) → kind_at bank_beside_row i ≡ Some Branch → LeadsToAccount bank_beside_row i 0
+    from (suc (suc (suc zero))) h = record { account = 0; linked = refl; is_account = refl }
+    from zero h = absurd (cc h)
+    from (suc zero) h = absurd (cc h)
+    from (suc (suc zero)) h = absurd (cc h)
+    from (suc (suc (suc (suc zero)))) h = absurd (cc h)
+    from (suc (suc (suc (suc (suc zero))))) h = absurd (cc h)
+    from (suc (suc (suc (suc (suc (suc zero)))))) h = absurd (cc h)
+    from (suc (suc (suc (suc (suc (suc (suc i))))))) h = absurd (cc h)
+
+    to : (i : ℕ) → kind_at bank_beside_row i ≡ Some Branch → LeadsToAccount bank_beside_row i 1
+    to (suc (suc (suc zero))) h = record { account = 1; linked = refl; is_account = refl }
+    to zero h = absurd (cc h)
+    to (suc zero) h = absurd (cc h)
+    to (suc (suc zero)) h = absurd (cc h)
+    to (suc (suc (suc (suc zero)))) h = absurd (cc h)
+    to (suc (suc (suc (suc (suc zero))))) h = absurd (cc h)
+    to (suc (suc (suc (suc (suc (suc zero)))))) h = absurd (cc h)
+    to (suc (suc (suc (suc (suc (suc (suc i))))))) h = absurd (cc h)
+
+-- its teller leads to an account, to which branches alone lead
 pub teller_is_none : IsBank with_teller_at_account → ⊥
-teller_is_none b = cc (b.tellers 1 0 0 0 refl refl)
+teller_is_none b = both_ways false refl (b.links 1 0 0 0 Teller Account refl refl refl)
+
+-- a branch whose second port leads nowhere
+pub half_is_none : IsBank with_half_a_branch → ⊥
+half_is_none b = let l = b.to 1 refl in both_ways false refl (ap is_some l.linked)
 
 pub sums_there : (live_sum (report 97) ≡ 100) × (removed_sum (report 97) ≡ 5) × (opened_sum (report 97) ≡ 105)
 sums_there = (refl, refl, refl)

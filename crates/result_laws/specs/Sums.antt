@@ -12,6 +12,7 @@ use Rattle.report_types.specs.declared.report.Last.{Last}
 use Rattle.report_types.specs.declared.report.Last.TheVariants as last
 use Rattle.report_types.specs.declared.report.NodeLog.{NodeLog}
 use Rattle.report_types.specs.declared.report.Report.{Report}
+use Rattle.result_laws.specs.Describing.{makes}
 
 abbrev pub is_account : Kind → Bool
 is_account Account = true
@@ -22,11 +23,7 @@ abbrev pub opened_by : HistoryLine → ℕ
 opened_by (to.Make n node None) = if is_account node.kind then argument_or_0 node.arg else 0
 opened_by _ = 0
 
--- whether a line makes an account in slot n, and whether one removes the node there
-abbrev pub makes_account : ℕ → HistoryLine → Bool
-makes_account n (to.Make i node from) = if i == n then is_account node.kind else false
-makes_account n _ = false
-
+-- whether a line removes the node in slot n
 abbrev pub removes : ℕ → HistoryLine → Bool
 removes n (to.Remove i) = i == n
 removes n _ = false
@@ -40,11 +37,11 @@ balance _ = 0
 -- removed.
 abbrev pub live_at : List HistoryLine → NodeLog → ℕ
 live_at history l =
-    if list_any (makes_account l.slot) history then (if list_any (removes l.slot) history then 0 else balance l.last) else 0
+    if list_any (makes is_account l.slot) history then (if list_any (removes l.slot) history then 0 else balance l.last) else 0
 
 abbrev pub gone_at : List HistoryLine → NodeLog → ℕ
 gone_at history l =
-    if list_any (makes_account l.slot) history then (if list_any (removes l.slot) history then balance l.last else 0) else 0
+    if list_any (makes is_account l.slot) history then (if list_any (removes l.slot) history then balance l.last else 0) else 0
 
 abbrev pub live_sum : Report → ℕ
 live_sum report = sum_by (live_at report.history) report.logs

@@ -1,7 +1,7 @@
 -- Small systems on which the definitions are evaluated.
 use Rattle.std.specs.Prelude.{ℕ, [], ◌∷◌, Some, None, codes}
 use Rattle.config_graph.specs.Graph.{Graph}
-use Rattle.config_graph.specs.declared.kind.Kind.TheVariants.{Teller, Branch, Account}
+use Rattle.config_graph.specs.declared.kind.Kind.TheVariants.{Source, Map, Sink, Teller, Branch, Account}
 use Rattle.quiesce_laws.specs.Worked.{node}
 use Rattle.change_plan_laws.specs.Systems.{leads}
 use Rattle.report_types.specs.declared.report.HistoryLine.TheVariants as to
@@ -16,6 +16,18 @@ bank = record {
   nodes = node (codes "a") Account (Some 100) ∷ node (codes "b") Account (Some 0) ∷ node (codes "m") Branch None ∷ node (codes "t") Teller (Some 3) ∷ node (codes "u") Teller (Some 1) ∷ [];
   links = leads 2 0 0 ∷ leads 2 1 1 ∷ leads 3 0 2 ∷ [];
 }
+
+-- a bank with a row beside it
+abbrev pub bank_beside_row : Graph
+bank_beside_row = record {
+  nodes = node (codes "a") Account (Some 100) ∷ node (codes "b") Account (Some 0) ∷ node (codes "m") Map (Some 5) ∷ node (codes "r") Branch None ∷ node (codes "s") Source (Some 3)
+      ∷ node (codes "t") Sink None ∷ node (codes "w") Teller (Some 3) ∷ [];
+  links = leads 2 0 5 ∷ leads 3 0 0 ∷ leads 3 1 1 ∷ leads 4 0 2 ∷ leads 6 0 3 ∷ [];
+}
+
+-- a branch that has whence to take, and nowhere to put it
+abbrev pub with_half_a_branch : Graph
+with_half_a_branch = record { nodes = node (codes "a") Account (Some 100) ∷ node (codes "r") Branch None ∷ node (codes "w") Teller (Some 3) ∷ []; links = leads 1 0 0 ∷ leads 2 0 1 ∷ [] }
 
 -- a teller that leads to an account
 abbrev pub with_teller_at_account : Graph

@@ -1,0 +1,115 @@
+-- What a report tells of forks: each is held once, at the end by none, and is free then.
+use Rattle.std.proofs.Common.{◌≡◌, ◌∙◌, ℕ, ◌+◌, Bool, true, false, List, ◌++◌, append_assoc, length, Option, Some, None, refl, sym, ap, subst, arith}
+use Rattle.std.specs.Prelude.{◌==◌, ◌&&◌}
+use Rattle.std.specs.List.{list_any}
+use Rattle.std.proofs.lemmas.Bool.{and_parts, both_ways, eqb-true, false_from_ne_true, ne_eqb}
+use Rattle.base.proofs.SumLaws.{sum_zero}
+use Rattle.config_graph.specs.declared.TheConstants.{MAX_NODES}
+use Rattle.config_graph.specs.declared.kind.Kind.{Kind}
+use Rattle.config_graph.specs.declared.kind.Kind.TheVariants.{Fork}
+use Rattle.config_graph.specs.declared.node.Target.{Target}
+use Rattle.component_trait.specs.States.{Kept, NodeState}
+use Rattle.component_trait.specs.Tables.{numbers}
+use Rattle.quiesce_word.specs.Phases.{is_idle}
+use Rattle.quiesce_word.specs.declared.word.TheConstants.{LAST_SERIAL}
+use Rattle.quiesce_word.proofs.PhaseLaws.{answered_busy}
+use Rattle.quiesce_core.specs.Runs.{IsRun, state_after}
+use Rattle.quiesce_core.specs.State.{exchange, gate, owner, slot, target}
+use Rattle.quiesce_core.specs.declared.event.Event.{Event}
+use Rattle.quiesce_core.specs.declared.state.Slot.{Slot}
+use Rattle.quiesce_core.proofs.RunLaws.{fronts_are_runs, runs_are_consistent}
+use Rattle.quiesce_core.proofs.StateLaws.{taken_busy}
+use Rattle.report_types.specs.declared.report.Last.TheVariants as last
+use Rattle.report_types.specs.declared.report.Report.{Report}
+use Rattle.change_spec.specs.Lawful.{Lawful}
+use Rattle.change_spec.specs.Members.{events}
+use Rattle.change_spec.specs.Statements.{Statement}
+use Rattle.change_round_laws.proofs.FoldLaws.{StatesAreHanded}
+use Rattle.result_laws.specs.Coming.{HasFolds, come}
+use Rattle.result_laws.proofs.ComingLaws.{fits_of, fronts_fold}
+use Rattle.result_laws.proofs.StoppingLaws.{NothingIsOpen}
+use Rattle.result_laws.specs.Describing.{LinksAre}
+use Rattle.result_laws.specs.Holding.{AreTables, NoneSpent, forks_not_free, forks_serve_places, has_fork, holds, is_fork, not_free}
+use Rattle.result_laws.proofs.Dining.{resting_has_none}
+use Rattle.result_laws.proofs.Forks.{held_once, keep_forks, keep_held}
+use Rattle.result_laws.proofs.Lent.{AllHeld, Claims, HeldBy, gets, got, keeps}
+use Rattle.result_laws.proofs.Giving.{hands_on}
+use Rattle.result_laws.proofs.Measures.{has, nothing_or, unmade_come}
+use Rattle.result_laws.proofs.Linking.{AllLinked, all_linked}
+use Rattle.result_laws.proofs.Told.{log_folds, Tells, told_so, idle_at_end, rests_at_end}
+
+module _ (handed : StatesAreHanded) (none_open : NothingIsOpen) (statements : List Statement) (report : Report) (l : Lawful statements report) where
+  abbrev es : List Event
+  es = events l.members
+
+  run : IsRun es
+  run = l.by_them.runs
+
+  folds : HasFolds es
+  folds = log_folds statements report l
+
+  pub forks_held_once : AreTables statements → (before after : List Event) → es ≡ before ++ after → (p q n x y : ℕ) (made : Slot)
+      → target (state_after before).config p ≡ Some (record { node = n; provide = x }) → target (state_after before).config q ≡ Some (record { node = n; provide = y }) → slot (state_after before).config n ≡ Some made → made.node.kind ≡ Fork
+      → holds before p ≡ true → holds before q ≡ true → p ≡ q
+  forks_held_once tables before after parts p q n x y made leads_p leads_q there kind holds_p holds_q =
+      let linked = all_linked statements report l (LinksAre forks_serve_places) tables forks_serve_places (λ g h. h) in
+      let run' = subst (λ xs. IsRun xs) parts run in
+      let front = fronts_are_runs before after run' in
+      let front_folds = fronts_fold handed before after run' (subst (λ xs. HasFolds xs) parts folds) in
+      held_once before front (linked before after parts) (keep_forks handed before front front_folds (λ xs ys is. linked xs (ys ++ after) (parts ∙ ap (λ zs. zs ++ after) is ∙ append_assoc xs ys after))) p q n x y made leads_p leads_q there kind holds_p holds_q
+
+  pub none_holds : (p : ℕ) → holds es p ≡ false
+  none_holds p = false_from_ne_true (holds es p) (λ h. both_ways (has_fork (come es (owner (state_after es).config p)) (gate (state_after es).config p).require) (resting_has_none (come es (owner (state_after es).config p)) (gate (state_after es).config p).require (rests_at_end handed none_open statements report l (owner (state_after es).config p)))
+      (and_parts (is_idle (exchange (state_after es) p).phase) (has_fork (come es (owner (state_after es).config p)) (gate (state_after es).config p).require) h).1)
+
+  abbrev fork_count : Kind → Kept → ℕ
+  fork_count Fork s = s.count
+  fork_count _ s = 0
+
+  forks_tell : Tells is_fork fork_count not_free
+  forks_tell = record { on = on_; off = off_; moved = λ j. refl }
+    where
+      on_ : (k : Kind) (s : Kept) → is_fork k ≡ true → not_free (last.State (numbers k s)) ≡ fork_count k s
+      on_ Fork s h = refl
+      on_ _ s h = absurd (both_ways false refl h)
+
+      off_ : (k : Kind) (s : Kept) → is_fork k ≡ false → fork_count k s ≡ 0
+      off_ Fork s h = absurd (both_ways true h refl)
+      off_ _ s h = refl
+
+  pub forks_end_free : AreTables statements → NoneSpent (state_after es) → forks_not_free report ≡ 0
+  forks_end_free tables spent_none =
+      told_so handed statements report l is_fork fork_count refl not_free forks_tell
+      ∙ sum_zero (has fork_count es) 0 (length (state_after es).config.slots + MAX_NODES) (λ i low. nothing_or (list_any (hands_on i) es) _ (free i))
+    where
+      linked : (before after : List Event) → es ≡ before ++ after → AllLinked forks_serve_places (state_after before).config
+      linked = all_linked statements report l (LinksAre forks_serve_places) tables forks_serve_places (λ g h. h)
+
+      all_held : AllHeld es
+      all_held = keep_held handed es run folds linked (λ p. let low = spent_none p in ne_eqb (exchange (state_after es) p).serial LAST_SERIAL (λ same. omega (arith, low, same)))
+
+      -- one that isn't free would be held by a place in a service
+      free : (n : ℕ) → fork_count (come es n).kind (come es n).kept ≡ 0
+      free n = by (slot (state_after es).config n) refl
+        where
+          other_kind : (k : Kind) (s : Kept) → (k ≡ Fork → s.count ≡ 0) → fork_count k s ≡ 0
+          other_kind Fork s h = h refl
+          other_kind _ s h = refl
+
+          by : (o : Option Slot) → slot (state_after es).config n ≡ o → fork_count (come es n).kind (come es n).kept ≡ 0
+          by None is = ap (λ (x : NodeState). fork_count x.kind x.kept) (unmade_come es n is)
+          by (Some made) is = other_kind (come es n).kind (come es n).kept (λ fork. by_count ((come es n).kept.count == 0) refl (sym ((fits_of handed es run folds).kinds n made is) ∙ fork))
+            where
+              by_count : (b : Bool) → ((come es n).kept.count == 0) ≡ b → made.node.kind ≡ Fork → (come es n).kept.count ≡ 0
+              by_count true z kind = eqb-true (come es n).kept.count 0 z
+              by_count false busy kind =
+                  let h = all_held n made is kind busy in
+                  absurd (rests_none (owner (state_after es).config h.port) h)
+                where
+                  rests_none : (i : ℕ) → HeldBy (state_after es) (come es) n → ⊥
+                  rests_none i h = claims_none h.port h.to h.claims
+                    where
+                      claims_none : (p : ℕ) (to : Target) → Claims (state_after es) (come es) p to → ⊥
+                      claims_none p to (keeps u a g) = both_ways (holds es p) (none_holds p) (ap (λ b. b && has_fork (come es (owner (state_after es).config p)) (gate (state_after es).config p).require) (idle_at_end none_open statements report l p) ∙ g)
+                      claims_none p to (gets u a r) = both_ways (is_idle (exchange (state_after es) p).phase) (taken_busy (state_after es) p (runs_are_consistent es run) u) (idle_at_end none_open statements report l p)
+                      claims_none p to (got u a v) = both_ways (is_idle (exchange (state_after es) p).phase) (answered_busy (exchange (state_after es) p).phase u) (idle_at_end none_open statements report l p)

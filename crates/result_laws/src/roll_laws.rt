@@ -1,0 +1,35 @@
+//! What a roll keeps.
+
+ghost use Rattle.std.specs.Prelude.{ℕ, ℤ, List, Option};
+ghost use Rattle.config_graph.specs.Graph.{Graph, IsGraph};
+ghost use Rattle.change_plan.specs.declared.plan_data.Move.{Move};
+ghost use Rattle.change_spec.specs.Serial.{world_after};
+ghost use Rattle.change_spec.specs.Statements.{Statement};
+ghost use Rattle.change_round_laws.specs.SoundStatements.{AreSound};
+ghost use Rattle.change_parts.specs.Parts.{AreParts};
+ghost use Rattle.change_parts.specs.Rolls.{IsRoll, roll_statements};
+ghost use Rattle.change_parts.specs.declared.part.Part.{Part};
+ghost use Rattle.result_laws.specs.Describing.{LinksAre};
+ghost use Rattle.result_laws.specs.Flows.{AreApart, same_side};
+ghost use Rattle.result_laws.specs.Rolling.{ItemsBalance};
+
+use crate::items_are_kept_at_each_place;
+use change_parts::no_link_is_lost;
+use change_round_laws::{a_sound_script_has_a_report, reports_of_rounds_are_lawful};
+
+/// Where a roll ends, given up or not, no item is lost: buffers and sinks hold what sources have sent by then, with what is
+/// under way. Its stages link kinds as the two graphs do between which it leads.
+pub fn rolls_keep_items()
+    ensures items { (statements : List Statement) (given_up : Option ℕ) → AreSound statements → AreApart statements
+        → (roll : IsRoll statements given_up) → ItemsBalance (world_after roll.played).events }
+    ensures stages { (name : List ℕ) (args : List ℤ) (old : Graph) (k : ℕ) (new_name : List ℕ) (new_args : List ℤ) (within : ℕ)
+        (new : Graph) (moves : List Move) (ps : List Part) → IsGraph old → IsGraph new → AreParts old new moves ps
+        → AreSound (roll_statements name args old k new_name new_args within ps)
+        → LinksAre same_side old → LinksAre same_side new
+        → AreApart (roll_statements name args old k new_name new_args within ps) }
+{
+    a_sound_script_has_a_report();
+    reports_of_rounds_are_lawful();
+    items_are_kept_at_each_place();
+    no_link_is_lost();
+}

@@ -1,0 +1,62 @@
+//! The report of each run is told by its text.
+
+ghost use Rattle.std.specs.Prelude.{◌≡◌, ◌≤◌, ℕ, Bool, List, Ok, Option, Some, length};
+ghost use Rattle.cfg_io.specs.Shelf.{Files};
+ghost use Rattle.report_writing.specs.Reports.{report_text};
+ghost use Rattle.report_texts.specs.ReportTexts.{IsReport};
+ghost use Rattle.report_texts.specs.Stages.{reading};
+ghost use Rattle.report_texts.specs.declared.version.Version.TheVariants as versions;
+ghost use Rattle.command_answers.specs.declared.status.Status.{Status};
+ghost use Rattle.command_words.specs.declared.words.Command.{Command};
+ghost use Rattle.command_words.specs.declared.words.Command.TheVariants as commands;
+ghost use Rattle.command_spec.specs.Fetches.{report_limit};
+ghost use Rattle.command_spec.specs.Known.{AsksOf};
+ghost use Rattle.command_spec.specs.Outcomes.{Ends, Judged, NothingRefusesLines, ReadFrom, WasRunBy};
+ghost use Rattle.command_spec.specs.Runs.{Run, Runs};
+ghost use Rattle.command_spec.specs.Schedules.{Schedule};
+ghost use Rattle.command_spec.specs.Telling.{NumbersFit, StillHolds};
+
+use change_spec::a_moved_state_is_the_last_one;
+use command_spec::{a_check_of_what_was_run_is_consistent, runs_tell_their_reports};
+
+/// The numbers that no rule of a report bounds are below 2^64 in the report of each run. A port's serials end at
+/// 16,777,215, and a run has 4,096 ports at most, so no more transactions end; a count is one more at most. What an account
+/// has is kept below, and so are values.
+pub fn numbers_of_runs_fit()
+    ensures fit { (schedule : Schedule) (files : Option Files) (name : List ℕ) (own : Status)
+        → (ran : WasRunBy schedule files name own) → NumbersFit ran.report }
+{
+    a_moved_state_is_the_last_one();
+}
+
+/// So the report of a run, in rounds or on threads, is read again from its text.
+pub fn texts_tell_the_reports_of_runs()
+    ensures told { (schedule : Schedule) (files : Option Files) (name : List ℕ) (own : Status)
+        → (ran : WasRunBy schedule files name own) → IsReport versions.Second ran.report }
+    ensures read { (schedule : Schedule) (files : Option Files) (name : List ℕ) (own : Status)
+        → (ran : WasRunBy schedule files name own)
+        → reading (report_text ran.report) ≡ Ok (record { version = versions.Second; report = ran.report }) }
+{
+    numbers_of_runs_fit();
+    runs_tell_their_reports();
+}
+
+/// And a check of the report that `step` or `live` wrote for the same script, where each file is still as it was then, says
+/// that it is consistent. It ends with Ok, unless memory ran out or the sink failed, where nothing refuses the script and
+/// a report may have so many bytes.
+pub fn checks_of_runs_are_consistent()
+    ensures judged { (schedule : Schedule) (before after : Files) (name file : List ℕ) (own verdict : Status)
+        (also u : Option (List ℕ)) → (ran : WasRunBy schedule (Some before) name own)
+        → StillHolds before after
+        → (j : Judged (Some after) name file verdict also u) → j.bytes ≡ report_text ran.report → verdict ≡ Status.Ok }
+    ensures ends { (knows : Command → Bool) (schedule : Schedule) (before after : Files) (name file : List ℕ)
+        (own : Status) → (ran : WasRunBy schedule (Some before) name own)
+        → StillHolds before after → after file ≡ Some (report_text ran.report)
+        → length (report_text ran.report) ≤ report_limit
+        → (r : Run) → Runs knows r → ReadFrom r after → AsksOf knows r.words (commands.Check name file)
+        → NothingRefusesLines after (after name)
+        → Ends r.status Status.Ok }
+{
+    numbers_of_runs_fit();
+    a_check_of_what_was_run_is_consistent();
+}
