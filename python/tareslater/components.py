@@ -197,6 +197,7 @@ class Block:
         self.handle = handle
 
     def begun(self) -> "Block":
+        """The root begins, as its gate was entered."""
         self.root = Root(self.handle.gate.leave)
         self.token = RUNNING.set(Running(self.root, self.handle.owner, NOTHING))
         return self
@@ -238,11 +239,13 @@ class Roots(Handle):
         self.gate = Gate(self)
 
     def may_begin(self) -> None:
+        """Refuses a root inside a root, and one in another loop."""
         may_begin(self)
         if asyncio._get_running_loop() is not self.owner.loop:
             raise Misuse("%s is begun in another loop than its component's" % self)
 
     def may_begin_beside(self) -> None:
+        """Refuses a root inside a root, and a wait in the loop."""
         may_begin(self)
         must_be_beside(self.owner.loop, self)
 

@@ -89,6 +89,7 @@ class Peer:
         return self.wire
 
     async def connect(self) -> Wire:
+        """Makes the connection."""
         self.wire = Wire(*await asyncio.open_unix_connection(self.address))
         self.listening = asyncio.ensure_future(self.listen(self.wire))
         return self.wire
@@ -284,6 +285,7 @@ class There(AnySite):
     # ---- what is no work where the process has gone
 
     async def done(self, word: str, *words: Any) -> Any:
+        """Asks for what is no work where there is no process."""
         try:
             return await self.peer.ask(word, *words)
         except Lost:
