@@ -138,6 +138,12 @@ def in_loop(loop: asyncio.AbstractEventLoop, work: Coroutine[Any, Any, Got]) -> 
     return asyncio.run_coroutine_threadsafe(work, loop).result()
 
 
+def outside(loop: asyncio.AbstractEventLoop, work: Coroutine[Any, Any, Any]) -> "asyncio.Task[Any]":
+    """A task that belongs to no root."""
+    task: "asyncio.Task[Any]" = contextvars.Context().run(loop.create_task, work)
+    return task
+
+
 def must_be_beside(loop: asyncio.AbstractEventLoop, name: object) -> None:
     """Refuses a wait that would stop the loop for which it waits."""
     if asyncio._get_running_loop() is loop:
@@ -364,7 +370,7 @@ class Component:
 
     def spawn(self, work: Coroutine[Any, Any, Any]) -> "asyncio.Task[Any]":
         """Starts a task of the component's own, which belongs to no root and ends with the component."""
-        task: "asyncio.Task[Any]" = contextvars.Context().run(self.loop.create_task, work)
+        task = outside(self.loop, work)
         self._tasks.append(task)
         task.add_done_callback(self._tasks.remove)
         return task
