@@ -21,6 +21,7 @@ import shop
 from tareslater import GivenUp, System
 
 BUILT, PLAIN = os.path.join(TOP, "crates", "darwin_run", "out", "darwin_run"), os.path.join(TOP, "tests", "plain")
+WITHIN = 5  # seconds
 BATCHES = {"stock": "stock", "mail": "mail"}
 
 
@@ -84,25 +85,34 @@ async def ask(port, request):
     return answer
 
 
+async def given_up(system, seconds):
+    """A change while a slow report is under way. On a busy machine that may end too soon: then back, and again with a longer one."""
+    while True:
+        slow = asyncio.create_task(ask(system["front"].port, {"do": "report", "with": {"seconds": seconds}}))
+        await asyncio.sleep(0.05)
+        try:
+            await system.change("Shop(4)", within=seconds / 3)
+        except GivenUp as fault:
+            print("%-24s given up: %s" % ("4: catalog replaced", fault))
+            print("%-24s %s" % ("   the slow report", await slow))
+            return
+        await slow
+        await system.change("Shop(3)", within=WITHIN)
+        seconds *= 2
+
+
 async def changes(system, seconds):
     """Changes the shop step by step."""
     pause = seconds / 6
     await asyncio.sleep(pause)
-    show("2: stock, mail replaced", await system.change("Shop(2)", within=2, moving=BATCHES))
+    show("2: stock, mail replaced", await system.change("Shop(2)", within=WITHIN, moving=BATCHES))
     await asyncio.sleep(pause)
-    show("3: an auditor is added", await system.change("Shop(3)", within=2))
+    show("3: an auditor is added", await system.change("Shop(3)", within=WITHIN))
     await asyncio.sleep(pause)
-    slow = asyncio.create_task(ask(system["front"].port, {"do": "report", "with": {"seconds": pause}}))
-    await asyncio.sleep(0.05)
-    try:
-        await system.change("Shop(4)", within=pause / 3)
-        raise AssertionError("the change is made while the report is under way")
-    except GivenUp as given_up:
-        print("%-24s given up: %s" % ("4: catalog replaced", given_up))
-    print("%-24s %s" % ("   the slow report", await slow))
-    show("4: catalog replaced", await system.change("Shop(4)", within=2))
+    await given_up(system, pause)
+    show("4: catalog replaced", await system.change("Shop(4)", within=WITHIN))
     await asyncio.sleep(pause)
-    show("5: post replaced", await system.change("Shop(5)", within=2))
+    show("5: post replaced", await system.change("Shop(5)", within=WITHIN))
 
 
 async def trial(connections, seconds, does=changes, command=None, start="Shop(1)", log=None):

@@ -176,8 +176,11 @@ class Mail(Component):
             async with self.post.begin() as post:  # what is at hand is taken and dropped within the root
                 batch = list(self.queue)[: self.batch]
                 if batch and await post(batch):
-                    for _ in batch:
-                        self.queue.popleft()
+                    self.sent(len(batch))
+
+    def sent(self, count):
+        for _ in range(count):
+            self.queue.popleft()
 
     def state(self):
         return list(self.queue)

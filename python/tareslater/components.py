@@ -138,6 +138,12 @@ def in_loop(loop: asyncio.AbstractEventLoop, work: Coroutine[Any, Any, Got]) -> 
     return asyncio.run_coroutine_threadsafe(work, loop).result()
 
 
+def outside(loop: asyncio.AbstractEventLoop, work: Coroutine[Any, Any, Any]) -> "asyncio.Task[Any]":
+    """A task that belongs to no root."""
+    task: "asyncio.Task[Any]" = contextvars.Context().run(loop.create_task, work)
+    return task
+
+
 def must_be_beside(loop: asyncio.AbstractEventLoop, name: object) -> None:
     """Refuses a wait that would stop the loop for which it waits."""
     if asyncio._get_running_loop() is loop:
@@ -197,6 +203,7 @@ class Block:
         self.handle = handle
 
     def begun(self) -> "Block":
+        """The root begins, as its gate was entered."""
         self.root = Root(self.handle.gate.leave)
         self.token = RUNNING.set(Running(self.root, self.handle.owner, NOTHING))
         return self
@@ -238,11 +245,13 @@ class Roots(Handle):
         self.gate = Gate(self)
 
     def may_begin(self) -> None:
+        """Refuses a root inside a root, and one in another loop."""
         may_begin(self)
         if asyncio._get_running_loop() is not self.owner.loop:
             raise Misuse("%s is begun in another loop than its component's" % self)
 
     def may_begin_beside(self) -> None:
+        """Refuses a root inside a root, and a wait in the loop."""
         may_begin(self)
         must_be_beside(self.owner.loop, self)
 
@@ -361,7 +370,7 @@ class Component:
 
     def spawn(self, work: Coroutine[Any, Any, Any]) -> "asyncio.Task[Any]":
         """Starts a task of the component's own, which belongs to no root and ends with the component."""
-        task: "asyncio.Task[Any]" = contextvars.Context().run(self.loop.create_task, work)
+        task = outside(self.loop, work)
         self._tasks.append(task)
         task.add_done_callback(self._tasks.remove)
         return task

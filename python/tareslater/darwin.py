@@ -57,6 +57,7 @@ class Shape:
             raise Undescribable("%s: no service calls %s" % (self.name, ", ".join(unused)))
 
     def check_names(self) -> None:
+        """Refuses what has no name or no integer in Darwin."""
         cls = self.cls
         for name in (self.name, *cls.provisions, *cls.requirements, *cls.integers):
             if name in KEYWORDS or not re.fullmatch(r"[A-Za-z_][A-Za-z0-9_]{0,63}", name):
@@ -69,6 +70,7 @@ class Shape:
                 raise Undescribable("%s.%s: its size %s is no integer that __init__ takes" % (self.name, name, size))
 
     def add_node(self, name: str, kind: str, size: Size) -> None:
+        """A node, or an array of nodes."""
         if name in self.nodes:
             raise Undescribable("%s: the name %s stands twice" % (self.name, name))
         self.nodes[name] = kind, size
@@ -79,9 +81,11 @@ class Shape:
         self.each(size, "bind %s.%s -- %s;" % (self.element(node, size), port, self.element(requirement, size)))
 
     def element(self, name: str, size: Size) -> str:
+        """What is one, or the element of an array that the counter tells."""
         return name if size is None else "%s[%s]" % (name, self.counter)
 
     def each(self, size: Size, statement: str) -> None:
+        """A statement, said for each element where it is of an array."""
         self.lines.append(statement if size is None else "forall %s:0..%s - 1 { %s }" % (self.counter, size, statement))
 
     def add_service(self, name: str) -> None:
@@ -136,6 +140,8 @@ def shape(cls: Type[Component]) -> Shape:
 
 
 def port_lists(cls: Type[Component]) -> List[str]:
+    """What a component provides and requires."""
+
     def listed(word: str, members: Sequence[Tuple[str, Size]]) -> List[str]:
         names = [name if size is None else "%s[%s]" % (name, size) for name, size in members]
         return ["  %s %s;" % (word, ", ".join(names))] if names else []
@@ -240,6 +246,7 @@ class Graph:
             self.add_link(port, target)
 
     def place(self, path: str, node: str) -> Place:
+        """For what a node stands, by its path and its argument."""
         number, version = divmod(int(node[node.index("(") + 1 : -1] or 0), VERSIONS)
         if number >= len(self.classes) or node.split("(")[0] not in PORTS:
             raise Undescribable("%s %s is no node of one's own components" % (path, node))
@@ -279,6 +286,7 @@ class Graph:
         return place.path, "%s[%d]" % (requirement, place.element or 0) if is_array else requirement
 
     def add_link(self, port: str, target: str) -> None:
+        """Notes where the requirement of a port leads."""
         key = self.key(port)
         if key is None or target == "-":
             return

@@ -194,6 +194,7 @@ class Described:
         return self.component(names_of(child)), indexes_of(child)
 
     def arrays(self, places: Sequence[Path]) -> List[str]:
+        """The arrays of these places, each as long as the longest of them."""
         sizes: Dict[str, Tuple[int, str]] = {}
         for child in (child for place in places for child in self.children(place)):
             name, index = child[-1]
@@ -204,6 +205,7 @@ class Described:
         return ["  array %s[%d]:%s;" % (name, size, entry) for name, (size, entry) in sizes.items()]
 
     def made(self, place: Path) -> List[str]:
+        """What is made at a place."""
         found = []
         for child in self.children(place):
             name, index = child[-1]

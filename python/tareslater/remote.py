@@ -12,13 +12,14 @@ import importlib
 import itertools
 import os
 import pickle
+import re
 import shutil
 import signal
 import sys
 import tempfile
 from typing import Any, Callable, Dict, Iterable, List, Mapping, Optional, Sequence, Set, Tuple, Type
 
-from .components import Component, End, Target, in_loop
+from .components import Component, End, Target, in_loop, outside
 from .darwin import Instance, Key
 from .gates import Root
 from .session import GRACE, ended
@@ -44,9 +45,14 @@ class Wire:
         text = pickle.dumps(message)
         framed = len(text).to_bytes(HEAD, "big") + text
         if asyncio._get_running_loop() is self.loop:
-            self.writer.write(framed)
+            self.write(framed)
         else:
-            self.loop.call_soon_threadsafe(self.writer.write, framed)
+            self.loop.call_soon_threadsafe(self.write, framed)
+
+    def write(self, framed: bytes) -> None:
+        """Sends bytes, unless nobody is there to hear them."""
+        if not self.writer.is_closing():
+            self.writer.write(framed)
 
     async def hear(self) -> Optional[Tuple[Any, ...]]:
         """The next message, or None behind the last."""
@@ -71,7 +77,7 @@ class Peer:
     def __init__(self, address: str) -> None:
         self.address, self.numbers = address, itertools.count()
         self.wire: Optional[Wire] = None
-        self.connecting: Optional["asyncio.Task[Wire]"] = None
+        self.connecting: Optional["asyncio.Task[Any]"] = None
         self.answers: Dict[int, "asyncio.Future[Any]"] = {}
         self.roots: Dict[int, Root] = {}
         self.is_lost = False
@@ -79,17 +85,23 @@ class Peer:
 
     async def connected(self) -> Wire:
         """The connection, which is made once."""
-        if self.is_lost:
+        if self.is_lost or (self.wire and self.wire.writer.is_closing()):
             raise Lost(self.address)
         if self.wire is None:
             if self.connecting is None:
-                self.connecting = asyncio.ensure_future(self.connect())
+                # it belongs to no root, least of all to that which happens to be the first to call
+                self.connecting = outside(asyncio.get_running_loop(), self.connect())
             await asyncio.shield(self.connecting)
         assert self.wire
         return self.wire
 
     async def connect(self) -> Wire:
-        self.wire = Wire(*await asyncio.open_unix_connection(self.address))
+        """Makes the connection."""
+        try:
+            self.wire = Wire(*await asyncio.open_unix_connection(self.address))
+        except OSError as fault:
+            self.is_lost = True
+            raise Lost("%s: %s" % (self.address, fault.strerror))
         self.listening = asyncio.ensure_future(self.listen(self.wire))
         return self.wire
 
@@ -203,6 +215,9 @@ class Reachable(Site):
             wire.reply(number, True, answer)
         except Exception as fault:
             wire.reply(number, False, fault)
+        except BaseException as fault:  # a task of the service was cancelled, or this process ends
+            wire.reply(number, False, RuntimeError(repr(fault)))
+            raise
         finally:
             root.release()
 
@@ -284,6 +299,7 @@ class There(AnySite):
     # ---- what is no work where the process has gone
 
     async def done(self, word: str, *words: Any) -> Any:
+        """Asks for what is no work where there is no process."""
         try:
             return await self.peer.ask(word, *words)
         except Lost:
@@ -352,6 +368,8 @@ class Spread(System):
 
     async def site(self, name: str) -> AnySite:
         """The site of a name, of which a process is started where there is none."""
+        if not re.fullmatch(r"\w{1,40}", name):
+            raise ValueError("%r is no name of a process: letters, digits and _, at most 40" % name)
         if name not in self.sites:
             address = os.path.join(self.folder, "%s.%d" % (name, next(self.numbers)))  # never that of a process which has gone
             site = There(address, self.named, self.threads)
@@ -365,8 +383,15 @@ class Spread(System):
         for name, site in list(self.sites.items()):
             if isinstance(site, There) and id(site) not in used:
                 del self.sites[name]
-                await site.stop(1)
-                await site.end()
+                await self.ended(site)
+
+    async def ended(self, site: There) -> None:
+        """Ends a process, whatever its components make of it: no change fails by that."""
+        try:
+            await site.stop(1)
+        except Exception as fault:
+            self.faults.append(fault)
+        await site.end()
 
     async def stop(self, within: float = 5.0) -> None:
         """Ends all processes."""

@@ -81,6 +81,11 @@ class AnySite(abc.ABC):
         """Ends the roots of calls to a process that has gone."""
 
 
+def roots_of(component: Component) -> List[Roots]:
+    """The requirements at which a component begins."""
+    return [handle for handle in component._handles.values() if isinstance(handle, Roots)]
+
+
 class Site(AnySite):
     """The components of this process."""
 
@@ -193,9 +198,8 @@ class Site(AnySite):
 
     def end_roots(self, component: Component) -> None:
         """Closes the gates of a component for good. Who waits there hears that it is removed, and who its heir is."""
-        for handle in component._handles.values():
-            if isinstance(handle, Roots):
-                handle.gate.remove(component.heir)
+        for roots in roots_of(component):
+            roots.gate.remove(component.heir)
 
     def link(self, path: str, name: str, end: Optional[End], switch: Switch) -> None:
         """Lets a requirement lead where the new system has it lead."""
@@ -235,12 +239,10 @@ class Site(AnySite):
 
     async def rest(self) -> None:
         loop, busy = asyncio.get_running_loop(), []
-        for component in self.components.values():
-            for handle in component._handles.values():
-                if isinstance(handle, Roots):
-                    idle = asyncio.Event()
-                    if handle.gate.close(functools.partial(loop.call_soon_threadsafe, idle.set)):
-                        busy.append(idle)
+        for roots in (roots for component in self.components.values() for roots in roots_of(component)):
+            idle = asyncio.Event()
+            if roots.gate.close(functools.partial(loop.call_soon_threadsafe, idle.set)):
+                busy.append(idle)
         for idle in busy:
             await idle.wait()
 

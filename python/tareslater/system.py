@@ -224,7 +224,13 @@ class System:
         self.call, self.placed = words, change.new
 
     async def side_by_side(
-        self, both: str, then: str, within: float = 5.0, patience: float = 60.0, moving: Optional[Mapping[str, str]] = None, losing: Sequence[str] = ()
+        self,
+        both: str,
+        then: str,
+        within: float = 5.0,
+        patience: float = 60.0,
+        moving: Optional[Mapping[str, str]] = None,
+        losing: Sequence[str] = (),
     ) -> Tuple[Changed, Changed]:
         """Changes by way of a system that has the old part and the new one, so that fast requests don't wait for slow ones in the old part.
         The second change is tried when what it removes serves nothing, for `patience` seconds."""
@@ -260,6 +266,10 @@ class System:
             keys = (old.begins(port) for port in old.ports if port.rpartition(".")[0] in frozen)
             relinked = [key for key, end in new.graph.links.items() if key[0] not in change.made and old.links.get(key) != end]
             return Plan(
-                sorted("%s.%s" % key for key in keys if key), change.gone, change.made, ["%s.%s" % key for key in relinked],
-                [path for path in change.gone if path in change.moving], lost(self.gone(change), change.moving),
+                held=sorted("%s.%s" % key for key in keys if key),
+                removed=change.gone,
+                made=change.made,
+                relinked=["%s.%s" % key for key in relinked],
+                moved=[path for path in change.gone if path in change.moving],
+                lost=lost(self.gone(change), change.moving),
             )

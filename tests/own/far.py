@@ -94,6 +94,8 @@ class Store(Component):
     def odd(self, how):
         if how == "raise":
             raise KeyError("odd")
+        if how == "cancel":
+            raise asyncio.CancelledError()
         return threading.Lock()
 
     def state(self):

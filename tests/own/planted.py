@@ -154,6 +154,14 @@ SILENT = SAYS.replace("PATIENT", "True").replace("print(sys.argv[2]", "import ti
 HASTY, PATIENT = SAYS.replace("PATIENT", "False"), SAYS.replace("PATIENT", "True")
 
 
+async def with_hasty(tries, system, name, first, last, wanted):
+    """A manager that says this at once, while a write is under way."""
+    async with writing(system):
+        with talking(system, HASTY, first, last):
+            came = await changed(system)
+    tries.want(name, came.startswith(wanted) and came.endswith("; goes on as before"), came)
+
+
 async def try_managers(tries):
     """Managers that are silent, hasty, of another mind, or aren't there."""
     async with running(tries.manager) as system:
@@ -170,11 +178,8 @@ async def try_managers(tries):
             ("it says what isn't known", start[:9] + ["nonsense"] + start[9:], acts, "ManagerDied: it "),
             ("it names a port that isn't", [line.replace("close ", "close 9") for line in start], acts, "ManagerDied: it names port 9"),
         ]
-        for name, first, last, wanted in rows:
-            async with writing(system):
-                with talking(system, HASTY, first, last):
-                    came = await changed(system)
-            tries.want(name, came.startswith(wanted) and came.endswith("; goes on as before"), came)
+        for row in rows:
+            await with_hasty(tries, system, *row)
         with talking(system, PATIENT, start + drained, [line for line in acts if not line.startswith("link")]):
             tries.same("it leads elsewhere", "ManagerDied: it leads to another system than that which was asked for; goes on as before", await changed(system))
         grace, system.grace = system.grace, 1
@@ -211,18 +216,18 @@ async def try_killed(tries):
     cut = [sys.executable, os.path.join(os.path.dirname(os.path.abspath(__file__)), "cut.py")]
     async with running(tries.manager) as system:
         count = len([line for line in (await system.change("Small(1)", moving={"t": "t"})).lines if not line.startswith("> ")])
-        made = {"behind": [], "within": []}
-        step = 9 if tries.quick else 1
-        for keeps, where in ((1, "behind"), (0, "within")):
-            for lines in sorted({*range(1, count + 1, step), count}):
-                system.manager = [*cut, str(lines), str(keeps), *tries.manager]
-                came = await changed(system, "Small(%d)" % (100 * keeps + lines + 2))
-                if came == "made":
-                    made[where].append(lines)
-                else:
-                    tries.want("%s line %d" % (where, lines), came.startswith("ManagerDied: its output ends") and came.endswith("; goes on as before"), came)
+        made, step = [], 9 if tries.quick else 1
+        places = [(lines, keeps) for keeps in (1, 0) for lines in sorted({*range(1, count + 1, step), count})]
+        for lines, keeps in places:
+            system.manager = [*cut, str(lines), str(keeps), *tries.manager]
+            came = await changed(system, "Small(%d)" % (100 * keeps + lines + 2))
+            if came == "made":
+                made.append((lines, keeps))
+            else:
+                fine = came.startswith("ManagerDied: its output ends") and came.endswith("; goes on as before")
+                tries.want("%s line %d" % ("behind" if keeps else "within", lines), fine, came)
         system.manager = tries.manager
-        tries.same("made only behind the whole of `commit`", {"behind": [count], "within": []}, made)
+        tries.same("made only behind the whole of `commit`", [(count, 1)], made)
         tries.same("and after all of that", "made", await changed(system))
         client, store = system["c"], system["t"]
     tries.want("no root was lost or came twice", 0 <= store.count - client.done <= 4, (store.count, client.done))

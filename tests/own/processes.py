@@ -54,6 +54,7 @@ async def try_calls(tries):
     async with running(tries.manager) as system:
         asker = system["a"]
         tries.same("what is raised there", "KeyError: 'odd'", await ends(asker.odd("raise")))
+        tries.same("a task of the service that is cancelled", "RuntimeError: CancelledError()", await ends(asker.odd("cancel")))
         tries.want("an answer that can't be sent", "cannot pickle" in await ends(asker.odd("lock")))
         tries.want("a word that can't be sent", "pickle" in await ends(asker.odd(lambda: 1)))
         waiting = asyncio.ensure_future(asker.wait())
@@ -81,6 +82,7 @@ async def try_dead(tries):
         tries.same("the root is open", 1, asker.wait.gate.count)
         came = await ends(system.change("All(1, 0)", within=0.2, moving={"t": "t"}))
         tries.want("a change is given up", came.startswith("GivenUp: still under way: ") and "a.wait" in came, came)
+        tries.want("no process has such a name", "is no name of a process" in await ends(system.site("../x")))
         await system.over("server")
         tries.same("it is over", 0, asker.wait.gate.count)
         await system.change("All(1, 1)", within=5, moving={"t": "t"})

@@ -59,12 +59,12 @@ FAULTS = [
 ]
 
 
-async def five_times(system, seconds, raised):
+async def five_times(system, seconds, within, raised):
     """Stock and mail are replaced five times while all goes on."""
     for _ in range(5):
         await asyncio.sleep(seconds / 10)
         try:
-            await system.change("Shop(%d)" % (3 - int(system.call[1])), within=0.4, moving=run.BATCHES)
+            await system.change("Shop(%d)" % (3 - int(system.call[1])), within=within, moving=run.BATCHES)
         except Exception as fault:
             raised.append(type(fault).__name__)
 
@@ -73,9 +73,9 @@ def try_faults(tries):
     """Either a fault is caught, and then nothing is lost; or something is, and the shop's own books show it."""
     seconds = 4
     for name, faults, wanted, loses in FAULTS[:1] if tries.quick else FAULTS:
-        raised = []
+        raised, within = [], 0.4 if "GivenUp" in wanted else 5
         with planted(*faults), contextlib.redirect_stdout(io.StringIO()):
-            found = asyncio.run(run.trial(12, seconds, lambda system, seconds: five_times(system, seconds, raised), tries.manager))
+            found = asyncio.run(run.trial(12, seconds, lambda system, seconds: five_times(system, seconds, within, raised), tries.manager))
         print("%-52s raised %s; at the end: %s" % (name, sorted(set(raised)) or "nothing", "; ".join(found)[:90] or "nothing was lost"), flush=True)
         tries.want("%s: what is raised" % name, set(raised) <= wanted and bool(raised) == bool(wanted), raised)
         tries.want("%s: what is lost" % name, bool(found) == loses, found)
@@ -93,8 +93,9 @@ def try_changes(tries):
     rows = [line.split(" ", 1)[1] for line in done.stdout.decode().splitlines() if not line.startswith("  ")]
     tries.same("what the shop lost", [], found)
     wanted = ["1 -- Shop 2: made", "2 -- Shop 3: made", "3 -- Shop 4: NOT MADE", "3 -- Shop 4: made", "4 -- Shop 5: made"]
-    tries.same("its log", (["Shop " + row for row in wanted], b""), (rows, done.stderr))
-    tries.same("changes", ["2:", "3:", "4:", "4:", "5:"], [line[:2] for line in said.getvalue().splitlines() if line[0].isdigit()][:5])
+    tries.same("its log", (["Shop " + row for row in wanted], b""), (rows[:2] + rows[-3:], done.stderr))
+    shown = [line[:2] for line in said.getvalue().splitlines() if line[1:2] == ":"]
+    tries.same("changes", ["2:", "3:", "4:", "4:", "5:"], shown)
 
 
 def try_side_by_side(tries):
@@ -103,7 +104,7 @@ def try_side_by_side(tries):
     async def changes(system, seconds):
         slow = asyncio.ensure_future(run.ask(system["front"].port, {"do": "report", "with": {"seconds": seconds / 2}}))
         await asyncio.sleep(0.05)
-        first, second = await system.side_by_side("Both(2)", "Both(3)", within=0.5)
+        first, second = await system.side_by_side("Both(2)", "Both(3)", within=5)
         tries.same("what is held", (["front.order", "front.search"], ["front.report"]), (sorted(first.held), second.held))
         await slow
 
