@@ -10,7 +10,6 @@ import subprocess
 import sys
 from typing import NamedTuple, Optional
 
-import beside
 from pages import Bad, kinds
 
 # the events of nodes that have a serial and a value
@@ -280,6 +279,8 @@ def change_between(program, command, words):
     old, new = two_systems(words)
     if old[0] == new[0] and min(len(old), len(new)) > 1:
         return graph_of(program, old), written(program, command, *old, "--", *new[1:])
+    import beside  # which asks this module in its turn
+
     graphs = graph_of(program, old), graph_of(program, new)
     return graphs[0], beside.change_text(command, *graphs)
 
