@@ -3,7 +3,19 @@ change waited."""
 import os
 import sys
 
-sys.path.append(os.path.join(os.path.dirname(os.path.dirname(os.path.abspath(__file__))), "tests", "oracle"))
+import texts
+from pages import Bad
+
+ORACLE = os.path.join(texts.TOP, "tests", "oracle")
+
+
+def want_oracle():
+    if not os.path.isdir(ORACLE):
+        raise Bad("the plain statements of tests/oracle, which stand beside tools/, aren't there")
+
+
+texts.call(want_oracle)
+sys.path.insert(1, ORACLE)
 import machine
 import parts
 import plans

@@ -11,7 +11,8 @@ from pages import Bad
 SECTIONS = ("start", "change", "run", "finish", "show", "stop", "plan", "part")
 # of a long state the numbers at both of its ends
 SHOWN = 6
-# lines of a session that no report has: what the program says, and what is said to it
+# lines of a session: those that a history has too, and others, of the program and of what is said to it
+HISTORY = ("start", "change", "make", "link", "unlink", "remove", "close", "reopen", "drained", "pending", "open", "commit", "abandon")
 SESSION = ["wait NUMBER", "ready", "denied NUMBER NUMBER", "bad NUMBER", "closed PORT", "busy PORT", "idle PORT", "round", "go", "stop"]
 
 
@@ -127,7 +128,7 @@ class SessionReader(texts.Reader):
 
     def may_stand(self, words):
         form = self.FORMS.get((words[0], len(words)))
-        return form is not None and all(map(self.says, words, form)) or words[0] != "log" and super().may_stand(words)
+        return form is not None and all(map(self.says, words, form)) or words[0] in HISTORY and super().may_stand(words)
 
 
 def of_session(lines, title):
@@ -139,10 +140,12 @@ def of_session(lines, title):
             continue
         if words[0] == "start":
             reader, first, port = SessionReader(), len(data.nodes), data.ports
-        if not reader.may_stand(words):
+        if not reader.may_stand(words) or not (data.sections or words[0] == "start"):
             raise texts.bad_line(number, line, "session")
         reader.take(number, words)
         session_moment(data, words, first, port)
+    if not data.sections:
+        raise Bad("the session has no line but comments")
     data.note = "Lines stand in the order of the text. Of a transaction it is told that one or more were under way at a port (busy), or none (idle)."
     return data
 

@@ -10,7 +10,6 @@ import subprocess
 import sys
 from typing import NamedTuple, Optional
 
-import beside
 from pages import Bad, kinds
 
 # the events of nodes that have a serial and a value
@@ -254,27 +253,34 @@ def carried_out(graph, plan):
 
 
 def two_systems(words):
-    """The words of a system and of another, which `--` parts: each a file and a component with its arguments. Behind `--` the file may be
-    left out, where it is the same: the second word there is no number then."""
-    if words.count("--") != 1 or len(words[: words.index("--")]) < 2 or words[-1] == "--":
+    """The words of a system and of another, which `--` parts: each a file and a component with its arguments, or a file with a graph's text.
+    Behind `--` the file may be left out where it is the same: so a name stands first there, and no word or a number behind it."""
+    if words.count("--") != 1 or words[0] == "--" or words[-1] == "--":
         raise Bad("between the two systems, each a component with its arguments behind a file, one `--` is wanted")
     cut = words.index("--")
     old, new = words[:cut], words[cut + 1 :]
-    has_file = len(new) > 1 and not re.fullmatch(r"-?[0-9]+", new[1])
-    return old, new if has_file else [old[0], *new]
+    is_component = re.fullmatch(r"[A-Za-z_][A-Za-z_0-9]*", new[0]) and (len(new) == 1 or re.fullmatch(r"-?[0-9]+", new[1]))
+    return old, [old[0], *new] if is_component and len(old) > 1 else new
 
 
 def graph_of(program, system):
-    """The graph of a system, as the program tells it."""
-    return read_graph(written(program, "flat", *system))
+    """The graph of a system, as the program tells it, or as it stands in a file."""
+    if len(system) > 1:
+        return read_graph(written(program, "flat", *system))
+    try:
+        return read_graph(lines_of(content(system[0]).decode("utf-8", "replace")))
+    except Bad as bad:
+        raise Bad("%s: %s" % (system[0], bad)) if str(bad).startswith("line ") else bad
 
 
 def change_between(program, command, words):
     """The graph of the first of two systems, and the lines that `plan` or `parts` writes of the change to the second. Between two files,
     which the program doesn't know, the plain statements of tests/oracle tell them."""
     old, new = two_systems(words)
-    if old[0] == new[0]:
+    if old[0] == new[0] and min(len(old), len(new)) > 1:
         return graph_of(program, old), written(program, command, *old, "--", *new[1:])
+    import beside  # which asks this module in its turn
+
     graphs = graph_of(program, old), graph_of(program, new)
     return graphs[0], beside.change_text(command, *graphs)
 

@@ -186,6 +186,7 @@ def try_plans(hand):
     hand.tries.want("it says what is missing", "put what `flat` says of the old system in front of it" in hand.text("#note"), hand.text("#note"))
     hand.open("session", "#change-1")
     hand.same("sessions", ["start Line(2) committed", "change Line(3) committed: 2 frozen, 1 removed, 1 made", "start Line(2) committed", "change Line(3) given up: 2 frozen"], hand.texts("#course a"))
+    hand.same("rounds of sessions", ["committed; waited for 1 round", "given up; waited for no round; still open: s.out, transaction 1"], [row for row in hand.texts("#table tbody td:nth-child(2)") if "waited" in row])
     hand.browser.ask("page.go(page.course.verbs.indexOf('busy'))")
     hand.same("what the runtime says", ("> busy s.out", ["s.out → b: busy"]), (hand.text("#moment"), hand.texts("#open li")))
 

@@ -3,6 +3,7 @@ import os
 import shutil
 import tempfile
 
+from program import HERE
 from tries import EXAMPLES, LINE, Came
 
 ODD = """component source(int n) { require out; }
@@ -107,11 +108,36 @@ def try_suggest_moves(tries):
         ]
         for words, clause, warnings in rows:
             tries.same("suggest_moves %s" % words, Came(0, clause, warnings), tries.asking("suggest_moves", *words))
+        # texts of graphs in the place of components
+        graph = os.path.join(folder, "now.graph")
+        with open(graph, "w") as out:
+            out.write(tries.run([tries.program, "flat", EXAMPLES + "line.dar", "Line", "2"]).text)
+        for words in ([graph, "--", EXAMPLES + "line.dar", "Line", "3"], [EXAMPLES + "line.dar", "Line", "3", "--", graph]):
+            tries.same("suggest_moves %s" % words, Came(0, "moving b -> b\n", ""), tries.asking("suggest_moves", *words))
+        tries.same("suggest_moves of one graph", Came(0, "", ""), tries.asking("suggest_moves", graph, "--", graph))
+        came = tries.asking("suggest_moves", file, "--", graph)
+        tries.same("suggest_moves of no graph", Came(2, "", "suggest_moves: %s: line 1 is none of a graph: component source(int n) { require out; }\n" % file), came)
+        between_files(tries, file, graph)
     # the program takes the clause, and then nothing is lost
     clause = tries.asking("suggest_moves", EXAMPLES + "fan.dar", "Fan", "4", "1", "2", "--", "Fan", "4", "1", "3").text.strip()
     script = "use ../../examples/fan.dar\nstart Fan(4,1,2)\nrun 30\nchange to Fan(4,1,3) within 99 %s\nend\n"
     summaries = [tries.tool("report_summary", text=tries.report(script % words)).text for words in ("", clause)]
     tries.same("states that go nowhere, without the clause and with it", [True, False], ["NOWHERE" in summary for summary in summaries])
+
+
+def between_files(tries, file, graph):
+    """A plan between two files, or from a graph's text, is the one that the program makes of components of one file."""
+    with open(file) as text, open(os.path.join(os.path.dirname(HERE), "examples", "line.dar")) as other:
+        both = text.read() + "component Line" + other.read().split("component Line")[1]
+    with tempfile.NamedTemporaryFile("w", suffix=".dar") as one:
+        one.write(both)
+        one.flush()
+        wanted = tries.asking("plan_to_dot", one.name, "Line", "2", "--", "Near")
+        tries.same("a plan of one file", 0, wanted.status)
+        tries.same("a plan between two files", wanted, tries.asking("plan_to_dot", EXAMPLES + "line.dar", "Line", "2", "--", file, "Near"))
+        tries.same("a plan from a graph's text", wanted, tries.asking("plan_to_dot", graph, "--", file, "Near"))
+        parts = tries.asking("plan_to_dot", "--parts", one.name, "Line", "2", "--", "Near")
+        tries.same("parts between two files", parts, tries.asking("plan_to_dot", "--parts", EXAMPLES + "line.dar", "Line", "2", "--", file, "Near"))
 
 
 def try_lint(tries):

@@ -53,6 +53,7 @@ class Course {
     section.linked = new Map();
     section.stillOpen = [];
     section.end = null;
+    if (this.data.what === "session" && section.isChange) section.waited = 0; // lines `round`
   }
 
   // One pass over all moments: kept states, the heights of the line of time, when nodes came and went, and what each section did.
@@ -91,6 +92,7 @@ class Course {
     else if (verb === "drained") section.drainedLast = moment;
     else if (verb === "open") section.stillOpen.push(moment);
     else if (verb === "pending") section.pending = number;
+    else if (verb === "round") section.waited++;
     else if (["commit", "abandon", "skipped", "denied", "bad"].includes(verb)) section.end = section.end || verb;
   }
 

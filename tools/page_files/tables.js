@@ -49,7 +49,7 @@ class Tables {
   how(section) {
     const told = [ending(section)];
     const waited = section.waited === undefined ? section.pending : section.waited;
-    if (waited !== undefined && section.held.size) told.push(`waited for ${waited ? plural(waited, "round") : "nothing"}`);
+    if (waited !== undefined && section.held.size) told.push(`waited for ${waited ? plural(waited, "round") : section.end === "commit" ? "nothing" : "no round"}`);
     for (const moment of section.stillOpen) told.push(`still open: ${this.course.portName(this.course.a[moment])}, transaction ${this.course.b[moment]}`);
     const observers = this.seen(section);
     if (observers.length) told.push(`seen by observer ${observers.join(", ")}`);

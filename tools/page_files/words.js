@@ -30,48 +30,50 @@ function made(course, slot) {
   return `make ${node.path} ${node.shown}${node.source < 0 ? "" : ` from ${course.nodes[node.source].path}`}`;
 }
 
-// What a moment means.
+// What a moment means, by its word: of an owner of a port, the node to which it leads, and its numbers.
+const MEANINGS = {
+  begin: ({ owner, to }) => `${owner} begins a transaction with ${to}`,
+  call: ({ owner, to }) => `${owner} calls ${to} for the service that it is in`,
+  take: ({ owner, to }) => `${to} takes the request of ${owner} up`,
+  more: ({ owner, to }) => `${to} answers ${owner} in part, and asks back`,
+  ask: ({ owner, to }) => `${owner} answers the question of ${to}`,
+  hear: ({ owner, to }) => `${to} hears the answer of ${owner}`,
+  give: ({ owner, to }) => `${to} answers ${owner}`,
+  end: ({ owner }) => `${owner} has its answer: the transaction has ended`,
+  miss: ({ owner }) => `${owner} has nobody to call there, which counts as answered`,
+  close: ({ owner, what }) => (what === "session" ? "the program asks that the gate is closed" : `from here on ${owner} begins no transaction there`),
+  reopen: ({ owner }) => `${owner} may begin transactions there`,
+  drained: ({ owner }) => `found closed, and nothing is under way there that ${owner} began by itself`,
+  open: ({ second }) => `transaction ${second} was still under way at the last look`,
+  link: ({ owner, to }) => `${owner} leads to ${to} now`,
+  unlink: ({ owner }) => `${owner} lets go of what it led to`,
+  busy: ({ owner }) => `something that ${owner} began is under way there`,
+  closed: () => "the runtime says that the gate is closed",
+  idle: () => "the runtime says that nothing is under way there any more",
+  freeze: () => "begins nothing from here on; what is under way ends",
+  thaw: () => "its gates are opened",
+  make: ({ what }) => (what === "plan" ? "is created" : "a node comes to be"),
+  remove: () => "a node goes",
+  run: ({ second }) => `rounds of turns; at the end of them ${plural(second, "transaction")} of this run had ended`,
+  finish: ({ first, second }) => `rounds of turns until all is at rest: ${plural(second, "round")} of at most ${first}`,
+  stop: () => "all gates close, and what is under way ends",
+  commit: () => "the change is made",
+  abandon: () => "the change is given up: all stays as it was",
+  skipped: () => "passed over, since a change before it was given up",
+  pending: () => "so many rounds were waited, and something was still under way",
+  ready: () => "all is drained; the program waits for the word to go on",
+  wait: () => "so many rounds may be waited",
+  go: () => "the runtime lets the change be made",
+  denied: () => "what the runtime told may not happen: line and rule",
+  bad: () => "the runtime's line has no form",
+};
+
 function meaning(course, moment, state) {
-  const verb = course.verbs[moment], port = course.a[moment], serial = course.b[moment];
-  const to = PORT_VERBS.includes(verb) && state.target[port] >= 0 ? course.nodes[state.target[port]].path : "nothing";
-  const owner = PORT_VERBS.includes(verb) ? course.nodes[course.owner[port]].path : "";
-  const told = {
-    begin: `${owner} begins a transaction with ${to}`,
-    call: `${owner} calls ${to} for the service that it is in`,
-    take: `${to} takes the request of ${owner} up`,
-    more: `${to} answers ${owner} in part, and asks back`,
-    ask: `${owner} answers the question of ${to}`,
-    hear: `${to} hears the answer of ${owner}`,
-    give: `${to} answers ${owner}`,
-    end: `${owner} has its answer: the transaction has ended`,
-    miss: `${owner} has nobody to call there, which counts as answered`,
-    close: course.data.what === "session" ? "the program asks that the gate is closed" : `from here on ${owner} begins no transaction there`,
-    reopen: `${owner} may begin transactions there`,
-    drained: `found closed, and nothing is under way there that ${owner} began by itself`,
-    open: `transaction ${serial} was still under way at the last look`,
-    link: `${owner} leads to ${to} now`,
-    unlink: `${owner} lets go of what it led to`,
-    busy: `something that ${owner} began is under way there`,
-    closed: `the runtime says that the gate is closed`,
-    idle: `the runtime says that nothing is under way there any more`,
-    freeze: "begins nothing from here on; what is under way ends",
-    thaw: "its gates are opened",
-    make: course.data.what === "plan" ? "is created" : "a node comes to be",
-    remove: "a node goes",
-    run: `rounds of turns; at the end of them ${plural(course.b[moment], "transaction")} of this run had ended`,
-    finish: `rounds of turns until all is at rest: ${plural(course.b[moment], "round")} of at most ${course.a[moment]}`,
-    stop: "all gates close, and what is under way ends",
-    commit: "the change is made",
-    abandon: "the change is given up: all stays as it was",
-    skipped: "passed over, since a change before it was given up",
-    pending: "so many rounds were waited, and something was still under way",
-    ready: "all is drained; the program waits for the word to go on",
-    wait: "so many rounds may be waited",
-    go: "the runtime lets the change be made",
-    denied: "what the runtime told may not happen: line and rule",
-    bad: "the runtime's line has no form",
-  };
-  return told[verb] || (course.section(moment).first === moment ? summary(course.section(moment)) : "");
+  const verb = course.verbs[moment], first = course.a[moment], section = course.section(moment);
+  const isOfPort = PORT_VERBS.includes(verb), target = isOfPort ? state.target[first] : -1;
+  const owner = isOfPort ? course.nodes[course.owner[first]].path : "", to = target >= 0 ? course.nodes[target].path : "nothing";
+  if (MEANINGS[verb]) return MEANINGS[verb]({ owner, to, first, second: course.b[moment], what: course.data.what });
+  return section.first === moment ? summary(section) : "";
 }
 
 // What a section's change came to, in a line.
