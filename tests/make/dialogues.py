@@ -168,7 +168,7 @@ OPEN = [
     ("no round is waited for", 0, [(b"", START % 0 + pending(0, BOTH)[0])], 7),
 ]
 
-USAGE = 1, b"usage\n"
+USAGE, NOTHING = (1, b"usage\n"), b"wait %d\nready\npending %d\nabandon\n"
 # words that are refused, of which nothing is read; and words of a change that closes nothing, whatever its rounds are
 REFUSED = [
     (["apply"], *USAGE),
@@ -195,6 +195,6 @@ REFUSED = [
     (["apply", "9", "a.dar", "Line", "1", "--", "Loop"], 2, b"description a.dar: DependsCycle m\n"),
     (["apply", "9", "a.dar", "Many", "1024", "1", "--", "Line", "2"], 2, b"description a.dar: NodesFull 0 1024\n"),
     (["apply", "9", "a.dar", "Many", "600", "1", "--", "Many", "600", "2"], 2, b"description a.dar: NodesFull 600 600\n"),
-    (["apply", "0", "a.dar", "Many", "1", "1", "--", "Many", "1", "1"], 7, b"start Many(1,1)\nmake 0 m[0] map(1)\nreopen 0\ncommit\nchange Many(1,1)\nwait 0\nready\npending 0\nabandon\n"),
-    (["apply", "007", "a.dar", "Many", "0", "1", "--", "Many", "1", "-0"], 7, b"start Many(0,1)\ncommit\nchange Many(1,0)\nwait 7\nready\npending 7\nabandon\n"),
+    (["apply", "0", "a.dar", "Many", "1", "1", "--", "Many", "1", "1"], 7, b"start Many(1,1)\nmake 0 m[0] map(1)\nreopen 0\ncommit\nchange Many(1,1)\n" + NOTHING % (0, 0)),
+    (["apply", "007", "a.dar", "Many", "0", "1", "--", "Many", "1", "-0"], 7, b"start Many(0,1)\ncommit\nchange Many(1,0)\n" + NOTHING % (7, 7)),
 ]
