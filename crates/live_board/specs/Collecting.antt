@@ -18,6 +18,9 @@ use Rattle.report_types.specs.declared.report.Last.{Last}
 use Rattle.report_types.specs.declared.report.Last.TheVariants.{State, Moved}
 use Rattle.report_types.specs.declared.report.NodeLog.{NodeLog}
 use Rattle.state_handover.specs.declared.any_node.AnyNode.{AnyNode}
+use Rattle.txn_gate.specs.Seats.{change_in, collected_in, record_of, table_of_change}
+use Rattle.txn_gate.specs.declared.change_seat.ChangeSeat.{ChangeSeat}
+use Rattle.txn_records.specs.Entries.{config_of}
 use Rattle.txn_spec.specs.declared.view.NodeView.{NodeView}
 use Rattle.txn_spec.specs.Views.{is_among, log_in}
 
@@ -65,6 +68,13 @@ pub record Grew (c : Configuration) (nodes nodes' : List NodeView) (logs logs' :
   pub shown : (n : ℕ) → IsShown nodes logs n → IsShown nodes' logs' n
   pub slots : map (λ (l : NodeLog). l.slot) logs' ≡ map (λ (l : NodeLog). l.slot) logs
   pub lasts : map (λ (l : NodeLog). l.last) logs' ≡ map (λ (l : NodeLog). l.last) logs
+
+-- the change took these in, and its record is as it was
+pub record TookIn (vs : List NodeView) (old new : ChangeSeat) (logs logs' : List NodeLog) : Type 0 where
+  pub here : table_of_change new ≡ table_of_change old
+  pub change : change_in new ≡ change_in old
+  pub spare : new.spare ≡ old.spare
+  pub grew : Grew (config_of (record_of old)) (collected_in old) (collected_in new) logs logs' vs
 
 -- the views of the nodes of all these lines
 abbrev pub all_views : List Guest → List NodeView

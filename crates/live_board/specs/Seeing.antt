@@ -12,6 +12,9 @@ use Rattle.live_board.specs.Lines.{IsMadeLine, LineSight, is_in_slot}
 use Rattle.quiesce_core.specs.State.{Configuration, is_live}
 use Rattle.quiesce_core.specs.declared.event.Event.{Event}
 use Rattle.state_handover.specs.declared.any_node.AnyNode.{AnyNode}
+use Rattle.txn_gate.specs.Seats.{collected_in, record_of, table_of_change}
+use Rattle.txn_gate.specs.declared.change_seat.ChangeSeat.{ChangeSeat}
+use Rattle.txn_records.specs.Records.{IsRecord}
 use Rattle.txn_records.specs.declared.entry.Entry.{Entry}
 
 -- what is seen of a line, the earliest node first
@@ -45,3 +48,10 @@ pub record SawNodes (S : AnyNode → NodeState) (gates : TableId) (c : Configura
   pub of_lines : (n : ℕ) (es : List Event) → seen_in sights n ≡ Some es → (slot : ℕ) × (slot < slots) × (is_live c slot ≡ true) × IsOfLine c slot n
   pub seen : done ≡ true → (n : ℕ) → n < slots → is_live c n ≡ true → is_seen_done c (seen_in sights) n ≡ true
   pub each : SawEach S gates c sights missed slots missed'
+
+-- the change's record goes on, as one of a run, at the same gates
+pub record SeatGoesOn (old new : ChangeSeat) : Type 0 where
+  pub here : table_of_change new ≡ table_of_change old
+  pub known : IsRecord (record_of new)
+  pub nodes : collected_in new ≡ collected_in old
+  pub spare : new.spare ≡ old.spare

@@ -4,7 +4,7 @@ ghost use Rattle.std.specs.Prelude.{◌≡◌, ℕ, ◌∷◌, [], true, not, fi
 ghost use Rattle.std.specs.List.{AllByRecursion};
 ghost use Rattle.change_board.specs.Scans.{live_nodes};
 ghost use Rattle.config_graph.specs.declared.TheConstants.{MAX_NODES};
-ghost use Rattle.live_board.specs.Collecting.{AreTold, Gathers, Grew, LiesAt, all_views, with_events};
+ghost use Rattle.live_board.specs.Collecting.{AreTold, Gathers, LiesAt, TookIn, all_views, with_events};
 ghost use Rattle.live_board.specs.Heirs.{AreHeirs};
 ghost use Rattle.live_board.specs.Keeping.{AreKept};
 ghost use Rattle.live_hall.specs.Houses.{IsAt};
@@ -49,11 +49,7 @@ fn take_node_in(
     requires theirs { IsSeatOf theirs gates.now }
     requires drained { AreAllNoted (record_of seat.old) }
     requires told { log.items ≡ (node_in theirs).log }
-    ensures here { table_of_change seat.new ≡ table_of_change seat.old }
-    ensures change { change_in seat.new ≡ change_in seat.old }
-    ensures spare { seat.new.spare ≡ seat.old.spare }
-    ensures grew { Grew (config_of (record_of seat.old)) (collected_in seat.old) (collected_in seat.new) logs.old.items
-        logs.new.items (node_in theirs ∷ []) }
+    ensures { TookIn (node_in theirs ∷ []) seat.old seat.new logs.old.items logs.new.items }
 {
     let slot = theirs.slot();
     gates.collect(seat, theirs);
@@ -70,11 +66,7 @@ fn take_past_in(
     requires here { IsChangeSeatOf seat.old gates.now }
     requires at { AllByRecursion (λ t. t ≡ gates.now.words.shared.table_id) (map (λ p. table_of_node p.seat) past.items) }
     requires drained { AreAllNoted (record_of seat.old) }
-    ensures here { table_of_change seat.new ≡ table_of_change seat.old }
-    ensures change { change_in seat.new ≡ change_in seat.old }
-    ensures spare { seat.new.spare ≡ seat.old.spare }
-    ensures grew { Grew (config_of (record_of seat.old)) (collected_in seat.old) (collected_in seat.new) logs.old.items
-        logs.new.items (map (λ p. node_in p.seat) past.items) }
+    ensures { TookIn (map (λ p. node_in p.seat) past.items) seat.old seat.new logs.old.items logs.new.items }
 {
     for node in past {
         take_node_in(gates, seat, node.seat, node.log, logs);
@@ -86,11 +78,7 @@ fn take_line_in(gates: &Gates, seat: &mut ChangeSeat, guest: BoxedGuest, logs: &
     requires here { IsChangeSeatOf seat.old gates.now }
     requires at { IsAt gates.now.words.shared.table_id guest }
     requires drained { AreAllNoted (record_of seat.old) }
-    ensures here { table_of_change seat.new ≡ table_of_change seat.old }
-    ensures change { change_in seat.new ≡ change_in seat.old }
-    ensures spare { seat.new.spare ≡ seat.old.spare }
-    ensures grew { Grew (config_of (record_of seat.old)) (collected_in seat.old) (collected_in seat.new) logs.old.items
-        logs.new.items (views_of guest) }
+    ensures { TookIn (views_of guest) seat.old seat.new logs.old.items logs.new.items }
 {
     let Guest { node } = guest.into_guest();
     let (_, theirs, log, past) = node.into_parts();
@@ -109,11 +97,7 @@ fn take_lines_in<J: Named>(
     requires named { J.gates ≡ gates.now.words.shared.table_id }
     requires at { AllByRecursion (LiesAt J.gates) guests.items }
     requires drained { AreAllNoted (record_of seat.old) }
-    ensures here { table_of_change seat.new ≡ table_of_change seat.old }
-    ensures change { change_in seat.new ≡ change_in seat.old }
-    ensures spare { seat.new.spare ≡ seat.old.spare }
-    ensures grew { Grew (config_of (record_of seat.old)) (collected_in seat.old) (collected_in seat.new) logs.old.items
-        logs.new.items (all_views guests.items) }
+    ensures { TookIn (all_views guests.items) seat.old seat.new logs.old.items logs.new.items }
 {
     for guest in guests {
         take_line_in(gates, seat, guest, logs);

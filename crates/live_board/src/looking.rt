@@ -4,7 +4,8 @@ ghost use Rattle.std.specs.Prelude.{◌≡◌, ◌≤◌, ◌<◌, ◌+◌, ◌-
 ghost use Rattle.change_board.specs.Scans.{is_idle_if_live};
 ghost use Rattle.config_graph.specs.declared.TheConstants.{MAX_PORTS};
 ghost use Rattle.live_board.specs.Looking.{SawPorts};
-ghost use Rattle.txn_gate.specs.Seats.{IsChangeSeatOf, collected_in, record_of, table_of_change};
+ghost use Rattle.live_board.specs.Seeing.{SeatGoesOn};
+ghost use Rattle.txn_gate.specs.Seats.{IsChangeSeatOf, record_of};
 ghost use Rattle.txn_records.specs.Entries.{config_of};
 ghost use Rattle.txn_records.specs.Looks.{ended_in_word, is_idle_word, look_of};
 ghost use Rattle.txn_records.specs.Records.{IsRecord};
@@ -63,10 +64,7 @@ fn look_at(gates: &Gates, seat: &mut ChangeSeat, port: u32, seen: PortsSeen) -> 
     requires made { port < length (config_of (record_of seat.old)).gates }
     requires few { seen.ended ≤ port * 2 ^ 32 }
     requires ports { port ≤ MAX_PORTS }
-    ensures here { table_of_change seat.new ≡ table_of_change seat.old }
-    ensures known { IsRecord (record_of seat.new) }
-    ensures nodes { collected_in seat.new ≡ collected_in seat.old }
-    ensures spare { seat.new.spare ≡ seat.old.spare }
+    ensures seat { SeatGoesOn seat.old seat.new }
     ensures few { result.ended ≤ (port + 1) * 2 ^ 32 }
     ensures seen { (word : ℕ) × (record_of seat.new ≡ record_of seat.old ++ Looked port word ∷ [])
         × (result.idle ≡ (seen.idle && is_idle_if_live (config_of (record_of seat.old)) (record { port = port; word = word })))
@@ -86,10 +84,7 @@ pub fn look_at_ports(gates: &Gates, seat: &mut ChangeSeat, ports: u32) -> PortsS
     requires here { IsChangeSeatOf seat.old gates.now }
     requires known { IsRecord (record_of seat.old) }
     requires made { ports ≡ length (config_of (record_of seat.old)).gates }
-    ensures here { table_of_change seat.new ≡ table_of_change seat.old }
-    ensures known { IsRecord (record_of seat.new) }
-    ensures nodes { collected_in seat.new ≡ collected_in seat.old }
-    ensures spare { seat.new.spare ≡ seat.old.spare }
+    ensures seat { SeatGoesOn seat.old seat.new }
     ensures seen { SawPorts (config_of (record_of seat.old)) (record_of seat.old) (record_of seat.new) ports result.idle
         result.ended }
 {

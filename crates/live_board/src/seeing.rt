@@ -5,10 +5,10 @@ ghost use Rattle.change_board.specs.Sights.{Sight};
 ghost use Rattle.component_trait.specs.Moves as moves;
 ghost use Rattle.config_graph.specs.declared.TheConstants.{MAX_NODES};
 ghost use Rattle.live_board.specs.Lengths.{AreLengths, noted};
-ghost use Rattle.live_board.specs.Seeing.{SawNodes, SeesNode, sights_of};
+ghost use Rattle.live_board.specs.Seeing.{SawNodes, SeatGoesOn, SeesNode, sights_of};
 ghost use Rattle.live_board.specs.Turning.{LookedAt};
 ghost use Rattle.live_hall.specs.Houses.{IsAt, tables_of};
-ghost use Rattle.txn_gate.specs.Seats.{IsChangeSeatOf, collected_in, record_of, table_of_change};
+ghost use Rattle.txn_gate.specs.Seats.{IsChangeSeatOf, record_of};
 ghost use Rattle.txn_records.specs.Entries.{config_of};
 ghost use Rattle.txn_records.specs.Records.{IsRecord};
 
@@ -62,12 +62,9 @@ fn see_guest(
     requires here { IsChangeSeatOf seat.old gates.now }
     requires at { IsAt gates.now.words.shared.table_id guest.old }
     requires known { IsRecord (record_of seat.old) }
-    ensures here { table_of_change seat.new ≡ table_of_change seat.old }
-    ensures known { IsRecord (record_of seat.new) }
+    ensures seat { SeatGoesOn seat.old seat.new }
     ensures tables { tables_of guest.new ≡ tables_of guest.old }
     ensures slot { guest.new.node.slot ≡ guest.old.node.slot }
-    ensures nodes { collected_in seat.new ≡ collected_in seat.old }
-    ensures spare { seat.new.spare ≡ seat.old.spare }
     ensures count { length lengths.new.items ≡ length lengths.old.items }
     ensures seen { SeesNode (config_of (record_of seat.old)) (record_of seat.old) (record_of seat.new) lengths.old.items
         lengths.new.items guest.old.node.slot result }
@@ -96,10 +93,7 @@ fn see_node<J: Named, R: Wait>(
     requires named { J.gates ≡ gates.now.words.shared.table_id }
     requires slot { slot < MAX_NODES }
     requires known { IsRecord (record_of seat.old) }
-    ensures here { table_of_change seat.new ≡ table_of_change seat.old }
-    ensures known { IsRecord (record_of seat.new) }
-    ensures nodes { collected_in seat.new ≡ collected_in seat.old }
-    ensures spare { seat.new.spare ≡ seat.old.spare }
+    ensures seat { SeatGoesOn seat.old seat.new }
     ensures count { length lengths.new.items ≡ length lengths.old.items }
     ensures seen { SeesNode (config_of (record_of seat.old)) (record_of seat.old) (record_of seat.new) lengths.old.items
         lengths.new.items slot result }
@@ -126,10 +120,7 @@ pub fn see_nodes<J: Named, R: Wait>(
     requires few { slots ≤ MAX_NODES }
     requires known { IsRecord (record_of seat.old) }
     requires fresh { AreLengths [] lengths.old.items }
-    ensures here { table_of_change seat.new ≡ table_of_change seat.old }
-    ensures known { IsRecord (record_of seat.new) }
-    ensures nodes { collected_in seat.new ≡ collected_in seat.old }
-    ensures spare { seat.new.spare ≡ seat.old.spare }
+    ensures seat { SeatGoesOn seat.old seat.new }
     ensures count { length lengths.new.items ≡ length lengths.old.items }
     ensures seen { SawNodes ⟦<AnyNode as Component>⟧.state J.gates (config_of (record_of seat.old))
         (record_of seat.old) (record_of seat.new) lengths.new.items door.old door.new slots result }

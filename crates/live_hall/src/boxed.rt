@@ -1,9 +1,7 @@
 //! Guests in memory of their own, so that a cell takes and gives one word.
 
-ghost use Rattle.std.specs.Prelude.{◌≡◌, is_some, map, true};
-ghost use Rattle.std.specs.List.{AllByRecursion};
-ghost use Rattle.txn_gate.specs.Seats.{IsChangeSeatOf, IsSeatOf, change_in, collected_in, node_in, record_of, table_of_change};
-ghost use Rattle.txn_records.specs.Entries.{config_of};
+ghost use Rattle.std.specs.Prelude.{◌≡◌, is_some, true};
+ghost use Rattle.txn_gate.specs.Seats.{IsChangeSeatOf, IsSeatOf, record_of};
 ghost use Rattle.txn_records.specs.Records.{IsRecord};
 ghost use Rattle.live_hall.specs.Turned.{HintsTold, Turned};
 
@@ -59,7 +57,7 @@ impl Model for BoxedGuest {
 
 impl BoxedGuest {
     ghost use Rattle.live_hall.specs.Houses.{IsAt, tables_of};
-    ghost use Rattle.live_hall.specs.Sighting.{IsMadeIn, notes_all, past_of, views_of};
+    ghost use Rattle.live_hall.specs.Sighting.{LineStays, SeatSighted, views_of};
 
     /// The guest, as it lies there.
     pub fn guest(&self) -> &Guest
@@ -103,19 +101,9 @@ impl BoxedGuest {
     pub fn sight(&mut self, gates: &Gates, seat: &mut ChangeSeat)
         requires here { IsChangeSeatOf seat.old gates.now }
         requires at { IsAt gates.now.words.shared.table_id self.old }
-        ensures here { table_of_change seat.new ≡ table_of_change seat.old }
-        ensures change { change_in seat.new ≡ notes_all (change_in seat.old) (views_of self.old) }
-        ensures nodes { collected_in seat.new ≡ collected_in seat.old }
-        ensures spare { seat.new.spare ≡ seat.old.spare }
-        ensures made { AllByRecursion (IsMadeIn (config_of (record_of seat.old))) (views_of self.old) }
+        ensures sighted { SeatSighted (views_of self.old) seat.old seat.new }
         ensures run { IsRecord (record_of seat.new) }
-        ensures slot { self.new.node.slot ≡ self.old.node.slot }
-        ensures tables { tables_of self.new ≡ tables_of self.old }
-        ensures past { past_of self.new ≡ past_of self.old }
-        ensures own { (node_in self.new.node.seat ≡ node_in self.old.node.seat)
-            × (self.new.node.inner ≡ self.old.node.inner) × (self.new.node.log ≡ self.old.node.log)
-            × (self.new.node.known ≡ self.old.node.known) × (self.new.node.waiting ≡ self.old.node.waiting)
-            × (self.new.node.first_port ≡ self.old.node.first_port) }
+        ensures same { LineStays self.old self.new }
     {
         match &mut *self.place {
             Some(guest) => guest.sight(gates, seat),

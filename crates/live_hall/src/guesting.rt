@@ -2,12 +2,11 @@
 
 ghost use Rattle.std.specs.Prelude.{◌≡◌, map};
 ghost use Rattle.std.specs.List.{AllByRecursion};
-ghost use Rattle.txn_records.specs.Entries.{config_of};
 ghost use Rattle.txn_records.specs.Records.{IsRecord};
 ghost use Rattle.live_hall.specs.Turned.{HintsTold, Turned};
 ghost use Rattle.live_hall.specs.Houses.{IsAt, tables_of};
-ghost use Rattle.live_hall.specs.Sighting.{IsMadeIn, notes_all, past_of, past_seen, views_of};
-ghost use Rattle.txn_gate.specs.Seats.{IsChangeSeatOf, IsSeatOf, change_in, collected_in, node_in, record_of, table_of_change, table_of_node};
+ghost use Rattle.live_hall.specs.Sighting.{LineStays, SeatSighted, past_seen, views_of};
+ghost use Rattle.txn_gate.specs.Seats.{IsChangeSeatOf, IsSeatOf, node_in, record_of, table_of_node};
 
 use crate::guest::Guest;
 use crate::turn_at_gates;
@@ -36,19 +35,9 @@ impl Guest {
     pub(crate) fn sight(&mut self, gates: &Gates, seat: &mut ChangeSeat)
         requires here { IsChangeSeatOf seat.old gates.now }
         requires at { IsAt gates.now.words.shared.table_id self.old }
-        ensures here { table_of_change seat.new ≡ table_of_change seat.old }
-        ensures change { change_in seat.new ≡ notes_all (change_in seat.old) (views_of self.old) }
-        ensures nodes { collected_in seat.new ≡ collected_in seat.old }
-        ensures spare { seat.new.spare ≡ seat.old.spare }
-        ensures made { AllByRecursion (IsMadeIn (config_of (record_of seat.old))) (views_of self.old) }
+        ensures sighted { SeatSighted (views_of self.old) seat.old seat.new }
         ensures run { IsRecord (record_of seat.new) }
-        ensures slot { self.new.node.slot ≡ self.old.node.slot }
-        ensures tables { tables_of self.new ≡ tables_of self.old }
-        ensures past { past_of self.new ≡ past_of self.old }
-        ensures own { (node_in self.new.node.seat ≡ node_in self.old.node.seat)
-            × (self.new.node.inner ≡ self.old.node.inner) × (self.new.node.log ≡ self.old.node.log)
-            × (self.new.node.known ≡ self.old.node.known) × (self.new.node.waiting ≡ self.old.node.waiting)
-            × (self.new.node.first_port ≡ self.old.node.first_port) }
+        ensures same { LineStays self.old self.new }
     {
         sight_past(gates, seat, &mut self.node.past);
         gates.sight_in(seat, &mut self.node.seat);
@@ -59,11 +48,7 @@ impl Guest {
 fn sight_past(gates: &Gates, seat: &mut ChangeSeat, past: &mut Vec<Past<NodeSeat>>)
     requires here { IsChangeSeatOf seat.old gates.now }
     requires at { AllByRecursion (λ t. t ≡ gates.now.words.shared.table_id) (map (λ p. table_of_node p.seat) past.old.items) }
-    ensures here { table_of_change seat.new ≡ table_of_change seat.old }
-    ensures change { change_in seat.new ≡ notes_all (change_in seat.old) (map (λ p. node_in p.seat) past.old.items) }
-    ensures nodes { collected_in seat.new ≡ collected_in seat.old }
-    ensures spare { seat.new.spare ≡ seat.old.spare }
-    ensures made { AllByRecursion (IsMadeIn (config_of (record_of seat.old))) (map (λ p. node_in p.seat) past.old.items) }
+    ensures sighted { SeatSighted (map (λ p. node_in p.seat) past.old.items) seat.old seat.new }
     ensures past { map (λ p. past_seen p.slot p.first_port p.arg p.log.items p.seat) past.new.items
         ≡ map (λ p. past_seen p.slot p.first_port p.arg p.log.items p.seat) past.old.items }
 {

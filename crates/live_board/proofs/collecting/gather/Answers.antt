@@ -18,8 +18,8 @@ returns-clause-gathers g c =
     let nodes = collected_in c.take_lines_in.new.seat in
     let logs = c.take_lines_in.new.logs.items in
     let grew = c.take_lines_in.ensures.grew in
-    let own : HaveOwnSlots nodes = subst HaveOwnSlots c.learn.ensures.nodes c.learn.ensures.apart in
-    subst (λ ns. Gathers (config_of r) ns (record { logs = c.of.result; undone = c.first_undone-undone.result })) (sym c.learn.ensures.nodes)
+    let own : HaveOwnSlots nodes = subst HaveOwnSlots c.learn.ensures.same.nodes c.learn.ensures.apart in
+    subst (λ ns. Gathers (config_of r) ns (record { logs = c.of.result; undone = c.first_undone-undone.result })) (sym c.learn.ensures.same.nodes)
     (subst (λ ls. Gathers (config_of r) nodes (record { logs = ls; undone = c.first_undone-undone.result })) (sym c.of.ensures)
     (gathers ghosts.state r c.args.heirs.now.items c.args.guests.items c.args.ends.logs.items logs c.args.ends.dones.items nodes c.first_undone-undone.result c.requires.known c.requires.heirs c.requires.told grew.slots grew.lasts
     (λ n x at slot.
@@ -28,4 +28,4 @@ returns-clause-gathers g c =
     (λ line seats is made. c.seats_tell_of_their_line.ensures.made (config_of r) (ghosts.state x.node.inner).kind line seats is made)
     (each_of (IsTakenIn (config_of r) nodes logs) views_of c.args.guests.items at.0 x at.1 grew.all))
     (λ k past last made seen. c.lines_have_folds.ensures.folds r _ k past last c.requires.known made seen)
-    (c.first_undone-undone.ensures ∙ ap (λ (k : ChangeView). find (λ n. not (slice_index_or c.args.ends.dones.items n true)) (live_nodes (config_of k.entries))) (c.learn.ensures.change ∙ c.take_lines_in.ensures.change))))
+    (c.first_undone-undone.ensures ∙ ap (λ (k : ChangeView). find (λ n. not (slice_index_or c.args.ends.dones.items n true)) (live_nodes (config_of k.entries))) (c.learn.ensures.same.change ∙ c.take_lines_in.ensures.change))))

@@ -22,10 +22,10 @@ loop-port-preserved c =
     let word = e.seen.0 in
     let config = config_looked (record_of c.args.seat.now) (record_of c.loop-port.seat) i.seen.found i.seen.adds in
     record {
-      here = e.here ∙ i.here;
-      known = e.known;
-      nodes = e.nodes ∙ i.nodes;
-      spare = e.spare ∙ i.spare;
+      here = e.seat.here ∙ i.here;
+      known = e.seat.known;
+      nodes = e.seat.nodes ∙ i.nodes;
+      spare = e.seat.spare ∙ i.spare;
       few = e.few;
       seen = saw_port (config_of (record_of c.args.seat.now)) (record_of c.args.seat.now) (record_of c.loop-port.seat) (record_of c.look_at-seen.new.seat) k c.loop-port.seen.idle c.look_at-seen.result.idle
           c.loop-port.seen.ended c.look_at-seen.result.ended word i.seen e.seen.1

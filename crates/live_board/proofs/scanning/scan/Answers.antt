@@ -22,7 +22,7 @@ see_nodes-seen-requires-clause-few g c = subst (λ n. n ≤ MAX_NODES) (sym c.ma
 pub look_at_ports-ports-requires-clause-made : goal.look_at_ports-ports-requires-clause-made
 look_at_ports-ports-requires-clause-made g c =
     let same = config_seen ghosts.state g.J.Named.gates (record_of c.learn.new.seat) (record_of c.mark.new.seat) (record_of c.see_nodes-seen.new.seat) c.args.begins c.in_ok-moved.moved c.see_nodes-seen.new.lengths.items c.give_turns.new.door c.see_nodes-seen.new.door c.made-made.result.nodes c.see_nodes-seen.result
-    (ap (λ (k : ChangeView). k.entries) c.mark.ensures.change) c.see_nodes-seen.ensures.seen in
+    (ap (λ (k : ChangeView). k.entries) c.mark.ensures.did.change) c.see_nodes-seen.ensures.seen in
     c.made-made.ensures.ports ∙ ap (λ (d : Configuration). length d.gates) (sym same)
 
 pub returns-clause-ok : goal.returns-clause-ok
@@ -31,9 +31,9 @@ returns-clause-ok g c =
     let seen = c.see_nodes-seen.result in
     let ports = c.look_at_ports-ports.result in
     let lengths = c.see_nodes-seen.new.lengths.items in
-    let learnt : record_of c.learn.new.seat ≡ r = ap (λ (k : ChangeView). k.entries) c.learn.ensures.change in
+    let learnt : record_of c.learn.new.seat ≡ r = ap (λ (k : ChangeView). k.entries) c.learn.ensures.same.change in
     let marked : record_of c.mark.new.seat ≡ r ++ Scanned c.args.begins c.in_ok-moved.moved ∷ [] =
-    ap (λ (k : ChangeView). k.entries) c.mark.ensures.change ∙ ap (λ (q : List Entry). q ++ Scanned c.args.begins c.in_ok-moved.moved ∷ []) learnt in
+    ap (λ (k : ChangeView). k.entries) c.mark.ensures.did.change ∙ ap (λ (q : List Entry). q ++ Scanned c.args.begins c.in_ok-moved.moved ∷ []) learnt in
     let keeps : option_map (λ (v : Vec (Option ℕ) Global). v.items) c.if-ports.lengths ≡ cond ports.idle (Some lengths) None =
     elim c.if-ports.branch [
       | then-ports w ↦ ap (option_map (λ (v : Vec (Option ℕ) Global). v.items)) w.lengths-is ∙ sym (ap (λ (b : Bool). cond b (Some lengths) None) w.if-ports.true)
@@ -44,4 +44,4 @@ returns-clause-ok g c =
     (subst (λ (q : List Entry). GaveTurns g.J.Named.gates (config_of q) c.args.begins c.args.door.now c.made-made.result.nodes c.give_turns.new.door c.in_ok-moved.moved) learnt c.in_ok-moved.ensures) c.see_nodes-seen.ensures.seen
     c.made-made.result.ports ports.idle ports.ended c.look_at_ports-ports.ensures.seen
     (c.made-made.ensures.nodes ∙ ap (λ (q : List Entry). length (config_of q).slots) learnt) (c.made-made.ensures.ports ∙ ap (λ (q : List Entry). length (config_of q).gates) learnt)
-    c.look_at_ports-ports.ensures.known _ _ c.is_as_before-same.result refl refl c.is_as_before-same.ensures keeps
+    c.look_at_ports-ports.ensures.seat.known _ _ c.is_as_before-same.result refl refl c.is_as_before-same.ensures keeps

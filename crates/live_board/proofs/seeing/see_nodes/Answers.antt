@@ -33,10 +33,10 @@ loop-slot-preserved g c =
           let e = w.see_node-seen.ensures in
           let live = ap (λ (d : Configuration). is_live d n) (sym config) ∙ sym c.is_live.ensures ∙ w.if-is_live.true in
           record {
-            here = ap table_of_change w.seat-is ∙ e.here ∙ i.here;
-            known = subst (λ (s : ChangeSeat). IsRecord (record_of s)) (sym w.seat-is) e.known;
-            nodes = ap collected_in w.seat-is ∙ e.nodes ∙ i.nodes;
-            spare = ap (λ (s : ChangeSeat). s.spare) w.seat-is ∙ e.spare ∙ i.spare;
+            here = ap table_of_change w.seat-is ∙ e.seat.here ∙ i.here;
+            known = subst (λ (s : ChangeSeat). IsRecord (record_of s)) (sym w.seat-is) e.seat.known;
+            nodes = ap collected_in w.seat-is ∙ e.seat.nodes ∙ i.nodes;
+            spare = ap (λ (s : ChangeSeat). s.spare) w.seat-is ∙ e.seat.spare ∙ i.spare;
             count = ap (λ v. length v.items) w.lengths-is ∙ e.count ∙ i.count;
             seen = saw_as ghosts.state gates (config_of r) r (record_of w.see_node-seen.new.seat) (record_of c.if-is_live.seat) w.see_node-seen.new.lengths.items c.if-is_live.lengths.items c.args.door.now w.see_node-seen.new.door c.if-is_live.door (n + 1) (c.loop-slot.done && w.see_node-seen.result) c.if-is_live.done
                 (ap record_of w.seat-is) (ap (λ v. v.items) w.lengths-is) w.door-is w.done-is

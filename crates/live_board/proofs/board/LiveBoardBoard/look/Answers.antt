@@ -6,9 +6,9 @@ use Rattle.live_board.proofs.board.LiveBoardBoard.look.Goals as goal
 
 pub returns-clause-board : goal.returns-clause-board
 returns-clause-board g c =
-    let word = c.look.ensures.change.0 in
+    let word = c.look.ensures.did.0 in
     record {
       word = word;
-      found = c.look.ensures.change.2;
-      adds = adds_seen _ c.args.self.now c.self.view_is _ refl refl refl (Looked c.args.port word ∷ []) refl c.look.ensures.run (ap (λ (k : ChangeView). k.entries) c.look.ensures.change.1) (λ r h. tt);
+      found = c.look.ensures.did.2;
+      adds = adds_seen _ c.args.self.now c.self.view_is _ refl refl refl (Looked c.args.port word ∷ []) refl c.look.ensures.run (ap (λ (k : ChangeView). k.entries) c.look.ensures.did.1.change) (λ r h. tt);
     }

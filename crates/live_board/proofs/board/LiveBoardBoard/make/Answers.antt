@@ -14,10 +14,10 @@ make_guest-guest-requires-clause-room g c =
 pub invariant_of-self : goal.invariant_of-self
 invariant_of-self g c =
     let made = c.make_guest-guest.ensures.made in (
-      c.learn.ensures.here ∙ made.here ∙ c.self.invariant.0,
+      c.learn.ensures.same.here ∙ made.here ∙ c.self.invariant.0,
       c.self.invariant.1,
       c.make_guest-guest.ensures.kept,
-      subst (λ n. HaveRoom c.make_guest-guest.new.blanks.items n c.self.inside.lines) (sym c.learn.ensures.spare) (c.make_guest-guest.ensures.room c.self.inside.lines c.self.invariant.3),
+      subst (λ n. HaveRoom c.make_guest-guest.new.blanks.items n c.self.inside.lines) (sym c.learn.ensures.same.spare) (c.make_guest-guest.ensures.room c.self.inside.lines c.self.invariant.3),
     )
 
 pub returns-clause-board : goal.returns-clause-board
@@ -26,5 +26,5 @@ returns-clause-board g c =
     adds_made _ c.args.self.now c.self.view_is _ refl refl refl c.args.node c.args.from made.entries.sights
     (sources_now _ c.args.self.now c.self.view_is c.args.self.now c.args.from c.requires.room)
     (c.note_heir.ensures ∙ ap (with_heir c.self.inside.heirs.items c.args.from) c.made-made.ensures.nodes)
-    (ap (λ (k : ChangeView). k.entries) c.learn.ensures.change ∙ made.entries.adds)
+    (ap (λ (k : ChangeView). k.entries) c.learn.ensures.same.change ∙ made.entries.adds)
     c.learn.ensures.run

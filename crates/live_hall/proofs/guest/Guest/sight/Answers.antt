@@ -1,4 +1,4 @@
-use Rattle.std.proofs.Common.{◌≡◌, ◌∙◌, ◌∷◌, map, Some, refl, ap, sym}
+use Rattle.std.proofs.Common.{rules, ◌≡◌, ◌∙◌, ◌∷◌, map, Some, refl, ap, sym}
 use Rattle.txn_spec.specs.Views.{node_at}
 use Rattle.txn_spec.specs.declared.view.ChangeView.{ChangeView}
 use Rattle.live_hall.specs.Lines.{seen_word}
@@ -23,22 +23,33 @@ invariant_of-self-2 c =
     let past = c.sight_past.ensures.past in
     let e = c.sight_in.ensures in (
       (
-        hosted_with _ _ _ _ _ _ _ _ _ _ x.hosted (read_off (λ p. past_seen p.slot p.first_port p.arg p.log.items p.seat) (λ (p : PastSeen). record { first = p.first; arg = p.arg; log = p.log }) c.sight_past.new.past.items x.past.items past) (λ i. record { slot = e.kept.0 i; known = e.kept.2 i; told = Some (e.node i).log }),
+        hosted_with _ _ _ _ _ _ _ _ _ _ x.hosted (read_off (λ p. past_seen p.slot p.first_port p.arg p.log.items p.seat) (λ (p : PastSeen). record { first = p.first; arg = p.arg; log = p.log }) c.sight_past.new.past.items x.past.items past) (λ i. record { slot = e.node.slot i; known = e.node.known i; told = Some (e.node.node i).log }),
         ((λ k p at. sym p.seat.slot_is ∙ each_place (λ p. past_seen p.slot p.first_port p.arg p.log.items p.seat) (λ (z : PastSeen). z.view.slot ≡ z.slot) c.sight_past.new.past.items x.past.items past (λ j z there. z.seat.slot_is ∙ x.past_slots j z there) k p at), tt),
       ),
       (
-        line_with _ _ _ _ _ _ _ _ g.line (read_off (λ p. past_seen p.slot p.first_port p.arg p.log.items p.seat) (λ (p : PastSeen). seen_word p.view) c.sight_past.new.past.items x.past.items past) (read_off (λ p. past_seen p.slot p.first_port p.arg p.log.items p.seat) (λ (p : PastSeen). record { slot = p.slot; first = p.first; arg = p.arg }) c.sight_past.new.past.items x.past.items past) e.node,
-        (ap node_at e.node ∙ g.at, tt),
+        line_with _ _ _ _ _ _ _ _ g.line (read_off (λ p. past_seen p.slot p.first_port p.arg p.log.items p.seat) (λ (p : PastSeen). seen_word p.view) c.sight_past.new.past.items x.past.items past) (read_off (λ p. past_seen p.slot p.first_port p.arg p.log.items p.seat) (λ (p : PastSeen). record { slot = p.slot; first = p.first; arg = p.arg }) c.sight_past.new.past.items x.past.items past) e.node.node,
+        (ap node_at e.node.node ∙ g.at, tt),
       ),
     )
 
-pub returns-clause-made : goal.returns-clause-made
-returns-clause-made c =
+pub returns-clause-sighted : goal.returns-clause-sighted
+returns-clause-sighted c =
     let e = c.sight_in.ensures in
-    made_more (record_of c.args.seat.now) (record_of c.sight_past.new.seat) (map (λ p. node_in p.seat) c.args.self.now.node.past.items) (node_in c.args.self.now.node.seat)
-    (ap (λ (k : ChangeView). k.entries) c.sight_past.ensures.change) c.sight_past.ensures.made (record { made = e.made; unserving = e.removed })
+    record {
+      here = search rules;
+      change = search rules;
+      nodes = search rules;
+      spare = search rules;
+      made = made_more (record_of c.args.seat.now) (record_of c.sight_past.new.seat) (map (λ p. node_in p.seat) c.args.self.now.node.past.items) (node_in c.args.self.now.node.seat)
+          (ap (λ (k : ChangeView). k.entries) c.sight_past.ensures.sighted.change) c.sight_past.ensures.sighted.made (record { made = e.learned.made; unserving = e.learned.unserving });
+    }
 
-pub returns-clause-tables : goal.returns-clause-tables
-returns-clause-tables c =
+pub returns-clause-same : goal.returns-clause-same
+returns-clause-same c =
     let past = read_off (λ p. past_seen p.slot p.first_port p.arg p.log.items p.seat) (λ (p : PastSeen). p.table) c.sight_past.new.past.items c.args.self.now.node.past.items c.sight_past.ensures.past in
-    λ i. c.sight_in.ensures.here.1 i ∷ past i
+    record {
+      slot = search rules;
+      tables = λ i. c.sight_in.ensures.node.here i ∷ past i;
+      past = search rules;
+      own = search rules;
+    }
