@@ -1,8 +1,7 @@
 -- Where a session begins, and the lines with which it does.
-use Rattle.std.proofs.Common.{◌≡◌, ◌∙◌, false, [], refl, sym, ap, subst, List}
+use Rattle.std.proofs.Common.{◌≡◌, ◌∙◌, false, [], refl, sym, ap, subst}
 use Rattle.std.proofs.lemmas.Bool.{both_ways}
 use Rattle.change_lists.specs.Layouts.{IsLayoutOf}
-use Rattle.change_lists.specs.declared.layout.Layout.{Layout}
 use Rattle.change_lists.specs.Lists.{closed_by}
 use Rattle.change_plan.specs.Refusals.{CanPlan}
 use Rattle.change_plan_laws.specs.Commit.{ports_to_close}
@@ -12,12 +11,11 @@ use Rattle.quiesce_core.specs.Runs.{IsRun, state_after}
 use Rattle.quiesce_core.specs.Start.{started}
 use Rattle.quiesce_core.specs.State.{State}
 use Rattle.quiesce_laws.specs.Starts.{start_of}
-use Rattle.change_apply.specs.Sessions.{CanChange, asked, change_in, is_ready}
+use Rattle.change_apply.specs.Sessions.{CanChange, change_in, is_ready}
 use Rattle.change_apply.specs.Standing.{IsGroundOf, Stands}
 use Rattle.change_apply.specs.declared.request.Request.{Request}
 use Rattle.change_apply.specs.declared.said.Phase.TheVariants as phase
 use Rattle.change_apply.specs.declared.session.Ground.{Ground}
-use Rattle.change_apply.specs.declared.session.Session.{Session}
 
 module _ (r : Request) (x : Ground) (is : state_after (start_of r.from.graph) ≡ started r.from.graph) (can : CanChange (change_in r)) (ground : IsGroundOf r x)
     (at_first : IsGraphOf (started r.from.graph).config r.from.graph) (laid : IsLayoutOf x.layout (started r.from.graph).config r.from.graph) where

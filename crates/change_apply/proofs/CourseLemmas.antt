@@ -1,20 +1,20 @@
 -- A session keeps its course at each turn.
-use Rattle.std.proofs.Common.{◌≡◌, ◌∙◌, ℕ, zero, suc, ◌+◌, ◌-◌, ◌<◌, ◌≤◌, Bool, true, false, cond, ◌&&◌, ◌||◌, List, [], ◌∷◌, ◌++◌, append_assoc, length, map, Option, Some, None, filter, fold, get_or-set_other, refl, sym, ap, subst, arith, inl, inr, ⊎_elim}
-use Rattle.std.specs.Prelude.{◌⊎◌, ⊤, slice_index_or, All, Contains, ◌==◌, nat_le, nat_lt}
+use Rattle.std.proofs.Common.{◌≡◌, ◌∙◌, ℕ, zero, suc, ◌-◌, ◌<◌, Bool, true, false, cond, List, [], ◌∷◌, ◌++◌, append_assoc, length, map, Option, Some, None, filter, fold, get_or-set_other, refl, sym, ap, subst, arith, inl, inr, ⊎_elim}
+use Rattle.std.specs.Prelude.{◌⊎◌, ⊤, slice_index_or, All, Contains, ◌==◌, nat_le}
 use Rattle.std.specs.List.{list_all, list_any, range_with_len}
-use Rattle.std.proofs.lemmas.Bool.{and_from, and_parts, both_ways, cases_Bool, cases_eq, eqb-true, leb-false, ltb-true}
+use Rattle.std.proofs.lemmas.Bool.{and_from, and_parts, both_ways, cases_eq, eqb-true, leb-false}
 use Rattle.std.proofs.lemmas.List.{append-nil}
 use Rattle.std.proofs.lemmas.List.Elements.{All-contains, filter_agree}
 use Rattle.std.proofs.lemmas.List.Sums.{AllPass-from_list_all}
 use Rattle.change_plan.specs.Refusals.{CanPlan}
-use Rattle.change_plan_laws.specs.Commit.{commit_events, is_one_of, ports_to_close, reopened_ports}
+use Rattle.change_plan_laws.specs.Commit.{commit_events, is_one_of, ports_to_close}
 use Rattle.change_plan_laws.specs.Committing.{MayCommit, made_in}
 use Rattle.change_spec.proofs.PortLaws.{closed_live, same_here}
 use Rattle.config_graph.specs.Graph.{Graph, ports}
 use Rattle.config_graph.specs.declared.node.Port.{Port}
 use Rattle.change_plan.specs.declared.plan_data.Plan.{Plan}
 use Rattle.quiesce_core.specs.declared.event.Event.{Event}
-use Rattle.quiesce_core.specs.declared.event.Event.TheVariants.{Begin, Take, Give, End, Close, Reopen}
+use Rattle.quiesce_core.specs.declared.event.Event.TheVariants.{Close, Reopen}
 use Rattle.quiesce_core.specs.declared.state.Gate.{Gate}
 use Rattle.quiesce_core.specs.declared.state.Slot.{Slot}
 use Rattle.quiesce_core.specs.Doers.{is_of_change}
@@ -23,18 +23,16 @@ use Rattle.quiesce_core.specs.Live.{IsGraphOf}
 use Rattle.quiesce_core.specs.Rules.{denial, is_live_port, is_open}
 use Rattle.quiesce_core.specs.Runs.{IsRun, state_after}
 use Rattle.quiesce_core.specs.Start.{gate_of, started}
-use Rattle.quiesce_core.specs.State.{Configuration, State, empty, fresh_gate, gate, owner}
-use Rattle.quiesce_core.proofs.RunLaws.{effect_config, fronts_are_runs, state_more}
+use Rattle.quiesce_core.specs.State.{Configuration, State, fresh_gate, gate, owner}
+use Rattle.quiesce_core.proofs.RunLaws.{effect_config, state_more}
 use Rattle.quiesce_laws.specs.Drained.{is_drained}
 use Rattle.quiesce_laws.specs.Lists.{In}
 use Rattle.quiesce_laws.specs.Starts.{start_of}
 use Rattle.quiesce_laws.proofs.GateLaws.{all_open}
-use Rattle.quiesce_laws.proofs.MeanwhileLaws.{after_more}
 use Rattle.quiesce_laws.proofs.MemberLaws.{contains_in, in_contains}
-use Rattle.quiesce_laws.proofs.TurningLaws.{IsLivePort, SameLinks, live_port, live_still, same_back, same_graph, same_then}
+use Rattle.quiesce_laws.proofs.TurningLaws.{IsLivePort, SameLinks, live_port, same_graph, same_then}
 use Rattle.change_apply.specs.Courses.{Course, EndsIn, IsLeft, IsMade, IsReady, IsWaiting, all_drained, is_told, scene_after}
-use Rattle.change_apply.specs.Sessions.{CanChange, Change, Scene, Turned, asked, commits, denied, events_told, first_scene, gets_ready, gives_up, goes_on, goes_on_in, happened, happened_by, hears, is_over, is_ready, leaves, may_say, settles, state_of, tells, tells_by, turn, waits}
-use Rattle.change_apply.specs.declared.said.Answer.{Answer}
+use Rattle.change_apply.specs.Sessions.{CanChange, Change, Scene, asked, commits, denied, events_told, first_scene, gets_ready, gives_up, goes_on, goes_on_in, happened, happened_by, hears, is_over, is_ready, leaves, may_say, settles, state_of, tells, tells_by, turn, waits}
 use Rattle.change_apply.specs.declared.said.Answer.TheVariants as answer
 use Rattle.change_apply.specs.declared.said.Phase.{Phase}
 use Rattle.change_apply.specs.declared.said.Phase.TheVariants as phase

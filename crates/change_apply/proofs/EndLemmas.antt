@@ -1,12 +1,11 @@
 -- A session is over exactly behind an answer that ends it.
-use Rattle.std.proofs.Common.{◌≡◌, ◌∙◌, ℕ, ◌-◌, ◌++◌, Bool, true, false, cond, List, [], Option, Some, None, refl, sym, ap, subst}
+use Rattle.std.proofs.Common.{◌≡◌, ℕ, ◌-◌, ◌++◌, Bool, true, false, cond, List, [], Option, Some, None, refl, sym, ap, subst}
 use Rattle.std.specs.List.{list_all}
 use Rattle.std.specs.Prelude.{nat_le}
 use Rattle.std.proofs.lemmas.Bool.{both_ways}
 use Rattle.quiesce_core.specs.declared.event.Event.{Event}
 use Rattle.quiesce_laws.specs.Drained.{is_drained}
-use Rattle.report_types.specs.declared.report.HistoryLine.{HistoryLine}
-use Rattle.change_apply.specs.Sessions.{Change, Scene, Turned, asked, commits, denied, events_told, gets_ready, gives_up, goes_on, goes_on_in, happened, hears, is_over, leaves, may_say, settles, state_of, tells, tells_by, turn, waits}
+use Rattle.change_apply.specs.Sessions.{Change, Scene, Turned, asked, denied, events_told, gets_ready, gives_up, goes_on, goes_on_in, happened, hears, is_over, leaves, may_say, settles, state_of, tells, tells_by, turn, waits}
 use Rattle.change_apply.specs.Standing.{Holds, Stands}
 use Rattle.change_apply.specs.Talking.{is_end}
 use Rattle.change_apply.specs.declared.said.Answer.{Answer}

@@ -5,3 +5,5 @@ mod ReadLemmas
 mod EndLemmas
 mod TalkLemmas
 mod CourseLemmas
+mod LawLemmas
+mod CrowdLemmas

@@ -1,6 +1,6 @@
 -- What a desk stands for, behind events of nodes and of a change.
 use Rattle.std.proofs.Common.{◌≡◌, ◌∙◌, ℕ, ◌<◌, true, false, List, [], ◌∷◌, ◌++◌, append_assoc, get_or, length, map, Option, Some, None, refl, sym, ap, subst}
-use Rattle.std.specs.Prelude.{All, Bool, Contains, ◌&&◌, ◌||◌, filter, fold, nat_lt}
+use Rattle.std.specs.Prelude.{All, Contains, ◌&&◌, ◌||◌, filter, fold, nat_lt}
 use Rattle.std.specs.List.{list_all, list_any}
 use Rattle.std.proofs.lemmas.Bool.{and_from, and_parts, both_ways}
 use Rattle.std.proofs.lemmas.List.{append-nil, get_or-map, length-map, same_lists}
@@ -8,13 +8,12 @@ use Rattle.std.proofs.lemmas.List.Elements.{All-contains, All-head, All-tail}
 use Rattle.std.proofs.lemmas.List.Sums.{AllPass-from_list_all}
 use Rattle.change_lists.specs.Layouts.{IsLayoutOf, place_in, port_of}
 use Rattle.change_lists.specs.declared.layout.Layout.{Layout}
-use Rattle.change_lists.specs.Lists.{closed_by}
 use Rattle.change_plan.specs.Refusals.{CanPlan}
 use Rattle.change_plan_laws.specs.Commit.{commit_events, commit_steps, is_frozen_or_new, is_one_of, ports_to_close, reopened_ports}
 use Rattle.change_plan.specs.declared.plan_data.Plan.{Plan}
 use Rattle.change_plan_laws.specs.Committing.{MayCommit, made_in}
 use Rattle.change_spec.proofs.PortLaws.{same_here, closed_live}
-use Rattle.config_graph.specs.Graph.{Graph, IsGraph}
+use Rattle.config_graph.specs.Graph.{Graph}
 use Rattle.config_graph.specs.declared.node.Port.{Port}
 use Rattle.quiesce_laws.specs.Steps.{MayStepAll, change_all}
 use Rattle.quiesce_laws.proofs.MeanwhileLaws.{after_more, front_is_of_change, now_is}
@@ -25,7 +24,6 @@ use Rattle.quiesce_core.specs.declared.state.Slot.{Slot}
 use Rattle.quiesce_core.specs.CoreState.{CoreState}
 use Rattle.quiesce_core.specs.Doers.{is_of_change}
 use Rattle.quiesce_core.specs.Effect.{change_next, effect, with_closed}
-use Rattle.quiesce_core.specs.Live.{IsGraphOf}
 use Rattle.quiesce_core.specs.Rules.{denial, is_live_port}
 use Rattle.quiesce_core.specs.Runs.{IsRun, Steps, state_after}
 use Rattle.quiesce_core.specs.State.{Configuration, State, empty, fresh_gate, gate, is_live, owner}

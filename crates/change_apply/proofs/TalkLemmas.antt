@@ -1,5 +1,5 @@
 -- What was heard by one line more, and how a session ends.
-use Rattle.std.proofs.Common.{◌≡◌, ◌∙◌, ℕ, ◌+◌, ◌<◌, Bool, true, false, cond, List, [], ◌∷◌, ◌++◌, append_assoc, length, map, take, Option, Some, None, fold, refl, sym, ap, subst, arith, inr, ⊎_elim}
+use Rattle.std.proofs.Common.{◌≡◌, ◌∙◌, ℕ, ◌+◌, ◌<◌, true, false, cond, List, [], ◌∷◌, ◌++◌, append_assoc, length, map, take, Option, Some, None, refl, sym, ap, subst, arith, inr, ⊎_elim}
 use Rattle.std.specs.Prelude.{◌⊎◌, Result, Ok, Err, IfErr, IfOk, MatchOption}
 use Rattle.std.proofs.Math.Seq.{take-append-add}
 use Rattle.std.proofs.lemmas.Bool.{both_ways}
@@ -10,22 +10,19 @@ use Rattle.quiesce_core.specs.declared.event.Event.{Event}
 use Rattle.quiesce_laws.specs.Starts.{start_of}
 use Rattle.change_apply.specs.Applied.{Place, ending_of, first_place, heard, next_place, place_of}
 use Rattle.change_apply.specs.Lines.{lines_of, said_by}
-use Rattle.change_apply.specs.Reading.{HasNoLine, IsFirstLine, LineCame}
+use Rattle.change_apply.specs.Reading.{HasNoLine, IsFirstLine}
 use Rattle.change_apply.specs.Replies.{opening_text, reply_text}
 use Rattle.change_apply.specs.Sessions.{Change, Scene, Turned, change_in, first_scene, goes_on, is_over, turn}
-use Rattle.change_apply.specs.Standing.{Holds, Stands, change_of, scene_of}
+use Rattle.change_apply.specs.Standing.{Stands, change_of, scene_of}
 use Rattle.change_apply.specs.Talking.{AreHeard, Going, HasAnswered, HasBegun, HasHeard, HasSaid, SaidCame, Stops, ended_by, is_end}
 use Rattle.change_apply.proofs.EndLemmas.{broken_ends, goes_fits, holds_stands, over_ends, turn_fits}
 use Rattle.change_apply.specs.Talks.{AreAll, AreFirst, Bytes, Ends, HasEnded, HasFailed, HasStopped, Reached, by_end, by_fault, by_lines}
 use Rattle.change_apply.specs.declared.applying.Stop.{Stop}
 use Rattle.change_apply.specs.declared.applying.Stop.TheVariants as stop
-use Rattle.change_apply.specs.declared.reading.Came.TheVariants as came
 use Rattle.change_apply.specs.declared.request.Request.{Request}
 use Rattle.change_apply.specs.declared.said.Answer.{Answer}
 use Rattle.change_apply.specs.declared.said.Answer.TheVariants as answer
 use Rattle.change_apply.specs.declared.said.Ending.{Ending}
-use Rattle.change_apply.specs.declared.said.Ending.TheVariants as ending
-use Rattle.change_apply.specs.declared.said.Phase.TheVariants as phase
 use Rattle.change_apply.specs.declared.said.Said.{Said}
 use Rattle.change_apply.specs.declared.said.Said.TheVariants as says
 use Rattle.change_apply.specs.declared.session.Session.{Session}

@@ -51,7 +51,7 @@ abbrev pub status_of : Ending → ℕ
 status_of ending.Committed = 0
 status_of ending.Bad = 3
 status_of ending.Unread = 4
-status_of ending.NoMemory = 5
-status_of ending.Unwritten = 6
+status_of ending.Unwritten = 5
+status_of ending.NoMemory = 6
 status_of ending.GivenUp = 7
 status_of ending.Denied = 9

@@ -1,6 +1,6 @@
 -- To be believed (docs/definitions.md).
 -- What has happened in a session, whatever was said: the start's events, those that lines told, and those of its end.
-use Rattle.std.specs.Prelude.{◌≡◌, ◌<◌, ◌-◌, ℕ, Bool, true, false, List, [], ◌++◌, fold, map}
+use Rattle.std.specs.Prelude.{◌≡◌, ◌<◌, ℕ, Bool, true, false, List, [], ◌++◌, fold, map}
 use Rattle.std.specs.List.{list_all}
 use Rattle.change_plan_laws.specs.Commit.{commit_events}
 use Rattle.quiesce_core.specs.declared.event.Event.{Event}
@@ -10,7 +10,7 @@ use Rattle.quiesce_core.specs.Runs.{IsRun, state_after}
 use Rattle.quiesce_core.specs.State.{gate}
 use Rattle.quiesce_laws.specs.Drained.{is_drained}
 use Rattle.quiesce_laws.specs.Starts.{start_of}
-use Rattle.change_apply.specs.Sessions.{Change, Scene, Turned, asked, first_scene, goes_on, turn}
+use Rattle.change_apply.specs.Sessions.{Change, Scene, asked, first_scene, goes_on, turn}
 use Rattle.change_apply.specs.declared.said.Phase.{Phase}
 use Rattle.change_apply.specs.declared.said.Phase.TheVariants as phase
 use Rattle.change_apply.specs.declared.said.Said.{Said}

@@ -1,6 +1,6 @@
 -- To be believed (docs/definitions.md).
 -- The lines that come in a session, and what each says: `busy P`, `closed P`, `idle P`, `round`, `stop`, `go`.
-use Rattle.std.specs.Prelude.{ℕ, ◌==◌, ◌||◌, Bool, not, nat_lt, List, [], ◌∷◌, ◌++◌, length, take, drop, codes, bytes_eq, Option, Some, None, ◌&&◌, if◌then◌else◌}
+use Rattle.std.specs.Prelude.{ℕ, ◌==◌, ◌||◌, Bool, not, nat_lt, List, [], ◌∷◌, ◌++◌, length, take, drop, codes, bytes_eq, ◌&&◌, if◌then◌else◌}
 use Rattle.std.specs.List.{prefix_len}
 use Rattle.change_script.specs.Lines.{is_statement, trimmed}
 use Rattle.change_script.specs.Numbers.{is_number, number, number_fits}

@@ -1,6 +1,6 @@
 -- To be believed (docs/definitions.md).
 -- The text that answers a line.
-use Rattle.std.specs.Prelude.{ℕ, List, [], ◌∷◌, ◌++◌, codes, decimal, flat_map}
+use Rattle.std.specs.Prelude.{ℕ, List, [], ◌++◌, codes, flat_map}
 use Rattle.change_spec.specs.Changes.{opening_lines}
 use Rattle.change_spec.specs.Follows.{start_lines}
 use Rattle.quiesce_core.specs.Runs.{state_after}

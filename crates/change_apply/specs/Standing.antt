@@ -1,5 +1,5 @@
 -- What the code of a session stands for.
-use Rattle.std.specs.Prelude.{◌≡◌, ◌<◌, ℕ, ℤ, Bool, true, false, List, [], ◌∷◌, ◌++◌, length, map, Option, Some, None, fold}
+use Rattle.std.specs.Prelude.{◌≡◌, ℕ, Bool, true, false, List, [], ◌++◌, length, map, Some, fold}
 use Rattle.std.specs.List.{list_all, range_with_len}
 use Rattle.change_lists.specs.Layouts.{IsLayoutOf}
 use Rattle.change_lists.specs.Lists.{closed_by, commit_by, places_after, ports_after}

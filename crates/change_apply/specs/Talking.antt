@@ -1,16 +1,14 @@
 -- What the code that talks keeps, and what comes of its steps.
-use Rattle.std.specs.Prelude.{◌≡◌, ◌⊎◌, ◌<◌, ◌+◌, ⊤, ℕ, Bool, true, false, List, [], ◌∷◌, ◌++◌, Option, Some, None, Result, Ok, Err, length, map, take}
+use Rattle.std.specs.Prelude.{◌≡◌, ◌⊎◌, ◌<◌, ⊤, ℕ, Bool, true, false, List, ◌++◌, Option, Some, None, Result, Ok, Err, length, map, take}
 use Rattle.cfg_io.specs.Sink.{with_bytes}
-use Rattle.quiesce_core.specs.declared.event.Event.{Event}
 use Rattle.quiesce_laws.specs.Starts.{start_of}
-use Rattle.change_apply.specs.Applied.{Place, ending_of, first_place, heard}
+use Rattle.change_apply.specs.Applied.{ending_of, heard}
 use Rattle.change_apply.specs.Lines.{lines_of, said_by}
 use Rattle.change_apply.specs.Reading.{HasNoLine, IsFirstLine}
 use Rattle.change_apply.specs.Replies.{opening_text, reply_text}
-use Rattle.change_apply.specs.Sessions.{CanChange, Change, Turned, change_in, first_scene, is_over}
+use Rattle.change_apply.specs.Sessions.{Change, Turned, change_in, first_scene, is_over}
 use Rattle.change_apply.specs.Standing.{Holds, Stands, change_of, scene_of}
 use Rattle.change_apply.specs.Talks.{Bytes}
-use Rattle.change_apply.specs.declared.applying.Begun.{Begun}
 use Rattle.change_apply.specs.declared.applying.Stop.{Stop}
 use Rattle.change_apply.specs.declared.applying.Stop.TheVariants as stop
 use Rattle.change_apply.specs.declared.request.Request.{Request}

@@ -1,6 +1,6 @@
 -- To be believed (docs/definitions.md).
 -- A session over a reader and a sink, whose bytes may be known.
-use Rattle.std.specs.Prelude.{◌≡◌, ◌<◌, ◌⊎◌, ⊤, ℕ, true, false, List, [], ◌∷◌, ◌++◌, Option, Some, None, IfSome, length, map, take}
+use Rattle.std.specs.Prelude.{◌≡◌, ◌<◌, ◌⊎◌, ℕ, true, false, List, [], ◌∷◌, ◌++◌, Option, IfSome, length, map, take}
 use Rattle.cfg_io.specs.Sink.{with_bytes}
 use Rattle.change_apply.specs.Applied.{Place, ending_of, heard}
 use Rattle.change_apply.specs.Lines.{lines_of, said_by}

@@ -1,18 +1,29 @@
 //! What sessions do to a system.
 
-ghost use Rattle.std.specs.Prelude.{◌≡◌, ◌∷◌, ◌++◌, ℕ, List};
+ghost use Rattle.std.specs.Prelude.{◌≡◌, [], ◌∷◌, ◌++◌, ℕ, List, true, false, Some};
+ghost use Rattle.cfg_io.specs.Sink.{with_bytes};
+ghost use Rattle.change_apply.specs.Applied.{applied, ending_of};
 ghost use Rattle.change_apply.specs.Courses.{Course, scene_after};
-ghost use Rattle.change_apply.specs.Sessions.{CanChange, Change};
-ghost use Rattle.change_apply.specs.declared.said.Said.{Said};
+ghost use Rattle.change_apply.specs.Sessions.{CanChange, Change, is_over};
+ghost use Rattle.change_apply.specs.Talks.{Bytes, HasEnded};
+ghost use Rattle.crowd_laws.specs.Acts.{Act, MayGoOn, events_told, world_after};
+ghost use Rattle.crowd_laws.specs.Beginning.{IsStart};
+ghost use Rattle.crowd_laws.specs.Crowds.{World};
+ghost use Rattle.crowd_laws.specs.Quiet.{IsQuiescent};
+ghost use Rattle.quiesce_core.specs.Start.{started};
+ghost use Rattle.quiesce_laws.specs.Starts.{start_of};
 ghost use Rattle.quiesce_core.specs.declared.event.Event.{Event};
 ghost use Rattle.quiesce_core.specs.declared.event.Event.TheVariants.{Link, Remove, Unlink};
 ghost use Rattle.quiesce_core.specs.Runs.{state_after};
 ghost use Rattle.quiesce_core.specs.Settled.{Quiescent};
 ghost use Rattle.quiesce_core.specs.State.{owner};
 
+use crate::request::Request;
+use crate::said::{Ending, Phase, Said};
 use change_plan_laws::{
     commits_can_not_fail, commits_leave_the_new_graph, what_is_frozen_may_be_closed,
 };
+use crowd_laws::{changes_find_crowds_quiescent, true_lines_are_allowed};
 use quiesce_core::a_started_system_has_its_graph;
 use quiesce_laws::{changes_find_nodes_quiescent, started_systems_are_reached};
 
@@ -40,4 +51,44 @@ pub fn sessions_find_nodes_quiescent()
 {
     sessions_keep_their_course();
     changes_find_nodes_quiescent();
+}
+
+/// The change is made exactly where `go` comes behind `ready`, and a session that is over hears nothing.
+pub fn sessions_commit_by_go()
+    ensures only { (c : Change) (said : List Said) (x : Said) → is_over (scene_after c said).phase ≡ false
+        → (scene_after c (said ++ x ∷ [])).phase ≡ Phase.Committed → (x ≡ Said.Go) × ((scene_after c said).phase ≡ Phase.Ready) }
+    ensures always { (c : Change) (said : List Said) → (scene_after c said).phase ≡ Phase.Ready
+        → (scene_after c (said ++ Said.Go ∷ [])).phase ≡ Phase.Committed }
+    ensures over { (c : Change) (said more_ : List Said) → is_over (scene_after c said).phase ≡ true
+        → scene_after c (said ++ more_) ≡ scene_after c said }
+{}
+
+/// One input has one answer: where a session ended, and the input could be read as far as that, what was written and how
+/// it ended are told by its bytes alone.
+pub fn one_input_has_one_answer()
+    ensures { (r : Request) (came : List ℕ) (before taken : Bytes) (e : Ending) → HasEnded r (Some came) before taken e
+        → (e ≡ Ending.Unread → ⊥)
+        → (taken ≡ with_bytes before (applied r came).text) × (e ≡ ending_of (applied r came).answer) }
+{}
+
+/// Where a crowd has the system, and what came of it is what was told, the owner of each port that is linked or unlinked
+/// is quiescent there by the four conditions, and each node that is removed.
+pub fn sessions_find_crowds_quiescent()
+    ensures linked { (c : Change) (said : List Said) (w : World) (acts : List Act) (after : List Event) (p n x : ℕ) → CanChange c
+        → IsStart w → w.machine ≡ started c.old → MayGoOn w acts
+        → (scene_after c said).events ≡ (start_of c.old ++ events_told w acts) ++ Link p n x ∷ after
+        → IsQuiescent (world_after w acts) (owner (world_after w acts).machine.config p) }
+    ensures unlinked { (c : Change) (said : List Said) (w : World) (acts : List Act) (after : List Event) (p : ℕ) → CanChange c
+        → IsStart w → w.machine ≡ started c.old → MayGoOn w acts
+        → (scene_after c said).events ≡ (start_of c.old ++ events_told w acts) ++ Unlink p ∷ after
+        → IsQuiescent (world_after w acts) (owner (world_after w acts).machine.config p) }
+    ensures removed { (c : Change) (said : List Said) (w : World) (acts : List Act) (after : List Event) (n : ℕ) → CanChange c
+        → IsStart w → w.machine ≡ started c.old → MayGoOn w acts
+        → (scene_after c said).events ≡ (start_of c.old ++ events_told w acts) ++ Remove n ∷ after
+        → IsQuiescent (world_after w acts) n }
+{
+    sessions_keep_their_course();
+    started_systems_are_reached();
+    true_lines_are_allowed();
+    changes_find_crowds_quiescent();
 }

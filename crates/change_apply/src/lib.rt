@@ -12,7 +12,10 @@ mod session;
 mod telling;
 
 pub use applying::apply;
-pub use laws::sessions_find_nodes_quiescent;
+pub use laws::{
+    one_input_has_one_answer, sessions_commit_by_go, sessions_find_crowds_quiescent,
+    sessions_find_nodes_quiescent, sessions_keep_their_course,
+};
 pub use request::{Called, Request};
 pub use said::{Answer, Ending, Phase, Said};
 pub use saying::LINE_LIMIT;

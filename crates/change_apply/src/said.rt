@@ -1,5 +1,8 @@
 //! What is said in a session, and what is answered.
 
+ghost use Rattle.std.specs.Prelude.{◌≡◌};
+ghost use Rattle.change_apply.specs.Applied.{status_of};
+
 /// What a line says, or the end of the input.
 #[derive(Clone, Copy, Debug, PartialEq, Eq)]
 pub enum Said {
@@ -65,4 +68,21 @@ pub enum Ending {
     /// The sink failed.
     Unwritten,
     NoMemory,
+}
+
+impl Ending {
+    /// The exit status of the command.
+    pub fn status(self) -> u8
+        ensures { result ≡ status_of self }
+    {
+        match self {
+            Ending::Committed => 0,
+            Ending::Bad => 3,
+            Ending::Unread => 4,
+            Ending::Unwritten => 5,
+            Ending::NoMemory => 6,
+            Ending::GivenUp => 7,
+            Ending::Denied => 9,
+        }
+    }
 }

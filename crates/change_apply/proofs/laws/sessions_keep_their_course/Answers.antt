@@ -1,4 +1,4 @@
-use Rattle.std.proofs.Common.{◌≡◌, ◌∙◌, ◌<◌, ◌++◌, [], map, length, refl, sym, ap, subst}
+use Rattle.std.proofs.Common.{◌∙◌, ◌<◌, [], map, length, sym, ap, subst}
 use Rattle.std.proofs.lemmas.List.{append-nil}
 use Rattle.change_plan_laws.specs.Commit.{commit_events, reopened_ports}
 use Rattle.quiesce_core.specs.declared.event.Event.TheVariants.{Reopen}
@@ -6,7 +6,6 @@ use Rattle.quiesce_core.specs.Live.{IsGraphOf}
 use Rattle.quiesce_core.specs.Runs.{state_after}
 use Rattle.quiesce_core.specs.State.{State, gate}
 use Rattle.quiesce_laws.specs.Starts.{start_of}
-use Rattle.change_apply.specs.Sessions.{Change}
 use Rattle.change_apply.proofs.CourseLemmas.{asked_made, course_after, open_at_first, same_asked}
 use Rattle.change_apply.proofs.StandLemmas.{all_change}
 use Rattle.change_apply.proofs.laws.sessions_keep_their_course.Goals as goal

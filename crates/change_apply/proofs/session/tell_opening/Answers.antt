@@ -1,4 +1,4 @@
-use Rattle.std.proofs.Common.{◌≡◌, ◌∙◌, ◌++◌, ◌∷◌, [], append_assoc, map, sym, ap}
+use Rattle.std.proofs.Common.{◌∙◌, ◌++◌, ◌∷◌, [], append_assoc, map, sym, ap}
 use Rattle.change_spec.specs.Follows.{start_lines}
 use Rattle.quiesce_core.specs.Runs.{state_after}
 use Rattle.quiesce_laws.specs.Starts.{start_of}

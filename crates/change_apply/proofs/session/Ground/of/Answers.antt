@@ -1,5 +1,4 @@
-use Rattle.std.proofs.Common.{[], sym, ap}
-use Rattle.quiesce_core.specs.CoreState.{CoreState}
+use Rattle.std.proofs.Common.{[]}
 use Rattle.quiesce_core.specs.Start.{started}
 use Rattle.change_apply.proofs.session.Ground.of.Goals as goal
 

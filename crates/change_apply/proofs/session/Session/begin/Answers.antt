@@ -1,4 +1,4 @@
-use Rattle.std.proofs.Common.{[], ap}
+use Rattle.std.proofs.Common.{[]}
 use Rattle.quiesce_core.specs.Runs.{state_after}
 use Rattle.quiesce_laws.specs.Starts.{start_of}
 use Rattle.change_apply.proofs.BeginLemmas.{graph_there, layout_there, stands_first}

@@ -1,6 +1,5 @@
-use Rattle.std.proofs.Common.{◌≡◌, ◌∙◌, ◌++◌, ◌∷◌, [], append_assoc, map, refl, sym, ap}
+use Rattle.std.proofs.Common.{◌∙◌, ◌++◌, ◌∷◌, [], append_assoc, map, ap}
 use Rattle.std.specs.List.{flat_map}
-use Rattle.quiesce_core.specs.Runs.{state_after}
 use Rattle.report_types.specs.declared.report.HistoryLine.TheVariants as to
 use Rattle.change_apply.specs.Sessions.{asked, root_at}
 use Rattle.change_apply.specs.Standing.{change_of}

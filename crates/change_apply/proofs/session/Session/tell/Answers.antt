@@ -1,9 +1,8 @@
-use Rattle.std.proofs.Common.{◌≡◌, ◌∙◌, ◌++◌, List, Option, ℕ, Some, None, refl, sym, ap, subst}
-use Rattle.quiesce_core.specs.declared.event.Event.{Event}
+use Rattle.std.proofs.Common.{◌≡◌, ◌∙◌, ◌++◌, Option, ℕ, Some, None, sym, ap, subst}
 use Rattle.quiesce_core.specs.Runs.{state_after}
 use Rattle.quiesce_core.specs.State.{State}
 use Rattle.change_apply.specs.Sessions.{denied, events_told, happened, tells_by}
-use Rattle.change_apply.specs.Standing.{IsTurned, Stands, change_of, scene_of}
+use Rattle.change_apply.specs.Standing.{IsTurned, change_of, scene_of}
 use Rattle.change_apply.proofs.StandLemmas.{stands_told}
 use Rattle.change_apply.proofs.session.Session.tell.Goals as goal
 
