@@ -5,7 +5,7 @@ import sys
 import tempfile
 
 import tareslater
-from tareslater import Begins, Component, Requires, System, provides
+from tareslater import Begins, Component, Requires, provides
 from tareslater.darwin import Undescribable, description, shape, words_of
 
 PYTHON = os.path.dirname(os.path.dirname(os.path.abspath(tareslater.__file__)))

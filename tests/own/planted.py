@@ -230,7 +230,7 @@ async def try_killed(tries):
         tries.same("made only behind the whole of `commit`", [(count, 1)], made)
         tries.same("and after all of that", "made", await changed(system))
         client, store = system["c"], system["t"]
-    tries.want("no root was lost or came twice", 0 <= store.count - client.done <= 4, (store.count, client.done))
+    tries.same("no root was lost or came twice", client.done, store.count)
 
 
 def tries(tries):

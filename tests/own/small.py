@@ -173,11 +173,3 @@ def planted(*changes):
     finally:
         for where, name, right in kept:
             setattr(where, name, right)
-
-
-def in_threads(count, work):
-    """Runs this in so many threads of its own, until all have ended."""
-    threads = [threading.Thread(target=work) for _ in range(count)]
-    for thread in threads:
-        thread.start()
-    return threads
