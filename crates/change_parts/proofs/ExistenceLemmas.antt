@@ -80,7 +80,7 @@ module _ (reports : HaveReports) (links : LoseNoLink) (sounds : AreSoundStages) 
   statements : List Statement
   statements = roll_statements name args old k new_name new_args within ps
 
-  sound_statements : AreSound statements
+  pub sound_statements : AreSound (roll_statements name args old k new_name new_args within ps)
   unfolding statements
   sound_statements = record {
     graph = record { is_graph = old_graph; sound = old_sound };

@@ -23,3 +23,4 @@ pub mod PartsThereLemmas
 pub mod CourseLemmas
 pub mod StageLemmas
 pub mod ExistenceLemmas
+mod RollingLemmas

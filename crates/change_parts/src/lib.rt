@@ -18,4 +18,4 @@ pub use laws::{
 };
 pub use part::Part;
 pub use parting::parts;
-pub use roll_laws::{there_is_a_roll, there_is_one_roll};
+pub use roll_laws::{a_roll_drains_within_what_is_left, there_is_a_roll, there_is_one_roll};

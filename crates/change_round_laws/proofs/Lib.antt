@@ -23,3 +23,4 @@ mod RoundLemmas
 mod WaitLemmas
 mod PartLemmas
 mod RootLemmas
+pub mod TogetherLaws

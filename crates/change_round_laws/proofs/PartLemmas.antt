@@ -77,7 +77,7 @@ module _ (w : World) (reached : IsReached w) (name : List ℕ) (args : List Ratt
 
 -- ---- a statement
 
-part_posts : (h : List HistoryLine) (w : World) (s : Statement) (ls : List HistoryLine) (v : World) → IsReached w → ArePosted w → Plays h w s ls v → ArePosted v
+pub part_posts : (h : List HistoryLine) (w : World) (s : Statement) (ls : List HistoryLine) (v : World) → IsReached w → ArePosted w → Plays h w s ls v → ArePosted v
 part_posts h w (start name args g) ls v r posted plays = subst ArePosted (sym plays.1) (changes_post w (start_of g) posted)
 part_posts h w (change name args g within moves) ls v r posted plays = ⊎_elim
     (λ (skipped : list_any is_pending h ≡ true). subst ArePosted (sym (plays.0 skipped).world) posted)

@@ -47,7 +47,7 @@ turns_spend falls (n ∷ ns) r k reached live h =
     turns_spend falls ns (give_turn false r n) k (IsReached.by_turn w n false reached alive)
     (λ i in_. ap (λ (c : Configuration). is_live c i) same ∙ live i (Contains-there n i ns in_)) (omega (arith, h, spent, one))
 
-round_spends : RestFalls → (w : World) → IsReached w → rest (round false w).world.machine + cond (round false w).moved 1 0 ≤ rest w.machine
+pub round_spends : RestFalls → (w : World) → IsReached w → rest (round false w).world.machine + cond (round false w).moved 1 0 ≤ rest w.machine
 round_spends falls w r =
     turns_spend falls (live_nodes w) (record { world = w; moved = false }) (rest w.machine) r
     (λ n in_. (Contains-from_filter (λ k. is_live w.machine.config k) (range_with_len 0 (Rattle.std.specs.Prelude.length w.machine.config.slots)) n in_).1) (omega arith)

@@ -23,3 +23,11 @@ IsDrainedInTime w _ lines v = ⊤
 
 abbrev pub DrainsInTime : List Played → Played → Type 0
 DrainsInTime before p = IsDrainedInTime (world_after before) p.statement p.lines p.world
+
+-- a change that may wait for at least so many rounds
+abbrev pub IsPatient : ℕ → Statement → Type 0
+IsPatient k (change name args g within moves) = k ≤ within
+IsPatient k _ = ⊥
+
+abbrev pub MayWait : ℕ → Played → Type 0
+MayWait k p = IsPatient k p.statement

@@ -22,6 +22,6 @@ pub use saying::{
     what_may_be_asked_has_sound_statements,
 };
 pub use waiting::{
-    changes_drain_within_what_is_left, open_lines_name_what_the_last_look_saw,
-    rounds_drain_what_is_left,
+    changes_drain_within_what_is_left, changes_in_a_row_drain_together,
+    open_lines_name_what_the_last_look_saw, rounds_drain_what_is_left,
 };

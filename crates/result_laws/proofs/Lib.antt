@@ -70,3 +70,4 @@ pub mod WorkedScripts
 pub mod Bounds
 pub mod Fitting
 pub mod Rolling
+pub mod PartTelling

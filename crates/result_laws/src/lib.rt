@@ -29,5 +29,6 @@ pub use row_laws::{
 };
 pub use script_laws::scripts_are_told_from_others;
 pub use telling_laws::{
-    checks_of_runs_are_consistent, numbers_of_runs_fit, texts_tell_the_reports_of_runs,
+    checks_of_runs_are_consistent, numbers_of_runs_fit, texts_tell_parts,
+    texts_tell_the_reports_of_runs,
 };

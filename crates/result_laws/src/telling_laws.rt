@@ -1,11 +1,14 @@
-//! The report of each run is told by its text.
+//! Texts tell reports and parts.
 
 ghost use Rattle.std.specs.Prelude.{◌≡◌, ◌≤◌, ℕ, Bool, List, Ok, Option, Some, length};
 ghost use Rattle.cfg_io.specs.Shelf.{Files};
+ghost use Rattle.config_graph.specs.Graph.{Graph};
+ghost use Rattle.change_parts.specs.declared.part.Part.{Part};
 ghost use Rattle.report_writing.specs.Reports.{report_text};
 ghost use Rattle.report_texts.specs.ReportTexts.{IsReport};
 ghost use Rattle.report_texts.specs.Stages.{reading};
 ghost use Rattle.report_texts.specs.declared.version.Version.TheVariants as versions;
+ghost use Rattle.command_answers.specs.PartTexts.{parts_text, roll_text};
 ghost use Rattle.command_answers.specs.declared.status.Status.{Status};
 ghost use Rattle.command_words.specs.declared.words.Command.{Command};
 ghost use Rattle.command_words.specs.declared.words.Command.TheVariants as commands;
@@ -15,6 +18,7 @@ ghost use Rattle.command_spec.specs.Outcomes.{Ends, Judged, NothingRefusesLines,
 ghost use Rattle.command_spec.specs.Runs.{Run, Runs};
 ghost use Rattle.command_spec.specs.Schedules.{Schedule};
 ghost use Rattle.command_spec.specs.Telling.{NumbersFit, StillHolds};
+ghost use Rattle.result_laws.specs.PartTelling.{HaveWordPaths, plan_texts};
 
 use change_spec::a_moved_state_is_the_last_one;
 use command_spec::{a_check_of_what_was_run_is_consistent, runs_tell_their_reports};
@@ -60,3 +64,13 @@ pub fn checks_of_runs_are_consistent()
     numbers_of_runs_fit();
     a_check_of_what_was_run_is_consistent();
 }
+
+/// The text of parts, and that of a roll, tells the text of each part's plan, in their order: no line of a plan begins with
+/// `part`, `pending` or `done`. What a plan's text tells are its steps (`texts_tell_plans` of change_plan).
+pub fn texts_tell_parts()
+    ensures parts { (a b : Graph) (ps qs : List Part) → HaveWordPaths a ps → HaveWordPaths b qs
+        → parts_text a ps ≡ parts_text b qs → plan_texts a ps ≡ plan_texts b qs }
+    ensures rolls { (a b : Graph) (ps qs : List Part) (given_up other : Option ℕ) (left right : Graph)
+        → HaveWordPaths a ps → HaveWordPaths b qs
+        → roll_text a ps given_up left ≡ roll_text b qs other right → plan_texts a ps ≡ plan_texts b qs }
+{}
