@@ -26,9 +26,9 @@ use Rattle.quiesce_core.proofs.RunLaws.{fronts_are_runs}
 
 -- the parts of the test
 pub record IsRoot (x : Exchange) (k : ℕ) : Type 0 where
-  busy : is_idle x.phase ≡ false
-  serial : (x.serial == k) ≡ true
-  alone : is_some x.within ≡ false
+  pub busy : is_idle x.phase ≡ false
+  pub serial : (x.serial == k) ≡ true
+  pub alone : is_some x.within ≡ false
 
 abbrev pub is_root : ℕ → Exchange → Bool
 is_root k x = (not (is_idle x.phase) && not (is_some x.within)) && x.serial == k
