@@ -304,4 +304,5 @@ marked_all old new moves k sources targets all marked =
 
 pub may_move_all : (old new : Graph) (moves : List Move) (k : ℕ) → length moves ≤ k → MayMoveAll old new moves k → MayMoveAll old new moves (length moves)
 may_move_all old new moves k all may j m low at = may j m (omega (arith, low, all)) at
+
 -- where all moves may be made, the moves of one source, or of one target, are one
