@@ -1,11 +1,9 @@
 -- Which seat comes back, and when.
-use Rattle.std.proofs.Common.{◌≡◌, ◌≤◌, ℕ, false, List, [], ◌∷◌, Option, Some, None, Err, IfSome, IsTrue, is_some, refl, sym, subst, ap, ◌∙◌}
-use native.Mathlib.Omega.{arith}
+use Rattle.std.proofs.Common.{◌≡◌, ℕ, false, List, Option, Some, None, Err, IfSome, IsTrue, is_some, refl, sym, subst, ap, ◌∙◌}
 use Rattle.command_answers.specs.Answers.{no_memory_line}
 use Rattle.command_answers.specs.Statuses.{is_of_run}
 use Rattle.command_answers.specs.declared.status.Status.{Status}
 use Rattle.command_answers.specs.declared.status.Status.TheVariants as status
-use Rattle.command_words.specs.CommandLine.{SaysObservers}
 use Rattle.command_words.specs.declared.words.Command.TheVariants as commands
 use Rattle.command_program.specs.Refusals.{EndsNoRun}
 use Rattle.command_program.specs.declared.answer.Stop.{Stop}
@@ -30,8 +28,3 @@ stop_no_run stops.NoMemory seen none written is = ends_no_run status.NoMemory no
 pub of_back : {S : Type 0} (P : S → Type 0) (seat : S) (back : Option S) → IfSome back (λ s. s ≡ seat) → (IsTrue (is_some back) → P seat) → IfSome back P
 of_back P seat (Some s) is holds = subst P (sym is) (holds refl)
 of_back P seat None is holds = tt
-
--- at most eight workers are asked for, and four observers
-few_seen : (options : List (List ℕ)) (observers : ℕ) → SaysObservers options observers → observers ≤ 4
-few_seen [] observers said = subst (λ n. n ≤ 4) (sym said) (omega arith)
-few_seen (option ∷ words) observers said = subst (λ n. n ≤ 4) (sym said.4) said.3.2

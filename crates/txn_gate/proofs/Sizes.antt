@@ -1,20 +1,17 @@
 -- How many nodes and ports were made, as a record grows.
-use Rattle.std.proofs.Common.{◌≡◌, ◌∙◌, ℕ, ◌+◌, ◌<◌, ◌≤◌, true, false, ◌&&◌, not, List, [], ◌∷◌, ◌++◌, length, set, Option, Some, None, refl, sym, ap, subst, arith}
+use Rattle.std.proofs.Common.{◌≡◌, ◌∙◌, ℕ, ◌+◌, ◌<◌, ◌≤◌, true, false, List, [], ◌∷◌, ◌++◌, length, set, Option, Some, None, refl, sym, ap, subst, arith}
 use Rattle.std.specs.Option.{option_map_or}
-use Rattle.std.proofs.lemmas.Bool.{both_ways}
 use Rattle.std.proofs.lemmas.List.{length-append, length-set}
 use Rattle.base.proofs.OptionLaws.{map_or_at}
 use Rattle.base.proofs.PlaceLaws.{slice_get-last}
 use Rattle.config_graph.specs.Kinds.{row}
 use Rattle.config_graph.specs.declared.TheConstants.{MAX_PORTS}
-use Rattle.config_graph.specs.declared.kind.Kind.{Kind}
 use Rattle.config_graph.specs.declared.node.Node.{Node}
 use Rattle.txn_records.specs.Entries.{config_of}
 use Rattle.txn_records.specs.declared.entry.Entry.{Entry}
 use Rattle.txn_records.specs.declared.entry.Entry.TheVariants.{Did, Looked}
 use Rattle.quiesce_core.specs.Effect.{with_node}
 use Rattle.quiesce_core.specs.Knowledge.{nothing_known}
-use Rattle.quiesce_core.specs.Rules.{is_kind}
 use Rattle.quiesce_core.specs.Words.{slot_fields_of}
 use Rattle.quiesce_core.specs.declared.state.Slot.{Slot}
 use Rattle.quiesce_core.proofs.TableLaws.{new_gates_length}
@@ -100,11 +97,6 @@ newest_made c k first node from seats nodes ports =
       loads = [];
       loaded = None;
     }
-
--- the word of its slot has room for it
-source_there : (o : Option Slot) (kind : Kind) → option_map_or (λ (m : Slot). not m.live && is_kind m.node.kind kind) o false ≡ true → (m : Slot) × (o ≡ Some m)
-source_there None kind h = absurd (both_ways false refl h)
-source_there (Some m) kind h = (m, refl)
 
 -- ---- the change's seat with one entry more
 
