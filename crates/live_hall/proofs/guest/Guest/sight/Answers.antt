@@ -1,11 +1,11 @@
-use Rattle.std.proofs.Common.{rules, ◌≡◌, ◌∙◌, ◌∷◌, map, Some, refl, ap, sym}
-use Rattle.txn_spec.specs.Views.{node_at}
+use Rattle.std.proofs.Common.{◌≡◌, ◌∙◌, ◌∷◌, map, Some, refl, ap, sym}
+use Rattle.txn_spec.specs.Views.{node_at, notes}
 use Rattle.txn_spec.specs.declared.view.ChangeView.{ChangeView}
 use Rattle.live_hall.specs.Lines.{seen_word}
-use Rattle.live_hall.specs.Sighting.{PastSeen, past_seen}
+use Rattle.live_hall.specs.Sighting.{PastSeen, past_seen, sight_of}
 use Rattle.live_hall.proofs.LineLaws.{line_with}
-use Rattle.live_hall.proofs.PastLaws.{each_place, hosted_with, made_more, read_off}
-use Rattle.txn_gate.specs.Seats.{node_in, record_of}
+use Rattle.live_hall.proofs.PastLaws.{each_place, hosted_with, made_more, notes_more, read_off}
+use Rattle.txn_gate.specs.Seats.{change_in, node_in, record_of}
 use Rattle.live_hall.proofs.guest.Guest.sight.Goals as goal
 
 pub invariant_of-self : goal.invariant_of-self
@@ -35,21 +35,24 @@ invariant_of-self-2 c =
 pub returns-clause-sighted : goal.returns-clause-sighted
 returns-clause-sighted c =
     let e = c.sight_in.ensures in
+    let p = c.sight_past.ensures.sighted in
+    let ns = map (λ p. node_in p.seat) c.args.self.now.node.past.items in
+    let n = node_in c.args.self.now.node.seat in
     record {
-      here = search rules;
-      change = search rules;
-      nodes = search rules;
-      spare = search rules;
-      made = made_more (record_of c.args.seat.now) (record_of c.sight_past.new.seat) (map (λ p. node_in p.seat) c.args.self.now.node.past.items) (node_in c.args.self.now.node.seat)
-          (ap (λ (k : ChangeView). k.entries) c.sight_past.ensures.sighted.change) c.sight_past.ensures.sighted.made (record { made = e.learned.made; unserving = e.learned.unserving });
+      here = e.did.here ∙ p.here;
+      change = e.did.change ∙ ap (λ k. notes k (sight_of n)) p.change ∙ notes_more (change_in c.args.seat.now) ns n;
+      nodes = e.did.nodes ∙ p.nodes;
+      spare = e.did.spare ∙ p.spare;
+      made = made_more (record_of c.args.seat.now) (record_of c.sight_past.new.seat) ns n
+          (ap (λ (k : ChangeView). k.entries) p.change) p.made (record { made = e.learned.made; unserving = e.learned.unserving });
     }
 
 pub returns-clause-same : goal.returns-clause-same
 returns-clause-same c =
     let past = read_off (λ p. past_seen p.slot p.first_port p.arg p.log.items p.seat) (λ (p : PastSeen). p.table) c.sight_past.new.past.items c.args.self.now.node.past.items c.sight_past.ensures.past in
     record {
-      slot = search rules;
+      slot = refl;
       tables = λ i. c.sight_in.ensures.node.here i ∷ past i;
-      past = search rules;
-      own = search rules;
+      past = c.sight_past.ensures.past;
+      own = (c.sight_in.ensures.node.node, refl, refl, refl, refl, refl);
     }
