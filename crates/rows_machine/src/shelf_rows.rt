@@ -166,6 +166,17 @@ fn a_long_file_is_read_whole(rt: HostRuntime) -> Result<(), Fail> {
     Ok(())
 }
 
+/// The system is asked for the name that was given, however long it is.
+#[test]
+fn a_file_of_a_long_name_is_read(rt: HostRuntime) -> Result<(), Fail> {
+    let name = "rows_reads_a_file_whose_name_is_longer_than_the_longest_name_of_a_description.txt";
+    fs::write(&rt, name, "long")?;
+    let is_whole = is_read(&mut FileShelf::new(&rt, rt.alloc()), name, 4, b"long");
+    fs::remove_file(&rt, name)?;
+    assert!(rt; is_whole);
+    Ok(())
+}
+
 /// A standard output that takes at most 5,000 bytes of a piece.
 #[derive(Drop)]
 struct NarrowOutput {
