@@ -1,6 +1,6 @@
 -- What a roll leaves is a place of a lawful run, so items are kept there; and each of its stages links what the graphs
 -- between which it leads link.
-use Rattle.std.proofs.Common.{◌≡◌, ◌∙◌, ◌⊎◌, ℕ, ℤ, zero, suc, Bool, true, false, List, [], ◌∷◌, ◌++◌, append_assoc, map, Option, Some, None, refl, sym, ap, subst, inl, inr}
+use Rattle.std.proofs.Common.{◌≡◌, ◌∙◌, ℕ, ℤ, zero, suc, Bool, true, false, List, [], ◌∷◌, ◌++◌, append_assoc, map, Option, Some, refl, sym, ap, subst, inl, inr}
 use Rattle.std.specs.Prelude.{All, Contains, fold, option_map, slice_get}
 use Rattle.std.specs.List.{cons_option}
 use Rattle.std.proofs.lemmas.List.{append-nil}
@@ -8,13 +8,11 @@ use Rattle.std.proofs.lemmas.List.Elements.{All-cons, All-nil}
 use Rattle.std.proofs.lemmas.Option.{same_Some}
 use Rattle.base.proofs.ContainsLaws.{Contains-at, Contains-here, Contains-there, at_some_place}
 use Rattle.base.proofs.OptionLaws.{option_map_some}
-use Rattle.config_graph.specs.Cycles.{IsLinked}
 use Rattle.config_graph.specs.Graph.{Graph, IsGraph}
 use Rattle.config_graph.specs.declared.kind.Kind.{Kind}
 use Rattle.config_graph.specs.declared.node.Made.{Made}
 use Rattle.config_graph.specs.declared.node.Node.{Node}
 use Rattle.change_plan.specs.declared.plan_data.Move.{Move}
-use Rattle.change_parts.specs.Parts.{AreParts}
 use Rattle.change_parts.specs.Rolls.{IsRoll, roll_statements}
 use Rattle.change_parts.specs.Stages.{AreLinkedAfter, HasLinksOf}
 use Rattle.change_parts.specs.Ties.{AreConnected}
@@ -29,13 +27,13 @@ use Rattle.node_turn_laws.specs.World.{World, with_event}
 use Rattle.report_types.specs.declared.report.Report.{Report}
 use Rattle.change_spec.specs.Lawful.{Lawful, LawfulInRounds}
 use Rattle.change_spec.specs.Members.{events}
-use Rattle.change_spec.specs.Serial.{Played, Serial, after_changes, world_after}
+use Rattle.change_spec.specs.Serial.{Serial, after_changes, world_after}
 use Rattle.change_spec.specs.Statements.{Statement, change, run, start}
 use Rattle.change_spec.proofs.SerialLaws.{one_course}
 use Rattle.change_round_laws.specs.SoundStatements.{AreSound, GoOnSoundly}
 use Rattle.change_round_laws.proofs.CourseLaws.{turn_events}
-use Rattle.result_laws.specs.Describing.{Describes, LinksAre, kind_at}
-use Rattle.result_laws.specs.Flows.{AreApart, same_side}
+use Rattle.result_laws.specs.Describing.{Describes, LinksAre}
+use Rattle.result_laws.specs.Flows.{AreApart}
 use Rattle.result_laws.specs.Rolling.{ItemsBalance}
 
 -- what laws of change_round_laws say

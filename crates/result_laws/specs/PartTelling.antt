@@ -1,5 +1,5 @@
 -- What the text of parts tells: the text of each part's plan, in their order.
-use Rattle.std.specs.Prelude.{List, [], ◌∷◌, ℕ, ⊤, All}
+use Rattle.std.specs.Prelude.{List, [], ◌∷◌, ℕ, All}
 use Rattle.config_graph.specs.Graph.{Graph}
 use Rattle.config_graph.specs.GraphText.{IsOneWord}
 use Rattle.config_graph.specs.declared.node.Node.{Node}
