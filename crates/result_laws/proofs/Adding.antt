@@ -7,9 +7,6 @@ use Rattle.std.proofs.lemmas.List.Sums.{sum_by-cons}
 use Rattle.base.proofs.SumLaws.{at_term, sum_le, sum_moves, sum_place, sum_plus, sum_term, term_here, term_there}
 use Rattle.std.proofs.Math.Nat.{add-zero}
 
-pub sums_agree : (f g : ℕ → ℕ) (n : ℕ) → ((i : ℕ) → f i ≡ g i) → sum_by f (range_with_len 0 n) ≡ sum_by g (range_with_len 0 n)
-sums_agree f g n h = let a = sum_le f g 0 n (λ i. omega (arith, h i)) in let b = sum_le g f 0 n (λ i. omega (arith, h i)) in omega (arith, a, b)
-
 -- what one term loses the other gains
 less_by : (f g : ℕ → ℕ) (p r n : ℕ) → p < n → r < n → (p ≡ r → ⊥) → ((i : ℕ) → (i ≡ p → ⊥) → (i ≡ r → ⊥) → f i ≡ g i) → f p + f r ≡ g p + g r → sum_by f (range_with_len 0 n) ≤ sum_by g (range_with_len 0 n)
 less_by f g p r n made_p made_r ne h both =

@@ -8,6 +8,7 @@ use Rattle.std.proofs.lemmas.List.{append_cancel_left}
 use Rattle.std.proofs.lemmas.Option.{none-some}
 use Rattle.base.proofs.OptionLaws.{map_or_true}
 use Rattle.base.proofs.PlaceLaws.{heads_are, tails_are}
+use Rattle.base.proofs.CountLaws.{one_place_of}
 use Rattle.config_graph.specs.declared.kind.Kind.TheVariants.{Map, Source}
 use Rattle.component_trait.specs.Fold.{after_event}
 use Rattle.component_trait.specs.States.{NodeState}
@@ -38,46 +39,6 @@ use Rattle.result_laws.proofs.Ends.{touched}
 use Rattle.result_laws.proofs.FactLaws.{of_parts}
 use Rattle.result_laws.proofs.Resting.{Begun, InRow, on_way_port, source_port}
 use Rattle.result_laws.proofs.Touching.{IsOnWay}
-
--- ---- what is counted once stands at one place
-
-counted : {A : Type 0} (t : A → Bool) (x : A) (xs : List A) → t x ≡ true → count_by t (x ∷ xs) ≡ suc (count_by t xs)
-counted t x xs h =
-    let more_ = count_by-append t (x ∷ []) xs in
-    let one : count_by t (x ∷ []) ≡ 1 = ap (λ b. 0 + cond b 1 0) h ∙ omega arith in omega (arith, more_, one)
-
-uncounted : {A : Type 0} (t : A → Bool) (x : A) (xs : List A) → t x ≡ false → count_by t (x ∷ xs) ≡ count_by t xs
-uncounted t x xs h =
-    let more_ = count_by-append t (x ∷ []) xs in
-    let one : count_by t (x ∷ []) ≡ 0 = ap (λ b. 0 + cond b 1 0) h ∙ omega arith in omega (arith, more_, one)
-
-never_counted : {A : Type 0} (t : A → Bool) (before after : List A) (x : A) → t x ≡ true → count_by t (before ++ x ∷ after) ≡ 0 → ⊥
-never_counted t [] after x passes h = let one = counted t x after passes in absurd (omega (arith, one, h))
-never_counted t (b ∷ before) after x passes h = by (t b) refl h (never_counted t before after x passes)
-  where
-    by : (c : Bool) → t b ≡ c → count_by t (b ∷ (before ++ x ∷ after)) ≡ 0 → (count_by t (before ++ x ∷ after) ≡ 0 → ⊥) → ⊥
-    by true is h' later = let one = counted t b (before ++ x ∷ after) is in omega (arith, one, h')
-    by false is h' later = let one = uncounted t b (before ++ x ∷ after) is in later (sym one ∙ h')
-
-pub one_place_of : {A : Type 0} (t : A → Bool) (b c d e : List A) (x y : A) → b ++ x ∷ d ≡ c ++ y ∷ e → t x ≡ true → t y ≡ true → count_by t (b ++ x ∷ d) ≤ 1 → b ≡ c
-one_place_of t [] [] d e x y h tx ty few = refl
-one_place_of t [] (z ∷ c) d e x y h tx ty few =
-    let rest = tails_are x z d (c ++ y ∷ e) h in
-    let one = counted t x d tx in
-    let same : count_by t d ≡ count_by t (c ++ y ∷ e) = ap (count_by t) rest in
-    absurd (never_counted t c e y ty (omega (arith, one, few, same)))
-one_place_of t (z ∷ b) [] d e x y h tx ty few =
-    let head = heads_are z y (b ++ x ∷ d) e h in
-    let one = counted t z (b ++ x ∷ d) (ap t head ∙ ty) in
-    absurd (never_counted t b d x tx (omega (arith, one, few)))
-one_place_of t (z ∷ b) (w ∷ c) d e x y h tx ty few =
-    let rest = tails_are z w (b ++ x ∷ d) (c ++ y ∷ e) h in
-    let less : count_by t (b ++ x ∷ d) ≤ count_by t (z ∷ (b ++ x ∷ d)) = fewer (t z) refl in
-    λ i. heads_are z w (b ++ x ∷ d) (c ++ y ∷ e) h i ∷ one_place_of t b c d e x y rest tx ty (omega (arith, less, few)) i
-  where
-    fewer : (k : Bool) → t z ≡ k → count_by t (b ++ x ∷ d) ≤ count_by t (z ∷ (b ++ x ∷ d))
-    fewer true is = let one = counted t z (b ++ x ∷ d) is in omega (arith, one)
-    fewer false is = let one = uncounted t z (b ++ x ∷ d) is in omega (arith, one)
 
 -- a run begins a port's serial at one place
 pub begun_once : (es : List Event) → IsRun es → (p k v w : ℕ) (b c d e : List Event) → es ≡ b ++ Begin p k v ∷ d → es ≡ c ++ Begin p k w ∷ e → b ≡ c

@@ -7,6 +7,7 @@ use Rattle.std.proofs.lemmas.List.{append-nil, get_or_past}
 use Rattle.std.proofs.lemmas.List.Sums.{sum_by_push}
 use Rattle.std.proofs.lemmas.Option.{none-some, same_Some, slice_get_within}
 use Rattle.base.proofs.OptionLaws.{map_or_true}
+use Rattle.base.proofs.SumLaws.{sum_same}
 use Rattle.config_graph.specs.Graph.{Graph}
 use Rattle.config_graph.specs.declared.TheConstants.{VALUE_LIMIT}
 use Rattle.config_graph.specs.declared.kind.Kind.TheVariants.{Branch, Account}
@@ -36,7 +37,7 @@ use Rattle.result_laws.proofs.FactLaws.{Facts, Fits}
 use Rattle.result_laws.proofs.PlacedLaws.{GraphAt}
 use Rattle.result_laws.specs.Banks.{IsBank, banks_serve_tellers}
 use Rattle.result_laws.proofs.Linking.{AllLinked}
-use Rattle.result_laws.proofs.Adding.{sums_agree, sum_two, two_terms}
+use Rattle.result_laws.proofs.Adding.{sum_two, two_terms}
 use Rattle.result_laws.proofs.Giving.{given_is_gone, hands_on}
 use Rattle.result_laws.proofs.Handing.{all_held, carried_on, given_more, made_sum, opens_with_a_value, same_exchange, same_total, still}
 use Rattle.result_laws.proofs.Leading.{AllLeadWell, lead_on}
@@ -231,7 +232,7 @@ module _ (handed : StatesAreHanded) (es : List Event) (e : Event) (here : IsNext
     same_sum : sum_by after (range_with_len 0 size) ≡ sum_by before (range_with_len 0 size)
     same_sum = ⊎_elim
         (λ (w : Pays s f g now_facts fits e now then_facts books.leads books.serials). paid w)
-        (λ (w : Calm s f g now_facts fits e now then_facts books.leads books.serials). sums_agree after before size (all_same w))
+        (λ (w : Calm s f g now_facts fits e now then_facts books.leads books.serials). sum_same after before size (all_same w))
         (paying s f g now_facts fits e now then_facts books.leads books.serials (λ n. (l.carries n, l.has n)))
 
     opens_nothing : sum_by opened_in (es ++ e ∷ []) ≡ sum_by opened_in es
@@ -352,7 +353,7 @@ module _ (handed : StatesAreHanded) (es : List Event) (e : Event) (here : IsNext
         carries = l.carries;
         has = has_then;
         sum = ap (λ n. sum_by (λ n. l.carries n + holds (es ++ e ∷ []) n) (range_with_len 0 n)) same_size
-            ∙ sums_agree (λ n. l.carries n + holds (es ++ e ∷ []) n) (λ n. l.carries n + holds es n) size (λ n. ap (λ x. l.carries n + x) (all_held handed es e here run' later change none_made n)) ∙ l.sum ∙ sym opens_nothing;
+            ∙ sum_same (λ n. l.carries n + holds (es ++ e ∷ []) n) (λ n. l.carries n + holds es n) size (λ n. ap (λ x. l.carries n + x) (all_held handed es e here run' later change none_made n)) ∙ l.sum ∙ sym opens_nothing;
         few = let a = l.few in let b = opens_nothing in let c = ap (λ n. n * VALUE_LIMIT) same_size in omega (arith, a, b, c);
       };
       leads = leads_then;

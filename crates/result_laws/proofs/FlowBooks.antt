@@ -6,7 +6,7 @@ use Rattle.std.specs.List.{list_any, range_with_len}
 use Rattle.std.proofs.lemmas.Bool.{both_ways, cases_Bool, cases_eq, eqb-true, false_from_ne_true}
 use Rattle.std.proofs.lemmas.List.{append-nil}
 use Rattle.std.proofs.lemmas.Option.{same_Some, slice_get_within}
-use Rattle.base.proofs.SumLaws.{sum_zero}
+use Rattle.base.proofs.SumLaws.{sum_zero, sum_same}
 use Rattle.config_graph.specs.declared.TheConstants.{MAX_NODES, MAX_PORTS}
 use Rattle.config_graph.specs.declared.kind.Kind.{Kind}
 use Rattle.config_graph.specs.declared.kind.Kind.TheVariants.{Source, Buffer, Sink}
@@ -33,7 +33,7 @@ use Rattle.result_laws.proofs.ComingLaws.{at_place, facts, fits_of, folds_before
 use Rattle.result_laws.proofs.EventLaws.{led_to}
 use Rattle.result_laws.specs.Flows.{is_of_flow, one, same_side}
 pub use Rattle.result_laws.specs.UnderWay.{owed_at}
-use Rattle.result_laws.proofs.Adding.{sum_at, sums_agree}
+use Rattle.result_laws.proofs.Adding.{sum_at}
 use Rattle.result_laws.proofs.Doing.{Does, does_at, waits_never}
 use Rattle.result_laws.proofs.Linking.{AllLinked}
 use Rattle.result_laws.proofs.Giving.{given_is_gone, hands_on}
@@ -216,15 +216,15 @@ module _ (weight : ℕ → ℕ) (top far : ℕ) (wide : MAX_NODES ≤ top) (deep
           ap (λ i. is_of_flow (g i).kind) owns ∙ ap (λ (x : NodeState). is_of_flow x.kind) (old_stays handed es e here run' change (owner s.config q) own.node own.made)
 
       owed_same : all_owed weight top (es ++ e ∷ []) ≡ all_owed weight top es
-      owed_same = sums_agree (owed_at weight (es ++ e ∷ [])) (owed_at weight es) top (λ n. owed_stays handed es e here run' later change weight n)
+      owed_same = sum_same (owed_at weight (es ++ e ∷ [])) (owed_at weight es) top (λ n. owed_stays handed es e here run' later change weight n)
 
       due_same : all_due weight far (es ++ e ∷ []) ≡ all_due weight far es
-      due_same = sums_agree (due weight (es ++ e ∷ [])) (due weight es) far (λ q. due_stays weight es e here change q (port_stays q))
+      due_same = sum_same (due weight (es ++ e ∷ [])) (due weight es) far (λ q. due_stays weight es e here change q (port_stays q))
 
       calm_balance : is_make e ≡ false → all_held weight top (es ++ e ∷ []) ≡ all_sent weight top (es ++ e ∷ []) + all_owed weight top (es ++ e ∷ []) + all_due weight far (es ++ e ∷ [])
       calm_balance none_made =
-          let h = sums_agree (has (stock weight) (es ++ e ∷ [])) (has (stock weight) es) top (λ n. has_stays handed es e here run' later change (stock weight) none_made n) in
-          let n = sums_agree (has (spent weight) (es ++ e ∷ [])) (has (spent weight) es) top (λ n. has_stays handed es e here run' later change (spent weight) none_made n) in
+          let h = sum_same (has (stock weight) (es ++ e ∷ [])) (has (stock weight) es) top (λ n. has_stays handed es e here run' later change (stock weight) none_made n) in
+          let n = sum_same (has (spent weight) (es ++ e ∷ [])) (has (spent weight) es) top (λ n. has_stays handed es e here run' later change (spent weight) none_made n) in
           let o = owed_same in
           let q = due_same in
           let old = books.balance in omega (arith, h, n, o, q, old)

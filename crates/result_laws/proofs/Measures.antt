@@ -7,6 +7,7 @@ use Rattle.std.proofs.lemmas.Bool.{and_parts, both_ways, eq-eqb, eqb-true, false
 use Rattle.std.proofs.lemmas.List.Folds.{list_any-append}
 use Rattle.std.proofs.lemmas.Option.{none-some, same_Some, slice_get_within}
 use Rattle.base.proofs.OptionLaws.{map_or_true}
+use Rattle.base.proofs.SumLaws.{sum_same}
 use Rattle.config_graph.specs.declared.kind.Kind.{Kind}
 use Rattle.config_graph.specs.declared.kind.Kind.TheVariants.{Fork}
 use Rattle.config_graph.specs.declared.node.Node.{Node}
@@ -30,7 +31,7 @@ use Rattle.result_laws.specs.Coming.{HasFolds, come}
 use Rattle.result_laws.proofs.AgreeingLaws.{change_does}
 use Rattle.result_laws.proofs.ComingLaws.{facts, fits_of, folds_before, folds_stay, given_to, made_has, old_stays}
 use Rattle.result_laws.proofs.FactLaws.{Facts}
-use Rattle.result_laws.proofs.Adding.{sum_two, sums_agree}
+use Rattle.result_laws.proofs.Adding.{sum_two}
 use Rattle.result_laws.proofs.Giving.{given_is_gone, given_was_moved, hands_on}
 pub use Rattle.result_laws.specs.UnderWay.{has}
 use Rattle.result_laws.specs.UnderWay.{owed, owed_in}
@@ -179,7 +180,7 @@ module _ (handed : StatesAreHanded) (es : List Event) (k : ℕ) (made : Node) (f
 
     -- it opens with nothing
     opened : from ≡ None → Same
-    opened is = sums_agree (has measure (es ++ e ∷ [])) (has measure es) top (λ n. by n (n == last) refl)
+    opened is = sum_same (has measure (es ++ e ∷ [])) (has measure es) top (λ n. by n (n == last) refl)
       where
         by : (n : ℕ) (b : Bool) → (n == last) ≡ b → has measure (es ++ e ∷ []) n ≡ has measure es n
         by n true at =

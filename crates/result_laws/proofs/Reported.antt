@@ -5,7 +5,7 @@ use Rattle.std.specs.List.{cons_option, list_any, range_with_len}
 use Rattle.std.specs.Option.{option_map_or}
 use Rattle.std.proofs.lemmas.Bool.{both_ways}
 use Rattle.std.proofs.lemmas.List.Sums.{sum_by-cons}
-use Rattle.base.proofs.SumLaws.{sum_longer}
+use Rattle.base.proofs.SumLaws.{sum_longer, sum_both, sum_same}
 use Rattle.config_graph.specs.declared.TheConstants.{MAX_NODES}
 use Rattle.config_graph.specs.declared.kind.Kind.{Kind}
 use Rattle.config_graph.specs.declared.kind.Kind.TheVariants.{Account}
@@ -35,7 +35,6 @@ use Rattle.result_laws.specs.Banks.{AreBanks, IsBank, banks_serve_tellers}
 use Rattle.result_laws.proofs.Linking.{all_linked}
 use Rattle.result_laws.specs.Describing.{makes}
 use Rattle.result_laws.specs.Sums.{balance, gone_at, is_account, live_at, live_sum, opened_by, opened_sum, removed_sum, removes}
-use Rattle.result_laws.proofs.Adding.{sums_agree}
 use Rattle.result_laws.proofs.Books.{Books, keep_books}
 use Rattle.result_laws.proofs.ComingLaws.{fits_of}
 use Rattle.result_laws.proofs.Giving.{hands_on}
@@ -61,10 +60,6 @@ sum_change q none_ (e ∷ es) = by (is_of_change e) refl (sum_change q none_ es)
     by : (b : Bool) → is_of_change e ≡ b → sum_by q (filter is_of_change es) ≡ sum_by q es → sum_by q (filter is_of_change (e ∷ es)) ≡ sum_by q (e ∷ es)
     by true is later = rw is (sum_by-cons q e (filter is_of_change es) ∙ ap (λ x. q e + x) later ∙ sym (sum_by-cons q e es))
     by false is later = rw is (later ∙ let w = sum_by-cons q e es in let z = none_ e is in omega (arith, w, z))
-
-sum_both : {A : Type 0} (f g h : A → ℕ) → ((x : A) → f x + g x ≡ h x) → (xs : List A) → sum_by f xs + sum_by g xs ≡ sum_by h xs
-sum_both f g h same [] = omega arith
-sum_both f g h same (x ∷ xs) = let a = sum_by-cons f x xs in let b = sum_by-cons g x xs in let c = sum_by-cons h x xs in let later = sum_both f g h same xs in let here = same x in omega (arith, a, b, c, later, here)
 
 -- what a log tells of an account, live or gone
 log_tells : List HistoryLine → NodeLog → ℕ
@@ -115,7 +110,7 @@ module _ (handed : StatesAreHanded) (each_may : EachMayCommit) (by_config : Comm
 
   all_held : sum_by (holds es) (range_with_len 0 (length (state_after es).config.slots)) ≡ sum_by opened_in es
   all_held =
-      sums_agree (holds es) (λ n. books.ledger.carries n + holds es n) (length (state_after es).config.slots) (λ n. let z = carries_none n in omega (arith, z)) ∙ books.ledger.sum
+      sum_same (holds es) (λ n. books.ledger.carries n + holds es n) (length (state_after es).config.slots) (λ n. let z = carries_none n in omega (arith, z)) ∙ books.ledger.sum
 
   -- what accounts have by their books is what they have by this measure
   holds_so : (n : ℕ) → has total_of es n ≡ holds es n
@@ -151,6 +146,6 @@ module _ (handed : StatesAreHanded) (each_may : EachMayCommit) (by_config : Comm
       sum_both (live_at report.history) (gone_at report.history) (log_tells report.history) (told_both report.history) report.logs
       ∙ told_so handed statements report l is_account total_of refl balance balances_tell
       ∙ sum_longer (has total_of es) 0 size MAX_NODES (λ i past. unmade_has total_of refl es i (past_slot (state_after es).config i (omega (arith, past))))
-      ∙ sums_agree (has total_of es) (holds es) size holds_so
+      ∙ sum_same (has total_of es) (holds es) size holds_so
       ∙ all_held
       ∙ sym opened_so

@@ -11,7 +11,7 @@ use Rattle.std.proofs.lemmas.List.Sums.{sum_by-cons}
 use Rattle.base.proofs.ContainsLaws.{Contains-filter_map, Contains-here, Contains-there}
 use Rattle.base.proofs.FindLaws.{find_passes, is_some-find_from}
 use Rattle.base.proofs.OptionLaws.{Some-from_is_some}
-use Rattle.base.proofs.SumLaws.{sum_longer}
+use Rattle.base.proofs.SumLaws.{sum_longer, sum_each, sum_mapped}
 use Rattle.config_graph.specs.declared.TheConstants.{MAX_NODES}
 use Rattle.config_graph.specs.declared.kind.Kind.{Kind}
 use Rattle.config_graph.specs.declared.kind.Kind.TheVariants.{Fork}
@@ -208,14 +208,6 @@ moved_so history n = ⊎_elim
         any_passes_from_place (gives_line n) history w.0 (to.Make t.0 t.1 (Some n)) (w.2 ∙ ap Some t.2) (eq-eqb n n refl)
 
 -- ---- sums over logs
-
-pub sum_each : {A : Type 0} (f g : A → ℕ) (xs : List A) → ((x : A) → Contains xs x → f x ≡ g x) → sum_by f xs ≡ sum_by g xs
-sum_each f g [] same = refl
-sum_each f g (x ∷ xs) same = sum_by-cons f x xs ∙ (λ i. same x (Contains-here x xs) i + sum_each f g xs (λ y there. same y (Contains-there x y xs there)) i) ∙ sym (sum_by-cons g x xs)
-
-sum_mapped : {A B : Type 0} (f : A → B) (g : B → ℕ) (xs : List A) → sum_by (λ x. g (f x)) xs ≡ sum_by g (map f xs)
-sum_mapped f g [] = refl
-sum_mapped f g (x ∷ xs) = sum_by-cons (λ x. g (f x)) x xs ∙ ap (λ k. g (f x) + k) (sum_mapped f g xs) ∙ sym (sum_by-cons g (f x) (map f xs))
 
 -- ---- what a last state tells of a measure
 
