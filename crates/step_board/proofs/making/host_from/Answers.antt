@@ -14,7 +14,7 @@ host-requires-clause-opens c =
     let parts = c.into_parts-inner.ensures in
     opens_from (ghosts.state c.args.old.inner) (ghosts.state c.import.result) c.args.arg c.args.first_port _ _ _ c.args.old.hosted.folds (c.import.ensures.state ∙ ap (λ q. handed_over (ghosts.state q.0).kind c.args.arg (ghosts.state q.0).kept) parts)
     (ap (map {B = line.LineNode} (λ p. record { first = p.first_port; arg = p.arg; log = p.log.items })) c.push_reserved.ensures.items
-    ∙ map_push {B = line.LineNode} (λ p. record { first = p.first_port; arg = p.arg; log = p.log.items }) c.into_parts-inner.result.3.items _
+    ∙ map_push {Y = line.LineNode} (λ p. record { first = p.first_port; arg = p.arg; log = p.log.items }) c.into_parts-inner.result.3.items _
     ∙ ap (λ q. map {B = line.LineNode} (λ p. record { first = p.first_port; arg = p.arg; log = p.log.items }) q.3.items ++ record { first = c.args.old.first_port; arg = c.unwrap_or-old_arg.result; log = q.2.items } ∷ []) parts
     ∙ ap (λ a. map {B = line.LineNode} (λ p. record { first = p.first_port; arg = p.arg; log = p.log.items }) c.args.old.past.items ++ record { first = c.args.old.first_port; arg = a; log = c.args.old.log.items } ∷ [])
     (arg_is _ (ghosts.state c.args.old.inner) _ c.arg.ensures.arg c.unwrap_or-old_arg.ensures c.requires.old_arg))
@@ -32,7 +32,7 @@ returns-clause-past c =
     let parts = c.into_parts-inner.ensures in
     ap (λ q. map {B = Predecessor} (λ p. record { slot = p.slot; first = p.first_port; arg = p.arg; log = p.log.items }) q.items) c.host.ensures.past
     ∙ ap (map {B = Predecessor} (λ p. record { slot = p.slot; first = p.first_port; arg = p.arg; log = p.log.items })) c.push_reserved.ensures.items
-    ∙ map_push {B = Predecessor} (λ p. record { slot = p.slot; first = p.first_port; arg = p.arg; log = p.log.items }) c.into_parts-inner.result.3.items _
+    ∙ map_push {Y = Predecessor} (λ p. record { slot = p.slot; first = p.first_port; arg = p.arg; log = p.log.items }) c.into_parts-inner.result.3.items _
     ∙ ap (λ q. map {B = Predecessor} (λ p. record { slot = p.slot; first = p.first_port; arg = p.arg; log = p.log.items }) q.3.items ++ record { slot = c.args.old.slot; first = c.args.old.first_port; arg = c.unwrap_or-old_arg.result; log = q.2.items } ∷ []) parts
     ∙ ap (λ a. map {B = Predecessor} (λ p. record { slot = p.slot; first = p.first_port; arg = p.arg; log = p.log.items }) c.args.old.past.items ++ record { slot = c.args.old.slot; first = c.args.old.first_port; arg = a; log = c.args.old.log.items } ∷ [])
     (arg_is _ (ghosts.state c.args.old.inner) _ c.arg.ensures.arg c.unwrap_or-old_arg.ensures c.requires.old_arg)

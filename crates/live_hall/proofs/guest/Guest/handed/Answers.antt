@@ -19,7 +19,7 @@ host-requires-clause-opens c =
     let parts = c.into_parts-inner.ensures in
     opens_from (ghosts.state c.args.old.node.inner) (ghosts.state c.import.result) c.args.arg c.args.first_port _ _ _ c.args.old.node.hosted.folds (c.import.ensures.state ∙ ap (λ q. handed_over (ghosts.state q.0).kind c.args.arg (ghosts.state q.0).kept) parts)
     (ap (map {B = line.LineNode} (λ p. record { first = p.first_port; arg = p.arg; log = p.log.items })) c.push_reserved.ensures.items
-    ∙ map_push {B = line.LineNode} (λ p. record { first = p.first_port; arg = p.arg; log = p.log.items }) c.joined-past.result.items _
+    ∙ map_push {Y = line.LineNode} (λ p. record { first = p.first_port; arg = p.arg; log = p.log.items }) c.joined-past.result.items _
     ∙ ap (λ ps. map {B = line.LineNode} (λ p. record { first = p.first_port; arg = p.arg; log = p.log.items }) ps ++ record { first = c.args.old.node.first_port; arg = c.unwrap_or-old_arg.result; log = c.into_parts-inner.result.2.items } ∷ []) c.joined-past.ensures.items
     ∙ ap (λ q. map {B = line.LineNode} (λ p. record { first = p.first_port; arg = p.arg; log = p.log.items }) q.3.items ++ record { first = c.args.old.node.first_port; arg = c.unwrap_or-old_arg.result; log = q.2.items } ∷ []) parts
     ∙ ap (λ a. map {B = line.LineNode} (λ p. record { first = p.first_port; arg = p.arg; log = p.log.items }) c.args.old.node.past.items ++ record { first = c.args.old.node.first_port; arg = a; log = c.args.old.node.log.items } ∷ [])
@@ -38,7 +38,7 @@ returns-clause-past c =
     let parts = c.into_parts-inner.ensures in
     ap (λ v. map {B = TableId} (λ p. table_of_node p.seat) v.items) c.host.ensures.past
     ∙ ap (map {B = TableId} (λ p. table_of_node p.seat)) c.push_reserved.ensures.items
-    ∙ map_push {B = TableId} (λ p. table_of_node p.seat) c.joined-past.result.items _
+    ∙ map_push {Y = TableId} (λ p. table_of_node p.seat) c.joined-past.result.items _
     ∙ ap (λ ps. map {B = TableId} (λ p. table_of_node p.seat) ps ++ table_of_node c.into_parts-inner.result.1 ∷ []) c.joined-past.ensures.items
     ∙ ap (λ q. map {B = TableId} (λ p. table_of_node p.seat) q.3.items ++ table_of_node q.1 ∷ []) parts
 
