@@ -1,14 +1,13 @@
 -- The hint of an event that asks, and that an event which asks nothing has none.
-use Rattle.std.proofs.Common.{◌≡◌, ◌≢◌, ℕ, ◌+◌, Bool, true, false, Option, Some, None, refl, sym, ap, subst}
-use Rattle.std.specs.Prelude.{◌&&◌, List, slice_set, if◌then◌else◌}
+use Rattle.std.proofs.Common.{◌≡◌, ℕ, ◌+◌, Bool, true, false, Option, Some, None, refl, sym, ap, subst}
+use Rattle.std.specs.Prelude.{◌&&◌, List}
 use Rattle.std.proofs.lemmas.Bool.{both_ways}
 use Rattle.node_gate.specs.Answers.{IsTargetAt}
 use Rattle.node_gate.specs.Loads.{Load, LoadsAt, TellsLoads, leads_to}
-use Rattle.port_queue.specs.Inboxes.{Counts, after_post, has_room}
+use Rattle.port_queue.specs.Inboxes.{Counts}
 use Rattle.quiesce_core.specs.declared.event.Event.{Event}
 use Rattle.quiesce_core.specs.declared.event.Event.TheVariants.{Begin, Call}
 use Rattle.node_host.specs.Posting.{GateSeen, HintOf, Hinted, IsPosted, IsSent, is_asking}
-use Rattle.node_host.specs.Trying.{CountsTried}
 use Rattle.node_host.proofs.Loading.{loads_first}
 use Rattle.node_host.proofs.Replying.{index_is}
 
@@ -27,13 +26,11 @@ without_hint g first e {waiting = waiting} {waiting' = waiting'} counts told h s
 pub hint_as : (g : GateSeen) (first : ℕ) (old new : Hinted) {kept did : Event} → kept ≡ did → HintOf g first (Some did) old new → HintOf g first (Some kept) old new
 hint_as g first old new is h = subst (λ e. HintOf g first (Some e) old new) (sym is) h
 
-pub sent_at : {g : GateSeen} {first m : ℕ} {old new : Hinted} (r : ℕ) (shows : Load → Bool) (posted : Bool) → IsTargetAt g.state (first + r) m → TellsLoads (LoadsAt (first + r) (λ l. leads_to m l && shows l)) g.before g.after
-    → new.waiting ≡ slice_set old.waiting r (if posted then None else Some m) → CountsTried posted (old.counts m) (new.counts m) → ((held : List ℕ) → old.told m ≡ Some held → posted ≡ has_room held)
-    → ((held : List ℕ) → old.told m ≡ Some held → new.told m ≡ Some (after_post held (first + r))) → ((other : ℕ) → other ≢ m → new.counts other ≡ old.counts other)
-    → ((other : ℕ) → other ≢ m → new.told other ≡ old.told other) → IsSent g first (first + r) old new
-sent_at {g = g} {first = first} {m = m} {old = old} {new = new} r shows posted leads loads waits tried full put counts told = record {
+pub sent_at : {g : GateSeen} {first m : ℕ} {old new : Hinted} (r : ℕ) (shows : Load → Bool) → IsTargetAt g.state (first + r) m → TellsLoads (LoadsAt (first + r) (λ l. leads_to m l && shows l)) g.before g.after
+    → IsPosted first r m old new → IsSent g first (first + r) old new
+sent_at {g = g} {first = first} {m = m} {old = old} {new = new} r shows leads loads posted = record {
   target = m;
   leads = leads;
   loaded = loads_first (first + r) (leads_to m) shows g.before g.after loads;
-  posted = subst (λ k. IsPosted first k m old new) (sym (index_is first r)) (record { posted = posted; waits = waits; tried = tried; full = full; put = put; counts = counts; told = told });
+  posted = subst (λ k. IsPosted first k m old new) (sym (index_is first r)) posted;
 }

@@ -1,5 +1,5 @@
 -- When a node can act at a gate, and what an act of it there does.
-use Rattle.std.specs.Prelude.{◌≡◌, ◌≢◌, ◌<◌, Option, length, vec_capacity}
+use Rattle.std.specs.Prelude.{◌≡◌, ◌≢◌, ◌<◌, ℕ, List, Option, length, vec_capacity}
 use Rattle.component_trait.specs.States.{NodeState}
 use Rattle.component_trait.specs.declared.component.Component.{Ghosts as ComponentWords}
 use Rattle.node_gate.specs.Loads.{Loads, TellsLoads}
@@ -14,6 +14,9 @@ use Rattle.node_host.specs.Moved.{Moved}
 use Rattle.node_host.specs.Posting.{GateSeen, Hinted}
 use Rattle.node_host.specs.Told.{FitsToldState}
 use Rattle.node_host.specs.declared.node.HostNode.{HostNode}
+
+abbrev pub hinted_by : {H : Type 0} → HintWords H → H → List (Option ℕ) → Hinted
+hinted_by words hints waiting = record { waiting = waiting; counts = words.counts hints; told = words.tells hints }
 
 module _ {C S : Type 0} {component : ComponentWords C} {seats : SeatWords S} where
   abbrev pub state_of : HostNode C S component seats → NodeState
@@ -30,7 +33,7 @@ module _ {C S : Type 0} {component : ComponentWords C} {seats : SeatWords S} whe
   LoadsSo P h h' = TellsLoads P (seats.loads h.seat) (seats.loads h'.seat)
 
   abbrev pub hinted : {H : Type 0} → HintWords H → H → HostNode C S component seats → Hinted
-  hinted words hints h = record { waiting = h.waiting; counts = words.counts hints; told = words.tells hints }
+  hinted words hints h = hinted_by words hints h.waiting
 
   module _ {G : Type 0} (words : GateWords G S) where
     -- its seat fits the gate, which knows it as this node; its log has room for an event

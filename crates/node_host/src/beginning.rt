@@ -1,14 +1,11 @@
 //! A node's last move: it begins what it wants.
 
-ghost use Rattle.std.specs.Prelude.{◌≡◌, ◌<◌, slice_index_or, None, Some, if◌then◌else◌, true, false};
+ghost use Rattle.std.specs.Prelude.{◌≡◌, slice_index_or, Some, true};
 ghost use Rattle.component_trait.specs.Bounds.{FitsRequest};
 ghost use Rattle.component_trait.specs.Moves as moves;
-ghost use Rattle.node_host.specs.Acts.{Acts, CanAct, LoadsSo, TellsState, gate_seen, hinted};
-ghost use Rattle.node_host.specs.Posting.{HintOf};
+ghost use Rattle.node_host.specs.Acts.{CanAct};
+ghost use Rattle.node_host.specs.Moves.{Begins};
 ghost use Rattle.quiesce_core.specs.Knowledge.{port_at_start};
-ghost use Rattle.quiesce_core.specs.State.{State};
-ghost use Rattle.node_turn_laws.specs.Turn.{begins};
-ghost use Rattle.node_host.specs.Tried.{CannotBegin, Keeps, is_begin, is_move};
 
 use crate::ending::port_known;
 use crate::keeping::{keep, seats_have_places};
@@ -32,16 +29,7 @@ impl<C: Component + Drop, S: GateSeat + Drop> HostNode<C, S> {
         requires fits_ask { FitsRequest (C.state self.old.inner).kind ask }
         requires idle { (slice_index_or self.old.known.ports ask.require port_at_start).idle ≡ true }
         requires can { CanAct G.PortGate gate.old self.old }
-        ensures acts { Acts G.PortGate gate.old gate.new self.old self.new result }
-        ensures hint { HintOf (gate_seen G.PortGate gate.old self.old self.new) self.old.first_port result
-            (hinted H.Hints hints.old self.old) (hinted H.Hints hints.new self.new) }
-        ensures quiet { result ≡ None → (hints.new ≡ hints.old) × (self.new.waiting ≡ self.old.waiting) }
-        ensures exact { (s : State) → TellsState G.PortGate gate.old self.old s
-            → result ≡ begins s self.old.slot (C.state self.old.inner) }
-        ensures number { is_move 4 result ≡ true }
-        ensures loads { LoadsSo (Keeps 4 self.old.first_port self.old.known) self.old self.new }
-        ensures tried { result ≡ None → CannotBegin self.old.first_port (C.state self.old.inner) self.old.known
-            (S.loads self.old.seat) (S.loads self.new.seat) }
+        ensures { Begins G.PortGate H.Hints true gate.old gate.new self.old self.new hints.old hints.new result }
     {
         seats_have_places(gate, &self.seat);
         let port = self.first_port + ask.require;
@@ -76,16 +64,7 @@ impl<C: Component + Drop, S: GateSeat + Drop> HostNode<C, S> {
         requires wanted { moves.wants (C.state self.old.inner) ≡ Some ask }
         requires fits_ask { FitsRequest (C.state self.old.inner).kind ask }
         requires can { CanAct G.PortGate gate.old self.old }
-        ensures acts { Acts G.PortGate gate.old gate.new self.old self.new result }
-        ensures hint { HintOf (gate_seen G.PortGate gate.old self.old self.new) self.old.first_port result
-            (hinted H.Hints hints.old self.old) (hinted H.Hints hints.new self.new) }
-        ensures quiet { result ≡ None → (hints.new ≡ hints.old) × (self.new.waiting ≡ self.old.waiting) }
-        ensures exact { (s : State) → TellsState G.PortGate gate.old self.old s
-            → result ≡ begins s self.old.slot (C.state self.old.inner) }
-        ensures number { is_move 4 result ≡ true }
-        ensures loads { LoadsSo (Keeps 4 self.old.first_port self.old.known) self.old self.new }
-        ensures tried { result ≡ None → CannotBegin self.old.first_port (C.state self.old.inner) self.old.known
-            (S.loads self.old.seat) (S.loads self.new.seat) }
+        ensures { Begins G.PortGate H.Hints true gate.old gate.new self.old self.new hints.old hints.new result }
     {
         seats_have_places(gate, &self.seat);
         if !port_known(&self.known, ask.require).idle {
@@ -103,16 +82,7 @@ impl<C: Component + Drop, S: GateSeat + Drop> HostNode<C, S> {
         hints: &mut H,
     ) -> Option<NodeEvent>
         requires can { CanAct G.PortGate gate.old self.old }
-        ensures acts { Acts G.PortGate gate.old gate.new self.old self.new result }
-        ensures hint { HintOf (gate_seen G.PortGate gate.old self.old self.new) self.old.first_port result
-            (hinted H.Hints hints.old self.old) (hinted H.Hints hints.new self.new) }
-        ensures quiet { result ≡ None → (hints.new ≡ hints.old) × (self.new.waiting ≡ self.old.waiting) }
-        ensures exact { (s : State) → TellsState G.PortGate gate.old self.old s
-            → result ≡ begins s self.old.slot (C.state self.old.inner) }
-        ensures number { is_move 4 result ≡ true }
-        ensures loads { LoadsSo (Keeps 4 self.old.first_port self.old.known) self.old self.new }
-        ensures tried { result ≡ None → CannotBegin self.old.first_port (C.state self.old.inner) self.old.known
-            (S.loads self.old.seat) (S.loads self.new.seat) }
+        ensures { Begins G.PortGate H.Hints true gate.old gate.new self.old self.new hints.old hints.new result }
     {
         match self.inner.wants() {
             None => None,
@@ -129,17 +99,7 @@ impl<C: Component + Drop, S: GateSeat + Drop> HostNode<C, S> {
         allowed: bool,
     ) -> Option<NodeEvent>
         requires can { CanAct G.PortGate gate.old self.old }
-        ensures acts { Acts G.PortGate gate.old gate.new self.old self.new result }
-        ensures hint { HintOf (gate_seen G.PortGate gate.old self.old self.new) self.old.first_port result
-            (hinted H.Hints hints.old self.old) (hinted H.Hints hints.new self.new) }
-        ensures quiet { result ≡ None → (hints.new ≡ hints.old) × (self.new.waiting ≡ self.old.waiting) }
-        ensures exact { (s : State) → TellsState G.PortGate gate.old self.old s
-            → result ≡ (if allowed then begins s self.old.slot (C.state self.old.inner) else None) }
-        ensures number { is_move 4 result ≡ true }
-        ensures loads { LoadsSo (Keeps 4 self.old.first_port self.old.known) self.old self.new }
-        ensures tried { result ≡ None → allowed ≡ true → CannotBegin self.old.first_port (C.state self.old.inner)
-            self.old.known (S.loads self.old.seat) (S.loads self.new.seat) }
-        ensures no_begin { allowed ≡ false → is_begin result ≡ false }
+        ensures { Begins G.PortGate H.Hints allowed gate.old gate.new self.old self.new hints.old hints.new result }
     {
         if allowed {
             self.begin_wanted(gate, hints)

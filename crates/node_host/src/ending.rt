@@ -1,18 +1,15 @@
 //! A node's first move: it ends, or replies in, a transaction at the lowest of its ports at which a reply stands.
 
-ghost use Rattle.std.specs.Prelude.{◌≡◌, ℕ, ◌+◌, ◌<◌, true, false, length, slice_index_or, None, Some};
+ghost use Rattle.std.specs.Prelude.{◌≡◌, ℕ, ◌+◌, ◌<◌, true, false, length, slice_index_or, Some};
 ghost use Rattle.config_graph.specs.Kinds.{row};
 ghost use Rattle.component_trait.specs.Fold.{after_event};
 ghost use Rattle.config_graph.specs.declared.TheConstants.{VALUE_LIMIT};
-ghost use Rattle.node_host.specs.Acts.{Acts, CanAct, LoadsSo, TellsState};
-ghost use Rattle.node_host.specs.Moves.{Replies};
-ghost use Rattle.node_host.specs.Posting.{is_asking};
+ghost use Rattle.node_host.specs.Acts.{Acts, CanAct};
+ghost use Rattle.node_host.specs.Moves.{IsByRule, IsSilent, Replies, RepliesAt};
 ghost use Rattle.node_host.specs.Told.{reply_at};
 ghost use Rattle.quiesce_core.specs.Knowledge.{port_at_start};
-ghost use Rattle.quiesce_core.specs.State.{State};
 ghost use Rattle.quiesce_core.specs.declared.event.Event.TheVariants as event;
 ghost use Rattle.node_turn_laws.specs.Agreement.{expects};
-ghost use Rattle.node_host.specs.Tried.{HasNoReply, LoadsPort, is_reply_at};
 
 use crate::keeping::{keep, seats_have_places};
 use crate::node::HostNode;
@@ -56,16 +53,10 @@ impl<C: Component + Drop, S: GateSeat + Drop> HostNode<C, S> {
         requires require { require < length (row (C.state self.old.inner).kind).requires_ }
         requires busy { (slice_index_or self.old.known.ports require port_at_start).idle ≡ false }
         ensures acts { Acts G.PortGate gate.old gate.new self.old self.new result }
-        ensures waiting { self.new.waiting ≡ self.old.waiting }
-        ensures room { result ≡ None → (self.new.log ≡ self.old.log) × (self.new.inner ≡ self.old.inner) }
-        ensures asks_nothing { is_asking result ≡ false }
-        ensures exact { (s : State) → TellsState G.PortGate gate.old self.old s
-            → result ≡ reply_at s (C.state self.old.inner) (self.old.first_port + require) }
-        ensures known { result ≡ None → self.new.known ≡ self.old.known }
-        ensures replies { is_reply_at (self.old.first_port + require) result ≡ true }
-        ensures loads { LoadsSo (LoadsPort (self.old.first_port + require)) self.old self.new }
-        ensures no_reply { result ≡ None
-            → HasNoReply self.old.first_port self.old.known require (S.loads self.old.seat) (S.loads self.new.seat) }
+        ensures silent { IsSilent self.old self.new result }
+        ensures exact { IsByRule G.PortGate (λ s. reply_at s (C.state self.old.inner) (self.old.first_port + require))
+            gate.old self.old result }
+        ensures replies { RepliesAt require self.old self.new result }
     {
         seats_have_places(gate, &self.seat);
         let known = port_known(&self.known, require);
@@ -103,16 +94,10 @@ impl<C: Component + Drop, S: GateSeat + Drop> HostNode<C, S> {
         requires can { CanAct G.PortGate gate.old self.old }
         requires require { require < length (row (C.state self.old.inner).kind).requires_ }
         ensures acts { Acts G.PortGate gate.old gate.new self.old self.new result }
-        ensures waiting { self.new.waiting ≡ self.old.waiting }
-        ensures room { result ≡ None → (self.new.log ≡ self.old.log) × (self.new.inner ≡ self.old.inner) }
-        ensures asks_nothing { is_asking result ≡ false }
-        ensures exact { (s : State) → TellsState G.PortGate gate.old self.old s
-            → result ≡ reply_at s (C.state self.old.inner) (self.old.first_port + require) }
-        ensures known { result ≡ None → self.new.known ≡ self.old.known }
-        ensures replies { is_reply_at (self.old.first_port + require) result ≡ true }
-        ensures loads { LoadsSo (LoadsPort (self.old.first_port + require)) self.old self.new }
-        ensures no_reply { result ≡ None
-            → HasNoReply self.old.first_port self.old.known require (S.loads self.old.seat) (S.loads self.new.seat) }
+        ensures silent { IsSilent self.old self.new result }
+        ensures exact { IsByRule G.PortGate (λ s. reply_at s (C.state self.old.inner) (self.old.first_port + require))
+            gate.old self.old result }
+        ensures replies { RepliesAt require self.old self.new result }
     {
         seats_have_places(gate, &self.seat);
         if port_known(&self.known, require).idle {
@@ -127,9 +112,7 @@ impl<C: Component + Drop, S: GateSeat + Drop> HostNode<C, S> {
         requires can { CanAct G.PortGate gate.old self.old }
         requires two { length (row (C.state self.old.inner).kind).requires_ ≡ 2 }
         ensures acts { Acts G.PortGate gate.old gate.new self.old self.new result }
-        ensures waiting { self.new.waiting ≡ self.old.waiting }
-        ensures room { result ≡ None → (self.new.log ≡ self.old.log) × (self.new.inner ≡ self.old.inner) }
-        ensures asks_nothing { is_asking result ≡ false }
+        ensures silent { IsSilent self.old self.new result }
         ensures replies { Replies G.PortGate gate.old self.old self.new result }
     {
         match self.reply_at(gate, 0) {
@@ -142,9 +125,7 @@ impl<C: Component + Drop, S: GateSeat + Drop> HostNode<C, S> {
     pub(crate) fn end_or_ask<G: PortGate<Seat = S>>(&mut self, gate: &mut G) -> Option<NodeEvent>
         requires can { CanAct G.PortGate gate.old self.old }
         ensures acts { Acts G.PortGate gate.old gate.new self.old self.new result }
-        ensures waiting { self.new.waiting ≡ self.old.waiting }
-        ensures room { result ≡ None → (self.new.log ≡ self.old.log) × (self.new.inner ≡ self.old.inner) }
-        ensures asks_nothing { is_asking result ≡ false }
+        ensures silent { IsSilent self.old self.new result }
         ensures replies { Replies G.PortGate gate.old self.old self.new result }
     {
         match self.inner.kind().requires_() {

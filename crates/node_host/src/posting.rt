@@ -1,50 +1,41 @@
 //! Hints for other nodes, and those that wait because an inbox was full.
 
-ghost use Rattle.std.specs.Prelude.{◌≡◌, ◌≢◌, ℕ, ◌+◌, ◌<◌, List, None, Some, slice_index_or, slice_set, if◌then◌else◌};
+ghost use Rattle.std.specs.Prelude.{◌≡◌, ◌≢◌, ℕ, ◌+◌, ◌<◌, List, None, Some, slice_index_or};
 ghost use Rattle.base.specs.Count.{Rose};
 ghost use Rattle.config_graph.specs.declared.TheConstants.{MAX_NODES, MAX_PORTS};
-ghost use Rattle.port_queue.specs.Inboxes.{after_post, has_room};
-ghost use Rattle.node_host.specs.Acts.{hinted};
-ghost use Rattle.node_host.specs.Posting.{PostsWaiting, Reposted};
-ghost use Rattle.node_host.specs.Trying.{CountsTried, IsGrown, own_box, own_post};
+ghost use Rattle.node_host.specs.Acts.{hinted, hinted_by};
+ghost use Rattle.node_host.specs.Moves.{IsSameButWaiting};
+ghost use Rattle.node_host.specs.Posting.{IsPosted, PostsWaiting, Reposted};
+ghost use Rattle.node_host.specs.Trying.{IsGrown, own_box, own_post};
 
 use crate::node::HostNode;
 use component_trait::Component;
 use node_gate::GateSeat;
 use port_queue::Hints;
 
-/// Posts the hint for a node at the port of one requirement; where that node's inbox is full, it waits. The answer
-/// says whether it was posted.
+/// Posts the hint for a node at the port of one requirement; where that node's inbox is full, it waits.
 pub(crate) fn post<H: Hints>(
     waiting: &mut [Option<u32>; 2],
     hints: &mut H,
     first_port: u32,
     require: u32,
     node: u32,
-) -> bool
+)
     requires require { require < 2 }
     requires port { first_port + require < MAX_PORTS }
     requires node { node < MAX_NODES }
-    ensures waiting { waiting.new ≡ slice_set waiting.old require (if result then None else Some node) }
-    ensures counts { CountsTried result (H.counts hints.old node) (H.counts hints.new node) }
-    ensures full { (held : List ℕ) → H.tells hints.old node ≡ Some held → result ≡ has_room held }
-    ensures posted { (held : List ℕ) → H.tells hints.old node ≡ Some held
-        → H.tells hints.new node ≡ Some (after_post held (first_port + require)) }
-    ensures others { (other : ℕ) → other ≢ node → H.counts hints.new other ≡ H.counts hints.old other }
-    ensures other_inboxes { (other : ℕ) → other ≢ node → H.tells hints.new other ≡ H.tells hints.old other }
+    ensures { IsPosted first_port require node (hinted_by H.Hints hints.old waiting.old)
+        (hinted_by H.Hints hints.new waiting.new) }
 {
     let posted = hints.post(node, first_port + require).is_ok();
     waiting[require as usize] = if posted { None } else { Some(node) };
-    posted
 }
 
 impl<C: Component + Drop, S: GateSeat + Drop> HostNode<C, S> {
     /// Posts the hint that waits at one requirement, if one does.
     fn post_at<H: Hints>(&mut self, hints: &mut H, require: u32)
         requires { require < 2 }
-        ensures same { (self.new.inner ≡ self.old.inner) × (self.new.seat ≡ self.old.seat)
-            × (self.new.log ≡ self.old.log) × (self.new.past ≡ self.old.past) × (self.new.known ≡ self.old.known) }
-        ensures place { (self.new.slot ≡ self.old.slot) × (self.new.first_port ≡ self.old.first_port) }
+        ensures same { IsSameButWaiting self.old self.new }
         ensures reposted { Reposted (slice_index_or self.old.waiting require None) self.old.first_port require
             (hinted H.Hints hints.old self.old) (hinted H.Hints hints.new self.new) }
         ensures own { (held : List ℕ) → H.tells hints.old self.old.slot ≡ Some held
@@ -67,9 +58,7 @@ impl<C: Component + Drop, S: GateSeat + Drop> HostNode<C, S> {
 
     /// Posts its waiting hints, by port. Those that find a full inbox go on waiting.
     pub(crate) fn post_waiting<H: Hints>(&mut self, hints: &mut H)
-        ensures same { (self.new.inner ≡ self.old.inner) × (self.new.seat ≡ self.old.seat)
-            × (self.new.log ≡ self.old.log) × (self.new.past ≡ self.old.past) × (self.new.known ≡ self.old.known) }
-        ensures place { (self.new.slot ≡ self.old.slot) × (self.new.first_port ≡ self.old.first_port) }
+        ensures same { IsSameButWaiting self.old self.new }
         ensures posted { PostsWaiting self.old.first_port
             (hinted H.Hints hints.old self.old) (hinted H.Hints hints.new self.new) }
         ensures own { (held : List ℕ) → H.tells hints.old self.old.slot ≡ Some held → H.tells hints.new self.old.slot

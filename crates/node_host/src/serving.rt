@@ -6,13 +6,12 @@ ghost use Rattle.component_trait.specs.Bounds.{FitsRequest};
 ghost use Rattle.component_trait.specs.Moves as moves;
 ghost use Rattle.component_trait.specs.declared.next.Next.TheVariants as next;
 ghost use Rattle.config_graph.specs.declared.TheConstants.{VALUE_LIMIT};
-ghost use Rattle.node_host.specs.Acts.{Acts, CanAct, LoadsSo, TellsState, gate_seen, hinted};
-ghost use Rattle.node_host.specs.Posting.{HintOf, is_asking};
+ghost use Rattle.node_host.specs.Acts.{Acts, CanAct, LoadsSo};
 ghost use Rattle.node_host.specs.Awaiting.{awaits};
-ghost use Rattle.quiesce_core.specs.State.{State};
+ghost use Rattle.node_host.specs.Moves.{GoesOnIn, HintsOf, IsByRule, IsMove, IsSilent, Serves};
 ghost use Rattle.quiesce_core.specs.declared.event.Event.TheVariants as event;
-ghost use Rattle.node_turn_laws.specs.Turn.{calls, does_next, hears, serves};
-ghost use Rattle.node_host.specs.Tried.{IsHeld, Keeps, is_move, shows_in_more};
+ghost use Rattle.node_turn_laws.specs.Turn.{calls, does_next, hears};
+ghost use Rattle.node_host.specs.Tried.{shows_in_more};
 ghost use Rattle.node_gate.specs.Loads.{IsLed};
 
 use crate::keeping::{keep, seats_have_places};
@@ -39,14 +38,9 @@ impl<C: Component + Drop, S: GateSeat + Drop> HostNode<C, S> {
         requires waits { served.heard ≡ false }
         requires can { CanAct G.PortGate gate.old self.old }
         ensures acts { Acts G.PortGate gate.old gate.new self.old self.new result }
-        ensures room { result ≡ None → (self.new.log ≡ self.old.log) × (self.new.inner ≡ self.old.inner) }
-        ensures waiting { self.new.waiting ≡ self.old.waiting }
-        ensures asks_nothing { is_asking result ≡ false }
-        ensures exact { (s : State) → TellsState G.PortGate gate.old self.old s
-            → result ≡ hears s served.port }
-        ensures known { result ≡ None → self.new.known ≡ self.old.known }
-        ensures number { is_move 2 result ≡ true }
-        ensures loads { LoadsSo (Keeps 2 self.old.first_port self.old.known) self.old self.new }
+        ensures silent { IsSilent self.old self.new result }
+        ensures exact { IsByRule G.PortGate (λ s. hears s served.port) gate.old self.old result }
+        ensures moved { IsMove 2 self.old self.new result }
         ensures unheard { result ≡ None
             → LoadsSo (λ a b. IsLed served.port shows_in_more a.steps b.steps b.hear) self.old self.new }
     {
@@ -74,18 +68,16 @@ impl<C: Component + Drop, S: GateSeat + Drop> HostNode<C, S> {
         served: Served,
         value: u32,
     ) -> Option<NodeEvent>
-        requires served { self.old.known.service ≡ Some served }
-        requires heard { served.heard ≡ true }
-        requires ended { awaits self.old.known ≡ false }
+        requires serving { GoesOnIn served self.old }
         requires gives { moves.next (C.state self.old.inner) ≡ Some (next.Give value) }
         requires small { value < VALUE_LIMIT }
         requires can { CanAct G.PortGate gate.old self.old }
         ensures acts { Acts G.PortGate gate.old gate.new self.old self.new result }
-        ensures waiting { self.new.waiting ≡ self.old.waiting }
+        ensures silent { IsSilent self.old self.new result }
         ensures event { result ≡ Some (event.Give served.port served.serial value) }
-        ensures exact { (s : State) → TellsState G.PortGate gate.old self.old s
-            → result ≡ does_next s self.old.first_port served.port (next.Give value) }
-        ensures loads { LoadsSo (Keeps 2 self.old.first_port self.old.known) self.old self.new }
+        ensures exact { IsByRule G.PortGate (λ s. does_next s self.old.first_port served.port (next.Give value))
+            gate.old self.old result }
+        ensures moved { IsMove 2 self.old self.new result }
     {
         seats_have_places(gate, &self.seat);
         let port = served.port;
@@ -107,18 +99,16 @@ impl<C: Component + Drop, S: GateSeat + Drop> HostNode<C, S> {
         served: Served,
         value: u32,
     ) -> Option<NodeEvent>
-        requires served { self.old.known.service ≡ Some served }
-        requires heard { served.heard ≡ true }
-        requires ended { awaits self.old.known ≡ false }
+        requires serving { GoesOnIn served self.old }
         requires sends { moves.next (C.state self.old.inner) ≡ Some (next.More value) }
         requires small { value < VALUE_LIMIT }
         requires can { CanAct G.PortGate gate.old self.old }
         ensures acts { Acts G.PortGate gate.old gate.new self.old self.new result }
-        ensures waiting { self.new.waiting ≡ self.old.waiting }
+        ensures silent { IsSilent self.old self.new result }
         ensures event { result ≡ Some (event.More served.port served.serial value) }
-        ensures exact { (s : State) → TellsState G.PortGate gate.old self.old s
-            → result ≡ does_next s self.old.first_port served.port (next.More value) }
-        ensures loads { LoadsSo (Keeps 2 self.old.first_port self.old.known) self.old self.new }
+        ensures exact { IsByRule G.PortGate (λ s. does_next s self.old.first_port served.port (next.More value))
+            gate.old self.old result }
+        ensures moved { IsMove 2 self.old self.new result }
     {
         seats_have_places(gate, &self.seat);
         let port = served.port;
@@ -141,20 +131,16 @@ impl<C: Component + Drop, S: GateSeat + Drop> HostNode<C, S> {
         served: Served,
         ask: Ask,
     ) -> Option<NodeEvent>
-        requires served { self.old.known.service ≡ Some served }
-        requires heard { served.heard ≡ true }
-        requires ended { awaits self.old.known ≡ false }
+        requires serving { GoesOnIn served self.old }
         requires asks { moves.next (C.state self.old.inner) ≡ Some (next.Ask ask) }
         requires depends { depends_on (C.state self.old.inner).kind 0 ask.require ≡ true }
         requires fits_ask { FitsRequest (C.state self.old.inner).kind ask }
         requires can { CanAct G.PortGate gate.old self.old }
         ensures acts { Acts G.PortGate gate.old gate.new self.old self.new result }
-        ensures hint { HintOf (gate_seen G.PortGate gate.old self.old self.new) self.old.first_port result
-            (hinted H.Hints hints.old self.old) (hinted H.Hints hints.new self.new) }
-        ensures exact { (s : State) → TellsState G.PortGate gate.old self.old s
-            → result ≡ calls s (self.old.first_port + ask.require) ask.value }
-        ensures number { is_move 2 result ≡ true }
-        ensures loads { LoadsSo (Keeps 2 self.old.first_port self.old.known) self.old self.new }
+        ensures hints { HintsOf G.PortGate H.Hints gate.old self.old self.new hints.old hints.new result }
+        ensures exact { IsByRule G.PortGate (λ s. calls s (self.old.first_port + ask.require) ask.value)
+            gate.old self.old result }
+        ensures moved { IsMove 2 self.old self.new result }
         ensures some { is_some result ≡ true }
     {
         seats_have_places(gate, &self.seat);
@@ -192,17 +178,13 @@ impl<C: Component + Drop, S: GateSeat + Drop> HostNode<C, S> {
         hints: &mut H,
         served: Served,
     ) -> Option<NodeEvent>
-        requires served { self.old.known.service ≡ Some served }
-        requires heard { served.heard ≡ true }
-        requires ended { awaits self.old.known ≡ false }
+        requires serving { GoesOnIn served self.old }
         requires can { CanAct G.PortGate gate.old self.old }
         ensures acts { Acts G.PortGate gate.old gate.new self.old self.new result }
-        ensures hint { HintOf (gate_seen G.PortGate gate.old self.old self.new) self.old.first_port result
-            (hinted H.Hints hints.old self.old) (hinted H.Hints hints.new self.new) }
-        ensures exact { (s : State) → TellsState G.PortGate gate.old self.old s → result
-            ≡ option_and_then (does_next s self.old.first_port served.port) (moves.next (C.state self.old.inner)) }
-        ensures number { is_move 2 result ≡ true }
-        ensures loads { LoadsSo (Keeps 2 self.old.first_port self.old.known) self.old self.new }
+        ensures hints { HintsOf G.PortGate H.Hints gate.old self.old self.new hints.old hints.new result }
+        ensures exact { IsByRule G.PortGate (λ s. option_and_then (does_next s self.old.first_port served.port)
+            (moves.next (C.state self.old.inner))) gate.old self.old result }
+        ensures moved { IsMove 2 self.old self.new result }
         ensures some { is_some result ≡ true }
     {
         match self.inner.next() {
@@ -222,18 +204,7 @@ impl<C: Component + Drop, S: GateSeat + Drop> HostNode<C, S> {
         requires served { self.old.known.service ≡ Some served }
         requires ended { awaits self.old.known ≡ false }
         requires can { CanAct G.PortGate gate.old self.old }
-        ensures acts { Acts G.PortGate gate.old gate.new self.old self.new result }
-        ensures room { result ≡ None → (self.new.log ≡ self.old.log) × (self.new.inner ≡ self.old.inner) }
-        ensures hint { HintOf (gate_seen G.PortGate gate.old self.old self.new) self.old.first_port result
-            (hinted H.Hints hints.old self.old) (hinted H.Hints hints.new self.new) }
-        ensures quiet { result ≡ None → (hints.new ≡ hints.old) × (self.new.waiting ≡ self.old.waiting) }
-        ensures exact { (s : State) → TellsState G.PortGate gate.old self.old s
-            → result ≡ serves s self.old.slot (C.state self.old.inner) }
-        ensures known { result ≡ None → self.new.known ≡ self.old.known }
-        ensures number { is_move 2 result ≡ true }
-        ensures loads { LoadsSo (Keeps 2 self.old.first_port self.old.known) self.old self.new }
-        ensures held { result ≡ None
-            → IsHeld self.old.known (Some served) (S.loads self.old.seat) (S.loads self.new.seat) }
+        ensures { Serves G.PortGate H.Hints (Some served) gate.old gate.new self.old self.new hints.old hints.new result }
     {
         if served.heard {
             self.go_on(gate, hints, served)
@@ -249,18 +220,8 @@ impl<C: Component + Drop, S: GateSeat + Drop> HostNode<C, S> {
         hints: &mut H,
     ) -> Option<NodeEvent>
         requires can { CanAct G.PortGate gate.old self.old }
-        ensures acts { Acts G.PortGate gate.old gate.new self.old self.new result }
-        ensures room { result ≡ None → (self.new.log ≡ self.old.log) × (self.new.inner ≡ self.old.inner) }
-        ensures hint { HintOf (gate_seen G.PortGate gate.old self.old self.new) self.old.first_port result
-            (hinted H.Hints hints.old self.old) (hinted H.Hints hints.new self.new) }
-        ensures quiet { result ≡ None → (hints.new ≡ hints.old) × (self.new.waiting ≡ self.old.waiting) }
-        ensures exact { (s : State) → TellsState G.PortGate gate.old self.old s
-            → result ≡ serves s self.old.slot (C.state self.old.inner) }
-        ensures known { result ≡ None → self.new.known ≡ self.old.known }
-        ensures number { is_move 2 result ≡ true }
-        ensures loads { LoadsSo (Keeps 2 self.old.first_port self.old.known) self.old self.new }
-        ensures held { result ≡ None
-            → IsHeld self.old.known self.old.known.service (S.loads self.old.seat) (S.loads self.new.seat) }
+        ensures { Serves G.PortGate H.Hints self.old.known.service gate.old gate.new self.old self.new hints.old hints.new
+            result }
     {
         if awaits_call(&self.known) {
             return None;

@@ -1,14 +1,12 @@
 //! A node's third move: it takes up the request at the next hint.
 
-ghost use Rattle.std.specs.Prelude.{◌≡◌, ◌≢◌, false, ℕ, ◌<◌, ◌∷◌, List, None, Some, true};
+ghost use Rattle.std.specs.Prelude.{◌≡◌, ℕ, ◌<◌, ◌∷◌, List, None};
 ghost use Rattle.config_graph.specs.declared.TheConstants.{MAX_PORTS};
-ghost use Rattle.node_host.specs.Acts.{Acts, CanAct, LoadsSo, TellsState, hinted};
-ghost use Rattle.node_host.specs.Trying.{LookedAt};
-ghost use Rattle.node_host.specs.Posting.{IsLooked, is_asking};
-ghost use Rattle.port_queue.specs.Inboxes.{after_next};
-ghost use Rattle.quiesce_core.specs.State.{State};
+ghost use Rattle.node_host.specs.Acts.{Acts, CanAct, LoadsSo, hinted};
+ghost use Rattle.node_host.specs.Moves.{IsByInboxRule, IsByRule, IsMove, IsSilent};
+ghost use Rattle.node_host.specs.Posting.{IsLooked};
 ghost use Rattle.node_turn_laws.specs.Turn.{takes};
-ghost use Rattle.node_host.specs.Tried.{HasNoRequest, Keeps, is_move, is_stale_for};
+ghost use Rattle.node_host.specs.Tried.{HasNoRequest, is_stale_for};
 ghost use Rattle.node_gate.specs.Loads.{IsLed};
 
 use crate::keeping::{keep, seats_have_places};
@@ -26,14 +24,10 @@ impl<C: Component + Drop, S: GateSeat + Drop> HostNode<C, S> {
         requires has_room { C.has_room self.old.inner }
         requires free { (C.state self.old.inner).service ≡ None }
         ensures acts { Acts G.PortGate gate.old gate.new self.old self.new result }
-        ensures waiting { self.new.waiting ≡ self.old.waiting }
-        ensures room { result ≡ None → (self.new.log ≡ self.old.log) × (self.new.inner ≡ self.old.inner) }
-        ensures asks_nothing { is_asking result ≡ false }
-        ensures exact { (s : State) (later : List ℕ) → TellsState G.PortGate gate.old self.old s
-            → result ≡ takes s self.old.slot (port ∷ later) }
-        ensures known { result ≡ None → self.new.known ≡ self.old.known }
-        ensures number { is_move 3 result ≡ true }
-        ensures loads { LoadsSo (Keeps 3 self.old.first_port self.old.known) self.old self.new }
+        ensures silent { IsSilent self.old self.new result }
+        ensures exact { (later : List ℕ) → IsByRule G.PortGate (λ s. takes s self.old.slot (port ∷ later))
+            gate.old self.old result }
+        ensures moved { IsMove 3 self.old self.new result }
         ensures stale { result ≡ None
             → LoadsSo (λ a b. IsLed port (is_stale_for self.old.slot) a.steps b.steps b.take) self.old self.new }
     {
@@ -58,7 +52,6 @@ impl<C: Component + Drop, S: GateSeat + Drop> HostNode<C, S> {
 
     /// Takes the next hint, and the request up that waits at its port for this node. Only a node that is in no
     /// service does so.
-    #[tactic(auto, using(crate::proofs::Asked::looked))]
     pub(crate) fn take_next<G: PortGate<Seat = S>, H: Hints>(
         &mut self,
         gate: &mut G,
@@ -68,20 +61,11 @@ impl<C: Component + Drop, S: GateSeat + Drop> HostNode<C, S> {
         requires has_room { C.has_room self.old.inner }
         requires free { (C.state self.old.inner).service ≡ None }
         ensures acts { Acts G.PortGate gate.old gate.new self.old self.new result }
-        ensures waiting { self.new.waiting ≡ self.old.waiting }
-        ensures room { result ≡ None → (self.new.log ≡ self.old.log) × (self.new.inner ≡ self.old.inner) }
         ensures looks { IsLooked self.old.slot (hinted H.Hints hints.old self.old) (hinted H.Hints hints.new self.new) }
-        ensures looked { LookedAt (H.counts hints.old self.old.slot) (H.counts hints.new self.old.slot) }
-        ensures taken { (held : List ℕ) → H.tells hints.old self.old.slot ≡ Some held
-            → H.tells hints.new self.old.slot ≡ Some (after_next held) }
-        ensures counts { (other : ℕ) → other ≢ self.old.slot → H.counts hints.new other ≡ H.counts hints.old other }
-        ensures inboxes { (other : ℕ) → other ≢ self.old.slot → H.tells hints.new other ≡ H.tells hints.old other }
-        ensures asks_nothing { is_asking result ≡ false }
-        ensures exact { (s : State) (held : List ℕ) → TellsState G.PortGate gate.old self.old s
-            → H.tells hints.old self.old.slot ≡ Some held → result ≡ takes s self.old.slot held }
-        ensures known { result ≡ None → self.new.known ≡ self.old.known }
-        ensures number { is_move 3 result ≡ true }
-        ensures loads { LoadsSo (Keeps 3 self.old.first_port self.old.known) self.old self.new }
+        ensures silent { IsSilent self.old self.new result }
+        ensures exact { IsByInboxRule G.PortGate H.Hints (λ s held. takes s self.old.slot held) gate.old hints.old
+            self.old result }
+        ensures moved { IsMove 3 self.old self.new result }
         ensures tried { result ≡ None → HasNoRequest self.old.slot (H.counts hints.old self.old.slot)
             (H.counts hints.new self.old.slot) (S.loads self.old.seat) (S.loads self.new.seat) }
     {

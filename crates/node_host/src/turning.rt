@@ -1,15 +1,15 @@
 //! A node's turn.
 
 ghost use Rattle.std.specs.Prelude.{◌≡◌, ℕ, ◌+◌, ◌<◌, false, List, length, vec_capacity, None, Some, OnOk, OnErr, Ok};
-ghost use Rattle.node_host.specs.Acts.{Acts, TellsState, gate_seen, hinted, node_at};
+ghost use Rattle.node_host.specs.Acts.{Acts, TellsState, node_at};
 ghost use Rattle.node_host.specs.Moved.{Moved};
-ghost use Rattle.node_host.specs.Posting.{IsHinted};
+ghost use Rattle.node_host.specs.Moves.{PostsAndSendsBy, TriedAll};
 ghost use Rattle.node_host.specs.Turning.{event_of};
 ghost use Rattle.node_host.specs.declared.turning.Turn.TheVariants as turn;
 ghost use Rattle.node_host.specs.Trying.{IsAsked, own_box};
 ghost use Rattle.quiesce_core.specs.State.{State};
 ghost use Rattle.node_turn_laws.specs.Turn.{looks, move_of};
-ghost use Rattle.node_host.specs.Tried.{IsTried, is_begin};
+ghost use Rattle.node_host.specs.Tried.{is_begin};
 
 use crate::node::HostNode;
 use component_trait::Component;
@@ -57,13 +57,12 @@ impl<C: Component + Drop, S: GateSeat + Drop> HostNode<C, S> {
         ensures exact { (s : State) (held : List ℕ) → TellsState G.PortGate gate.old self.old s
             → H.tells hints.old self.old.slot ≡ Some held → OnOk result (event_of result ≡ move_of s self.old.slot
             (C.state self.old.inner) (own_box self.old.slot self.old.first_port self.old.waiting held) begins) }
-        ensures hints { OnOk result (IsHinted (gate_seen G.PortGate gate.old self.old self.new) (node_at self.old)
-            (S.known self.old.seat) (λ s. looks s self.old.slot (C.state self.old.inner)) (event_of result)
-            (hinted H.Hints hints.old self.old) (hinted H.Hints hints.new self.new)) }
+        ensures hints { OnOk result (PostsAndSendsBy G.PortGate H.Hints
+            (λ s. looks s self.old.slot (C.state self.old.inner)) gate.old self.old self.new hints.old hints.new
+            (event_of result)) }
         ensures looked { result ≡ Ok turn.Still → (C.state self.old.inner).service ≡ None
             → IsAsked (H.counts hints.old self.old.slot) (H.counts hints.new self.old.slot) }
-        ensures tried { OnOk result (IsTried (node_at self.old) (C.state self.old.inner) self.old.known begins
-            (event_of result) (S.loads self.old.seat) (S.loads self.new.seat)) }
+        ensures tried { OnOk result (TriedAll begins self.old self.new (event_of result)) }
         ensures no_begin { begins ≡ false → is_begin (event_of result) ≡ false }
     {
         reserve(&mut self.log)?;

@@ -41,28 +41,36 @@ went g c =
 
 pub invariant_of-self-2-clause-hosted : goal.invariant_of-self-2-clause-hosted
 invariant_of-self-2-clause-hosted g c =
-    hosted_waiting (went g (goal.at.invariant_of-self-2-clause-hosted g c).After-keep-event).hosted c.post.result c.post.ensures.waiting c.requires.fits_ask.require c.in-Begun.ensures.says.1
+    hosted_waiting (went g (goal.at.invariant_of-self-2-clause-hosted g c).After-keep-event).hosted c.post.ensures.posted c.post.ensures.waits c.requires.fits_ask.require c.in-Begun.ensures.says.1
 
-pub returns-clause-acts : goal.returns-clause-acts
-returns-clause-acts g c = let w = went g (goal.at.returns-clause-acts g c).After-keep-event in search (rules, w.node, w.moved)
+pub returns : goal.returns
+returns g c =
+    let w = went g (goal.at.returns g c).After-keep-event in
+    record {
+      acts = search (rules, w.node, w.moved);
+      moved = search rules;
+      hints = record {
+        hint =
+            hint_as _ _ _ _ c.keep-event.ensures.event
+            (sent_at c.args.ask.require (is_begun c.in-Begun.serial) c.in-Begun.ensures.says.2 c.in-Begun.ensures.loads c.post.ensures);
+        quiet = search rules;
+      };
+      exact = λ s told. ap Some w.is ∙ begins_begun told c.args.ask (state_of c.args.self.now) c.in-Begun.serial _ c.requires.wanted w.led;
+      tried = search rules;
+      no_begin = search rules;
+    }
 
-pub returns-clause-exact : goal.returns-clause-exact
-returns-clause-exact g c =
-    let w = went g (goal.at.returns-clause-exact g c).After-keep-event in
-    λ s told. ap Some w.is ∙ begins_begun told c.args.ask (state_of c.args.self.now) c.in-Begun.serial _ c.requires.wanted w.led
-
-pub returns-clause-hint : goal.returns-clause-hint
-returns-clause-hint g c =
-    hint_as _ _ _ _ c.keep-event.ensures.event
-    (sent_at c.args.ask.require (is_begun c.in-Begun.serial) c.post.result c.in-Begun.ensures.says.2 c.in-Begun.ensures.loads c.post.ensures.waiting c.post.ensures.counts c.post.ensures.full c.post.ensures.posted c.post.ensures.others c.post.ensures.other_inboxes)
-
-pub returns-in_default-clause-exact : goal.returns-in_default-clause-exact
-returns-in_default-clause-exact g c = λ s told. begins_refused told c.args.ask (state_of c.args.self.now) c.begin.result c.in_default.not-Begun c.requires.wanted c.begin.ensures.says
-
-pub returns-in_default-clause-tried : goal.returns-in_default-clause-tried
-returns-in_default-clause-tried g c =
+pub returns-in_default : goal.returns-in_default
+returns-in_default g c =
     let h = c.args.self.now in
     let a = g.S.GateSeat.loads h.seat in
     let b = g.S.GateSeat.loads c.begin.new.seat in
-    λ none_ x wants. inr (subst (λ (y : Ask). TellsLoads (IsLoaded (h.first_port + y.require) bars_begin) a b) (same_Some c.args.ask x (sym c.requires.wanted ∙ wants))
-    (loads_bar (g.G.PortGate.state c.args.gate.now) (h.first_port + c.args.ask.require) c.begin.result a b c.in_default.not-Begun c.begin.ensures.says c.begin.ensures.loads))
+    record {
+      acts = search rules;
+      moved = search rules;
+      hints = search rules;
+      exact = λ s told. begins_refused told c.args.ask (state_of h) c.begin.result c.in_default.not-Begun c.requires.wanted c.begin.ensures.says;
+      tried = λ none_ may x wants. inr (subst (λ (y : Ask). TellsLoads (IsLoaded (h.first_port + y.require) bars_begin) a b) (same_Some c.args.ask x (sym c.requires.wanted ∙ wants))
+          (loads_bar (g.G.PortGate.state c.args.gate.now) (h.first_port + c.args.ask.require) c.begin.result a b c.in_default.not-Begun c.begin.ensures.says c.begin.ensures.loads));
+      no_begin = search rules;
+    }

@@ -9,7 +9,7 @@ use Rattle.node_host.proofs.node.HostNode.give.Goals as goal
 use Rattle.node_host.proofs.node.HostNode.give.Goals.{After-keep}
 
 pub give-requires-clause-may : goal.give-requires-clause-may
-give-requires-clause-may g c = may_give c.args.self.now.hosted c.args.served c.requires.served c.requires.heard c.requires.ended c.args.value c.requires.small
+give-requires-clause-may g c = may_give c.args.self.now.hosted c.args.served c.requires.serving.served c.requires.serving.heard c.requires.serving.ended c.args.value c.requires.small
 
 pub given-requires : goal.given-requires
 given-requires g c = record { gave = (c.args.value, c.requires.gives) }
@@ -18,7 +18,7 @@ went : (g : Over) (c : After-keep g) → GoesOn g.G.PortGate c.args.gate.now c.g
 went g c =
     let h = c.args.self.now in
     goes_on (c.give.ensures.node ∙ c.requires.can.node) (g.met.G.PortGate.within c.give.new.self c.give.new.seat c.give.ensures.fits).1
-    (did_by c.requires.can.node (ap (λ k. event.Give c.args.served.port k c.args.value ∷ []) (serial_is h.hosted c.args.served c.requires.served)) c.give.ensures.does)
+    (did_by c.requires.can.node (ap (λ k. event.Give c.args.served.port k c.args.value ∷ []) (serial_is h.hosted c.args.served c.requires.serving.served)) c.give.ensures.does)
     tt (give_folds h.first_port c.args.served.port c.args.served.serial c.args.value (state_of h) _ c.requires.gives c.given.ensures.state) c.keep.ensures.event c.keep.ensures.logged c.keep.ensures.known
 
 pub invariant_of-self-clause-hosted : goal.invariant_of-self-clause-hosted

@@ -17,7 +17,7 @@ returns-then-is_some-clause-looks g c =
     let serves = sym c.is_some.ensures ∙ c.if-is_some.true in
     record {
       looked = λ none_ free. absurd (both_ways (is_some h.known.service) (ap is_some (free_known h.hosted free)) serves);
-      sent = sent_unasked (is_none-is_some h.known.service ∙ ap not serves) c.begin_if.ensures.hint;
+      sent = sent_unasked (is_none-is_some h.known.service ∙ ap not serves) c.begin_if.ensures.hints.hint;
       passed = search rules;
       loads = search rules;
       tried = c.begin_if.ensures.tried;

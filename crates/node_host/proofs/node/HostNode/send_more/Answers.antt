@@ -14,11 +14,11 @@ pub more-requires-clause-may : goal.more-requires-clause-may
 more-requires-clause-may g c =
     let h = c.args.self.now in
     subst (λ m. MaySendMore m (g.S.GateSeat.known h.seat) c.args.served.port c.args.value) (sym c.requires.can.node)
-    (may_send h.hosted c.args.served c.requires.served c.requires.heard c.requires.ended c.args.value c.requires.sends c.requires.small)
+    (may_send h.hosted c.args.served c.requires.serving.served c.requires.serving.heard c.requires.serving.ended c.args.value c.requires.sends c.requires.small)
 
 pub keep-requires-clause-count : goal.keep-requires-clause-count
 keep-requires-clause-count g c =
-    can_send c.args.self.now.hosted c.args.served c.requires.served c.requires.heard c.requires.ended c.args.served.port c.args.served.serial c.args.value c.requires.sends
+    can_send c.args.self.now.hosted c.args.served c.requires.serving.served c.requires.serving.heard c.requires.serving.ended c.args.served.port c.args.served.serial c.args.value c.requires.sends
 
 pub more_given-requires : goal.more_given-requires
 more_given-requires g c = record { sent = (c.args.value, c.requires.sends) }
@@ -27,8 +27,8 @@ went : (g : Over) (c : After-keep g) → GoesOn g.G.PortGate c.args.gate.now c.m
 went g c =
     let h = c.args.self.now in
     goes_on (c.more.ensures.node ∙ c.requires.can.node) (g.met.G.PortGate.within c.more.new.self c.more.new.seat c.more.ensures.fits).1
-    (did_by c.requires.can.node (ap (λ k. event.More c.args.served.port k c.args.value ∷ []) (serial_is h.hosted c.args.served c.requires.served)) c.more.ensures.does)
-    (no_call h.hosted c.requires.ended) (more_folds h.first_port c.args.served.port c.args.served.serial c.args.value (state_of h) _ c.requires.sends c.more_given.ensures.state) c.keep.ensures.event c.keep.ensures.logged c.keep.ensures.known
+    (did_by c.requires.can.node (ap (λ k. event.More c.args.served.port k c.args.value ∷ []) (serial_is h.hosted c.args.served c.requires.serving.served)) c.more.ensures.does)
+    (no_call h.hosted c.requires.serving.ended) (more_folds h.first_port c.args.served.port c.args.served.serial c.args.value (state_of h) _ c.requires.sends c.more_given.ensures.state) c.keep.ensures.event c.keep.ensures.logged c.keep.ensures.known
 
 pub invariant_of-self-clause-hosted : goal.invariant_of-self-clause-hosted
 invariant_of-self-clause-hosted g c = (went g (goal.at.invariant_of-self-clause-hosted g c).After-keep).hosted

@@ -40,7 +40,7 @@ pub returns-in-Stale-clause-acts : goal.returns-in-Stale-clause-acts
 returns-in-Stale-clause-acts g c = let w = still g (goal.at.returns-in-Stale-clause-acts g c).In-Stale in search (rules, w.moved)
 
 pub returns-in-Stale-clause-exact : goal.returns-in-Stale-clause-exact
-returns-in-Stale-clause-exact g c = λ s later told.
+returns-in-Stale-clause-exact g c = λ later s told.
     takes_stale told c.args.port c.in-Stale.word later
     (subst (λ m. TakeSays (g.G.PortGate.state c.args.gate.now) m c.args.port (take.Stale c.in-Stale.word)) c.requires.can.node c.in-Stale.ensures.says)
 
@@ -53,4 +53,4 @@ returns-in-Taken-clause-acts g c = let w = went g (goal.at.returns-in-Taken-clau
 pub returns-in-Taken-clause-exact : goal.returns-in-Taken-clause-exact
 returns-in-Taken-clause-exact g c =
     let w = went g (goal.at.returns-in-Taken-clause-exact g c).After-keep in
-    λ s later told. ap Some w.is ∙ takes_taken told c.args.port c.in-Taken.serial c.in-Taken.value later _ w.led
+    λ later s told. ap Some w.is ∙ takes_taken told c.args.port c.in-Taken.serial c.in-Taken.value later _ w.led

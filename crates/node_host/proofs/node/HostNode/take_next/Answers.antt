@@ -7,4 +7,4 @@ pub returns-in-None-clause-exact : goal.returns-in-None-clause-exact
 returns-in-None-clause-exact g c = λ s held told telling. takes_nothing told held (sym (c.in-None.ensures.front held telling))
 
 pub returns-in-Some-clause-exact : goal.returns-in-Some-clause-exact
-returns-in-Some-clause-exact g c = λ s held told telling. takes_front told held (c.in-Some.ensures.front held telling) (λ later. c.take_at.ensures.exact s later told)
+returns-in-Some-clause-exact g c = λ s held told telling. takes_front told held (c.in-Some.ensures.front held telling) (λ later. c.take_at.ensures.exact later s told)

@@ -8,7 +8,7 @@ use Rattle.node_host.proofs.node.HostNode.take_or_begin.Goals as goal
 
 pub returns-in-Some-clause-looks : goal.returns-in-Some-clause-looks
 returns-in-Some-clause-looks g c =
-    let sent = sent_taken {g = gate_seen g.G.PortGate c.args.gate.now c.args.self.now c.take_next.new.self} {first = c.args.self.now.first_port} c.in-Some.ensures.looks c.in-Some.ensures.number c.in-Some.ensures.asks_nothing in
+    let sent = sent_taken {g = gate_seen g.G.PortGate c.args.gate.now c.args.self.now c.take_next.new.self} {first = c.args.self.now.first_port} c.in-Some.ensures.looks c.in-Some.ensures.moved.number c.in-Some.ensures.silent.asks_nothing in
     search (rules, sent)
 
 pub returns-in-None-clause-looks : goal.returns-in-None-clause-looks
@@ -21,16 +21,16 @@ returns-in-None-clause-looks g c =
     let d = g.S.GateSeat.loads k.seat in
     let between : Hinted = hinted g.H.Hints c.take_next.new.hints m in
     let new : Hinted = hinted g.H.Hints c.begin_if.new.hints k in
-    let steps = keeps_steps 3 h.first_port h.known a b c.in-None.ensures.loads in
+    let steps = keeps_steps 3 h.first_port h.known a b c.in-None.ensures.moved.loads in
     record {
       looked = search rules;
       sent = record {
         between = between;
         looked = c.in-None.ensures.looks;
-        request = λ asked passed. request_kept h.slot m.first_port m.known (g.H.Hints.counts c.args.hints.now h.slot) (g.H.Hints.counts c.take_next.new.hints h.slot) a b d c.begin_if.ensures.loads (c.in-None.ensures.tried refl);
+        request = λ asked passed. request_kept h.slot m.first_port m.known (g.H.Hints.counts c.args.hints.now h.slot) (g.H.Hints.counts c.take_next.new.hints h.slot) a b d c.begin_if.ensures.moved.loads (c.in-None.ensures.tried refl);
         sent =
             hint_since (g.G.PortGate.state c.args.gate.now) a b d h.first_port c.begin_if.result between new steps
-            (as_before c.in-None.ensures.acts (λ slot first t w seat o. HintOf (record { state = o; before = b; after = d }) first c.begin_if.result between new) c.begin_if.ensures.hint);
+            (as_before c.in-None.ensures.acts (λ slot first t w seat o. HintOf (record { state = o; before = b; after = d }) first c.begin_if.result between new) c.begin_if.ensures.hints.hint);
       };
       passed = search rules;
       loads = search rules;
