@@ -1,9 +1,9 @@
 -- What the parts of a roll wait for: each drains within what is left, and where that is no more than each may wait for
 -- when the first begins, none is given up.
-use Rattle.std.proofs.Common.{◌≡◌, ◌∙◌, ℕ, ℤ, ◌+◌, ◌≤◌, Bool, true, false, cond, List, [], ◌∷◌, ◌++◌, length, map, Option, Some, None, refl, sym, ap, subst, arith}
-use Rattle.std.specs.Prelude.{◌||◌, All, drop, take}
+use Rattle.std.proofs.Common.{◌≡◌, ◌∙◌, ℕ, ℤ, ◌+◌, ◌≤◌, false, cond, List, [], ◌∷◌, ◌++◌, map, Option, Some, None, refl, sym, ap, subst, arith}
+use Rattle.std.specs.Prelude.{All, take}
 use Rattle.std.specs.List.{list_any}
-use Rattle.std.proofs.lemmas.Bool.{both_ways, or_parts}
+use Rattle.std.proofs.lemmas.Bool.{or_parts}
 use Rattle.std.proofs.lemmas.List.Elements.{All-cons, All-nil}
 use Rattle.std.proofs.lemmas.List.Folds.{list_any-append}
 use Rattle.base.specs.Each.{Each}
@@ -11,10 +11,8 @@ use Rattle.base.proofs.PlaceLaws.{heads_are, tails_are}
 use Rattle.config_graph.specs.Graph.{Graph}
 use Rattle.quiesce_core.specs.Rest.{rest}
 use Rattle.quiesce_laws.specs.Starts.{start_of}
-use Rattle.report_types.specs.declared.report.HistoryLine.{HistoryLine}
 use Rattle.report_types.specs.declared.report.HistoryLine.TheVariants as to
 use Rattle.report_types.specs.declared.report.Report.{Report}
-use Rattle.change_spec.specs.Follows.{start_lines}
 use Rattle.change_spec.specs.Members.{is_pending, lines_of_events}
 use Rattle.change_spec.specs.Serial.{IsPlayed, Played, Plays, Serial, lines_played, world_after}
 use Rattle.change_spec.specs.Statements.{Statement, change, run, start}

@@ -28,8 +28,8 @@ use Rattle.report_types.specs.declared.report.HistoryLine.{HistoryLine}
 use Rattle.report_types.specs.declared.report.HistoryLine.TheVariants as to
 use Rattle.change_spec.specs.Changes.{commit_lines, drained_lines, opening_lines, pending_lines, seen_in_all}
 use Rattle.change_spec.specs.Members.{is_pending, lines_of_events}
-use Rattle.change_spec.specs.Scene.{Seen, drained_line}
-use Rattle.change_spec.specs.Serial.{ChangesTo, IsPlayed, Looks, Played, Plays, after_changes, end_events, end_lines, is_none_left, lines_played, looks_after, seen_at, world_after}
+use Rattle.change_spec.specs.Scene.{drained_line}
+use Rattle.change_spec.specs.Serial.{ChangesTo, IsPlayed, Looks, Played, Plays, after_changes, end_events, end_lines, lines_played, looks_after, seen_at, world_after}
 use Rattle.change_spec.specs.Statements.{Statement, start, change, run, finish, show}
 use Rattle.change_spec.proofs.SerialLaws.{changed_world}
 use Rattle.node_turn_laws.specs.Posted.{ArePosted}

@@ -1,5 +1,5 @@
 -- When the report of a run is one that can be written and read again: what is asked of the statements, which a script
--- gives, and of the numbers that no law bounds.
+-- gives, and of numbers, which those of a run meet.
 use Rattle.std.specs.Prelude.{◌≡◌, ◌<◌, ◌^◌, ⊤, ℕ, ℤ, true, List, Some}
 use Rattle.std.specs.List.{AllByRecursion}
 use Rattle.cfg_io.specs.Shelf.{Files}
@@ -40,7 +40,7 @@ IsStated show = ⊤
 abbrev pub AreStated : List Statement → Type 0
 AreStated statements = AllByRecursion IsStated statements
 
--- the numbers that no law bounds: of the transactions that a run ended, and of last states
+-- the numbers that no form of a line bounds: of the transactions that a run ended, and of last states
 abbrev pub CountFits : HistoryLine → Type 0
 CountFits (history.Run k done) = done < 2 ^ 64
 CountFits _ = ⊤

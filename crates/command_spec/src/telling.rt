@@ -35,7 +35,7 @@ use report_texts::{a_written_report_is_read, one_report_or_one_fault};
 /// A law: a consistent report of stated statements is one that can be written and read again, so its text tells it.
 /// The statements of a script are stated, since names and paths are words of the language. So the report of a run, in
 /// rounds or on threads, is read again from its text. That the counts of `run` lines and the numbers of last states are
-/// below 2^64 is asked for, since no law bounds them: they are numbers of that type in the program.
+/// below 2^64 is asked for here; a law of result_laws says so of each run (`numbers_of_runs_fit`).
 pub fn runs_tell_their_reports()
     ensures consistent { (statements : List Statement) (report : Report) → TellsItself statements report }
     ensures stated { (files : Option Files) (bytes : List ℕ) (script : Script) (statements : List Statement)
@@ -60,8 +60,7 @@ pub fn runs_tell_their_reports()
 
 /// A law of runs: a check of the report that `step` or `live` wrote for the same script, where each file is still as it
 /// was then, says that the report is consistent. It ends with Ok, unless memory ran out or the sink failed, where nothing
-/// refuses the script and a report may have so many bytes. The numbers that no law bounds are to fit, as in
-/// [`runs_tell_their_reports`].
+/// refuses the script and a report may have so many bytes. Its numbers are to fit, as in [`runs_tell_their_reports`].
 pub fn a_check_of_what_was_run_is_consistent()
     ensures judged { (schedule : Schedule) (before after : Files) (name file : List ℕ) (own verdict : Status)
         (also u : Option (List ℕ)) → (ran : WasRunBy schedule (Some before) name own)
