@@ -3,6 +3,7 @@
 
 #[cfg(test)]
 mod call_rows;
+#[cfg(test)]
 mod exchanges;
 #[cfg(test)]
 mod further_rows;
@@ -12,15 +13,13 @@ mod gate_rows;
 mod replacing;
 #[cfg(test)]
 mod row_systems;
+#[cfg(test)]
 mod seated;
+#[cfg(test)]
 mod systems;
 #[cfg(test)]
 mod thread_rows;
 #[cfg(test)]
 mod turn_rows;
+#[cfg(test)]
 mod unfit;
-
-pub use exchanges::{Tally, alone, initiate, serve};
-pub use seated::Seated;
-pub use systems::pipe;
-pub use unfit::{Unfit, Unmade};

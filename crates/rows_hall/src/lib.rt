@@ -4,8 +4,7 @@
 
 #[cfg(test)]
 mod door_rows;
+#[cfg(test)]
 mod guests;
 #[cfg(test)]
 mod hand_rows;
-
-pub use guests::sink;

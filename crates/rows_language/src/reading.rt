@@ -3,13 +3,11 @@
 ghost use Rattle.std.specs.Prelude.{◌≤◌, length};
 ghost use Rattle.darwin_lexer.specs.declared.lexing.TheConstants.{MAX_TEXT};
 
-use base::Text;
 use darwin_lexer::{MAX_TEXT, Token, lex};
 use darwin_parser::{Unit, parse};
 use darwin_types::{Checked, check};
 use std::alloc::Global;
 use std::process::Abort;
-use std::str;
 
 /// The tokens of a text.
 pub fn tokens_of(rt: &impl Abort, alloc: Global, text: &[u8]) -> Vec<Token>
@@ -37,9 +35,4 @@ pub fn checked_of(rt: &impl Abort, alloc: Global, text: &[u8]) -> Checked {
         Ok(checked) => checked,
         Err(_) => panic!(rt; "a description has a fault"),
     }
-}
-
-/// A name or a path, as a row has it.
-pub fn word(text: &Text) -> &str {
-    str::from_utf8(text.as_bytes()).unwrap_or("?")
 }

@@ -10,22 +10,27 @@ use running::run_row;
 use std::{fs, io};
 
 /// A file of rows for each subject.
-const SUBJECTS: [&str; 16] = [
+const SUBJECTS: [&str; 21] = [
     "banks.txt",
     "big.txt",
+    "bindings.txt",
     "check.txt",
+    "depths.txt",
+    "events.txt",
     "fetches.txt",
     "flat.txt",
     "guide.txt",
     "limits.txt",
     "lines.txt",
     "long.txt",
+    "names.txt",
     "parts.txt",
     "plan.txt",
     "replay.txt",
     "rounds.txt",
     "scripts.txt",
     "upgrade.txt",
+    "values.txt",
     "words.txt",
 ];
 

@@ -34,12 +34,11 @@ fn words_of(alloc: Global, row: &str) -> Result<Vec<String>, AllocError> {
     Ok(words)
 }
 
-/// The files of a row, and the fetches that fail.
+/// The files of a row.
 fn shelf_of(alloc: Global, shared: &str, row: &str) -> Result<MemShelf, AllocError> {
     let mut shelf = MemShelf::new(alloc);
     add_files(alloc, &mut shelf, shared)?;
     add_files(alloc, &mut shelf, row)?;
-    fail_fetches(&mut shelf, row)?;
     Ok(shelf)
 }
 
@@ -56,19 +55,16 @@ fn push_next(text: &mut String, shelf: &mut MemShelf, row: &str) -> Result<(), A
 
 /// What comes of a row: its name, the status, and the text as the row has it shown.
 pub fn run_row(alloc: Global, shared: &str, row: &str) -> Result<String, AllocError> {
-    let name = row.split("\n").next().unwrap_or("");
-    let words = words_of(alloc, row)?;
+    let (name, lines) = row.split_once("\n").unwrap_or((row, ""));
+    let words = words_of(alloc, lines)?;
     let mut shelf = shelf_of(alloc, shared, row)?;
-    let room = value_of(row, "room").map_or(AMPLE, number);
+    fail_fetches(&mut shelf, lines)?;
+    let room = value_of(lines, "room").map_or(AMPLE, number);
     let mut sink = MemSink::new(alloc, room)?;
     let status = still(alloc, words.as_slice(), &mut shelf, &mut sink);
     let mut shown = format!(in alloc; "row {name}\nstatus {}\n", status.number())?;
-    push_next(&mut shown, &mut shelf, row)?;
-    push_shown(
-        alloc,
-        &mut shown,
-        row,
-        str::from_utf8(sink.bytes()).unwrap_or("?"),
-    )?;
+    push_next(&mut shown, &mut shelf, lines)?;
+    let text = str::from_utf8(sink.bytes()).unwrap_or("?");
+    push_shown(alloc, &mut shown, lines, text)?;
     Ok(shown)
 }
