@@ -136,16 +136,16 @@ small_serve k a ends s v low x = by k
 
 -- ---- an event of a node
 
-abbrev count_of : Event → ℕ
-count_of e = cond (ends_transaction e) 1 0
+abbrev ends_in : Event → ℕ
+ends_in e = cond (ends_transaction e) 1 0
 
-small_event : (first : ℕ) (n m : NodeState) (e : Event) (ends : ℕ) → ((p k v : ℕ) → e ≡ Take p k v → v < 2 ^ 64) → after_event first n e ≡ Some m → Small ends n.kept → Small (ends + count_of e) m.kept
+small_event : (first : ℕ) (n m : NodeState) (e : Event) (ends : ℕ) → ((p k v : ℕ) → e ≡ Take p k v → v < 2 ^ 64) → after_event first n e ≡ Some m → Small ends n.kept → Small (ends + ends_in e) m.kept
 small_event first n m e ends low led x = by e refl led
   where
     stays : (b : Bool) (t : NodeState) → Rattle.component_trait.specs.Fold.where_so b t ≡ Some m → t.kept ≡ n.kept → Small (ends + 0) m.kept
     stays b t h same = subst (λ s. Small (ends + 0) s) (sym same ∙ ap (λ (y : NodeState). y.kept) (where_so_then b t m h).1) (later_small ends (ends + 0) n.kept (omega arith) x)
 
-    by : (z : Event) → e ≡ z → after_event first n z ≡ Some m → Small (ends + count_of z) m.kept
+    by : (z : Event) → e ≡ z → after_event first n z ≡ Some m → Small (ends + ends_in z) m.kept
     by (Begin p k v) at h = stays _ n h refl
     by (Call p k v) at h = stays _ n h refl
     by (Ask p k v) at h = stays _ n h refl
@@ -172,7 +172,7 @@ ended es = count_by ends_transaction es
 abbrev pub AllSmall : List Event → Type 0
 AllSmall es = (n : ℕ) → Small (ended es) (come es n).kept
 
-ended_next : (es : List Event) (e : Event) → ended (es ++ e ∷ []) ≡ ended es + count_of e
+ended_next : (es : List Event) (e : Event) → ended (es ++ e ∷ []) ≡ ended es + ends_in e
 ended_next es e = count_by-append ends_transaction es (e ∷ []) ∙ ap (λ n. ended es + n) (count_by-one ends_transaction e)
 
 module _ (handed : StatesAreHanded) (es : List Event) (e : Event) (here : IsNext es e) (run' : IsRun (es ++ e ∷ [])) (later : HasFolds (es ++ e ∷ [])) (was : AllSmall es) where

@@ -9,6 +9,7 @@ use Rattle.base.specs.Each.{Each}
 use Rattle.base.proofs.ContainsLaws.{Contains-filter, Contains-from_filter_map, Contains-here, Contains-there}
 use Rattle.base.proofs.EachLaws.{each_at, each_weaker}
 use Rattle.base.proofs.MapLaws.{count_by-append}
+use Rattle.base.proofs.AllLaws.{all_contained}
 use Rattle.component_trait.specs.States.{NodeState}
 use Rattle.quiesce_core.specs.declared.event.Event.{Event}
 use Rattle.report_types.specs.declared.report.HistoryLine.{HistoryLine}
@@ -31,10 +32,6 @@ use Rattle.result_laws.proofs.Bounds.{Small, all_small, ended, few_end, numbers_
 use Rattle.result_laws.proofs.Told.{log_folds}
 
 -- ---- lists
-
-all_by : {A : Type 0} (P : A → Type 0) (xs : List A) → ((x : A) → Contains xs x → P x) → AllByRecursion P xs
-all_by P [] h = tt
-all_by P (x ∷ xs) h = (h x (Contains-here x xs), all_by P xs (λ y there. h y (Contains-there x y xs there)))
 
 record At {A : Type 0} (xs : List A) (x : A) : Type 0 where
   before : List A
@@ -77,7 +74,7 @@ module _ (statements : List Statement) (report : Report) (l : Lawful statements 
       omega (arith, whole, parts, all, front, done, enough, few)
 
   pub counts_fit : AllByRecursion CountFits report.history
-  counts_fit = all_by CountFits report.history (λ x there. by x there)
+  counts_fit = all_contained CountFits report.history (λ x there. by x there)
     where
       by : (x : HistoryLine) → Contains report.history x → CountFits x
       by (to.Run k n) there = few_ended k n there
@@ -87,7 +84,7 @@ module _ (statements : List Statement) (report : Report) (l : Lawful statements 
 
 module _ (handed : StatesAreHanded) (statements : List Statement) (report : Report) (l : Lawful statements report) where
   pub states_fit : AllByRecursion (λ (x : NodeLog). StateFits x.last) report.logs
-  states_fit = all_by (λ (x : NodeLog). StateFits x.last) report.logs (λ x there. by x (fold_of_node es x.slot) refl (moved_to report.history x.slot) x.last (All-contains (IsFolded l.members report.history) report.logs x l.by_them.folds there))
+  states_fit = all_contained (λ (x : NodeLog). StateFits x.last) report.logs (λ x there. by x (fold_of_node es x.slot) refl (moved_to report.history x.slot) x.last (All-contains (IsFolded l.members report.history) report.logs x l.by_them.folds there))
     where
       es : List Event
       es = events l.members

@@ -213,16 +213,16 @@ words_of : (before : Graph) (ps : List Part) → HaveWordPaths before ps → Has
 words_of before [] words = words
 words_of before (p ∷ ps) words = words.0
 
-split : (number : ℕ) (t rest ys : List ℕ) → (part_line number ++ t ++ rest) ++ ys ≡ part_line number ++ (t ++ (rest ++ ys))
-split number t rest ys = append_assoc (part_line number ++ t) rest ys ∙ append_assoc (part_line number) t (rest ++ ys)
+part_split : (number : ℕ) (t rest ys : List ℕ) → (part_line number ++ t ++ rest) ++ ys ≡ part_line number ++ (t ++ (rest ++ ys))
+part_split number t rest ys = append_assoc (part_line number ++ t) rest ys ∙ append_assoc (part_line number) t (rest ++ ys)
 
 same_plans : (number : ℕ) (a b : Graph) (ps qs : List Part) (xs ys : List ℕ) → HaveWordPaths a ps → HaveWordPaths b qs → EndsParts xs → EndsParts ys
     → parts_text_from number a ps ++ xs ≡ parts_text_from number b qs ++ ys → plan_texts a ps ≡ plan_texts b qs
 same_plans number a b [] [] xs ys u v end_x end_y same = refl
 same_plans number a b [] (q ∷ qs) xs ys u v end_x end_y same =
-    absurd (end_x.no_part number (plan_text b q.next q.plan ++ (parts_text_from (suc number) q.next qs ++ ys)) (same ∙ split number (plan_text b q.next q.plan) (parts_text_from (suc number) q.next qs) ys))
+    absurd (end_x.no_part number (plan_text b q.next q.plan ++ (parts_text_from (suc number) q.next qs ++ ys)) (same ∙ part_split number (plan_text b q.next q.plan) (parts_text_from (suc number) q.next qs) ys))
 same_plans number a b (p ∷ ps) [] xs ys u v end_x end_y same =
-    absurd (end_y.no_part number (plan_text a p.next p.plan ++ (parts_text_from (suc number) p.next ps ++ xs)) (sym same ∙ split number (plan_text a p.next p.plan) (parts_text_from (suc number) p.next ps) xs))
+    absurd (end_y.no_part number (plan_text a p.next p.plan ++ (parts_text_from (suc number) p.next ps ++ xs)) (sym same ∙ part_split number (plan_text a p.next p.plan) (parts_text_from (suc number) p.next ps) xs))
 same_plans number a b (p ∷ ps) (q ∷ qs) xs ys u v end_x end_y same =
     let one_ = plan_text a p.next p.plan in
     let two_ = plan_text b q.next q.plan in
@@ -230,7 +230,7 @@ same_plans number a b (p ∷ ps) (q ∷ qs) xs ys u v end_x end_y same =
     let right = parts_text_from (suc number) q.next qs ++ ys in
     let behind : one_ ++ left ≡ two_ ++ right =
     append_cancel_left (part_line number) (one_ ++ left) (two_ ++ right)
-    (sym (split number one_ (parts_text_from (suc number) p.next ps) xs) ∙ same ∙ split number two_ (parts_text_from (suc number) q.next qs) ys) in
+    (sym (part_split number one_ (parts_text_from (suc number) p.next ps) xs) ∙ same ∙ part_split number two_ (parts_text_from (suc number) q.next qs) ys) in
     let first : one_ ≡ two_ =
     sym (front_is true one_ left (plan_plain a p.next p.plan u.0 (words_of p.next ps u.1)) (parts_halt (suc number) p.next ps xs end_x.stops_there))
     ∙ ap (front true) behind
@@ -252,8 +252,8 @@ unfolding halts stops second
 end_ends None left = record { stops_there = refl; no_part = λ number more_ h. absurd (omega (arith, ap second h)) }
 end_ends (Some n) left = record { stops_there = refl; no_part = λ number more_ h. absurd (omega (arith, ap second h)) }
 
-pub texts_tell : (a b : Graph) (ps qs : List Part) → HaveWordPaths a ps → HaveWordPaths b qs → parts_text_from 1 a ps ≡ parts_text_from 1 b qs → plan_texts a ps ≡ plan_texts b qs
-texts_tell a b ps qs u v same = same_plans 1 a b ps qs [] [] u v nothing_ends nothing_ends (append-nil (parts_text_from 1 a ps) ∙ same ∙ sym (append-nil (parts_text_from 1 b qs)))
+pub part_texts_tell : (a b : Graph) (ps qs : List Part) → HaveWordPaths a ps → HaveWordPaths b qs → parts_text_from 1 a ps ≡ parts_text_from 1 b qs → plan_texts a ps ≡ plan_texts b qs
+part_texts_tell a b ps qs u v same = same_plans 1 a b ps qs [] [] u v nothing_ends nothing_ends (append-nil (parts_text_from 1 a ps) ∙ same ∙ sym (append-nil (parts_text_from 1 b qs)))
 
 pub rolls_tell : (a b : Graph) (ps qs : List Part) (given_up given_up' : Option ℕ) (left left' : Graph) → HaveWordPaths a ps → HaveWordPaths b qs → roll_text a ps given_up left ≡ roll_text b qs given_up' left' → plan_texts a ps ≡ plan_texts b qs
 rolls_tell a b ps qs given_up given_up' left left' u v same =

@@ -121,9 +121,9 @@ three P h front opened end_ g has none_ none_' goes stands =
 event_lines_both : (xs ys : List Event) → lines_of_events (xs ++ ys) ≡ lines_of_events xs ++ lines_of_events ys
 event_lines_both xs ys = filter_map-append line_of xs ys
 
-reopen_lines : {A : Type 0} (f : A → Event) (port : A → ℕ) (xs : List A) → ((x : A) → f x ≡ event.Reopen (port x)) → lines_of_events (map f xs) ≡ map to.Reopen (map port xs)
-reopen_lines f port [] h = refl
-reopen_lines f port (x ∷ xs) h = ap (λ e. cons_option (line_of e) (lines_of_events (map f xs))) (h x) ∙ ap (λ ls. to.Reopen (port x) ∷ ls) (reopen_lines f port xs h)
+reopened_lines : {A : Type 0} (f : A → Event) (port : A → ℕ) (xs : List A) → ((x : A) → f x ≡ event.Reopen (port x)) → lines_of_events (map f xs) ≡ map to.Reopen (map port xs)
+reopened_lines f port [] h = refl
+reopened_lines f port (x ∷ xs) h = ap (λ e. cons_option (line_of e) (lines_of_events (map f xs))) (h x) ∙ ap (λ ls. to.Reopen (port x) ∷ ls) (reopened_lines f port xs h)
 
 none_in_map : {A : Type 0} (f : A → Event) (xs : List A) → ((x : A) (ls : List HistoryLine) → list_any is_reopening (cons_option (line_of (f x)) ls) ≡ list_any is_reopening ls) → list_any is_reopening (lines_of_events (map f xs)) ≡ false
 none_in_map f [] h = refl
@@ -181,7 +181,7 @@ module _ (each_may : EachMayCommit) (by_config : CommitsByConfiguration) (leaves
       let front = to.Start name args ∷ lines_of_events (makes ++ links) in
       let parts : start_lines name args g ≡ front ++ (map to.Reopen numbers ++ to.Commit ∷ []) =
       ap (λ xs. to.Start name args ∷ xs ++ to.Commit ∷ []) (event_lines_both (makes ++ links) (map reopen_of (enumerate_from 0 (ports g.nodes))))
-      ∙ ap (λ xs. to.Start name args ∷ (lines_of_events (makes ++ links) ++ xs) ++ to.Commit ∷ []) (reopen_lines reopen_of (λ (x : ℕ × Port). x.0) (enumerate_from 0 (ports g.nodes)) (λ x. refl))
+      ∙ ap (λ xs. to.Start name args ∷ (lines_of_events (makes ++ links) ++ xs) ++ to.Commit ∷ []) (reopened_lines reopen_of (λ (x : ℕ × Port). x.0) (enumerate_from 0 (ports g.nodes)) (λ x. refl))
       ∙ ap (λ xs. to.Start name args ∷ xs) (append_assoc (lines_of_events (makes ++ links)) (map to.Reopen numbers) (to.Commit ∷ [])) in
       let whole = are ∙ parts in
       subst (EachAfter (Opens P) []) (sym whole)
@@ -201,7 +201,7 @@ module _ (each_may : EachMayCommit) (by_config : CommitsByConfiguration) (leaves
       let front = o ++ (drained_lines looks ++ steps) in
       let last_ = map to.Reopen opened ++ to.Commit ∷ [] in
       let ev : lines_of_events (commit_events old new plan d) ≡ steps ++ map to.Reopen opened =
-      event_lines_both (commit_steps old new plan d) (map event.Reopen opened) ∙ ap (λ xs. steps ++ xs) (reopen_lines event.Reopen (λ p. p) opened (λ p. refl) ∙ ap (map to.Reopen) (same_map opened)) in
+      event_lines_both (commit_steps old new plan d) (map event.Reopen opened) ∙ ap (λ xs. steps ++ xs) (reopened_lines event.Reopen (λ p. p) opened (λ p. refl) ∙ ap (map to.Reopen) (same_map opened)) in
       let whole : ls ≡ front ++ last_ =
       are ∙ ap (λ xs. o ++ (drained_lines looks ++ (xs ++ to.Commit ∷ []))) ev ∙ ap (λ xs. o ++ (drained_lines looks ++ xs)) (append_assoc steps (map to.Reopen opened) (to.Commit ∷ []))
       ∙ ap (λ xs. o ++ xs) (sym (append_assoc (drained_lines looks) steps last_)) ∙ sym (append_assoc o (drained_lines looks ++ steps) last_) in

@@ -55,9 +55,9 @@ stood w = record { more_ = []; events_are = sym (append-nil w.events) }
 further : (u v w : World) → WentOn u v → WentOn v w → WentOn u w
 further u v w a b = record { more_ = a.more_ ++ b.more_; events_are = b.events_are ∙ ap (λ es. es ++ b.more_) a.events_are ∙ append_assoc u.events a.more_ b.more_ }
 
-changed : (w : World) (e : Event) → WentOn w (with_event w e)
-changed w (event.Make n node from) = record { more_ = event.Make n node from ∷ []; events_are = refl }
-changed w e = record { more_ = e ∷ []; events_are = other e }
+world_changed : (w : World) (e : Event) → WentOn w (with_event w e)
+world_changed w (event.Make n node from) = record { more_ = event.Make n node from ∷ []; events_are = refl }
+world_changed w e = record { more_ = e ∷ []; events_are = other e }
   where
     other : (e : Event) → (with_event w e).events ≡ w.events ++ e ∷ []
     other (event.Make n node from) = refl
@@ -65,7 +65,7 @@ changed w e = record { more_ = e ∷ []; events_are = other e }
 
 all_changed : (w : World) (es : List Event) → WentOn w (after_changes w es)
 all_changed w [] = stood w
-all_changed w (e ∷ es) = further w (with_event w e) (after_changes (with_event w e) es) (changed w e) (all_changed (with_event w e) es)
+all_changed w (e ∷ es) = further w (with_event w e) (after_changes (with_event w e) es) (world_changed w e) (all_changed (with_event w e) es)
 
 turned : (allowed : Bool) (ns : List ℕ) (r : Round) → WentOn r.world (fold (give_turn allowed) r ns).world
 turned allowed [] r = stood r.world

@@ -98,10 +98,10 @@ none_leads (suc (suc (suc j))) h =
     rw (ne_eqb 0 (suc (suc (suc j))) (λ e. omega (arith, e))) (rw (ne_eqb 2 (suc (suc (suc j))) (λ e. omega (arith, e))) refl) in
     both_ways false refl (sym (ap is_some none_) ∙ ap is_some h)
 
-led : (maps : List ℕ) (i t : ℕ) → LeadsThrough with_one_aside i maps t → Contains maps 0 → (j : ℕ) × IsLinked with_one_aside j 0 0 0
-led [] i t l c = absurd (omega (arith, c.1))
-led (m ∷ maps) i t l (zero, low, is) = (i, subst (λ k. IsLinked with_one_aside i 0 k 0) is l.0)
-led (m ∷ maps) i t l (suc k, low, is) = led maps m t l.1 (k, omega (arith, low), is)
+led_aside : (maps : List ℕ) (i t : ℕ) → LeadsThrough with_one_aside i maps t → Contains maps 0 → (j : ℕ) × IsLinked with_one_aside j 0 0 0
+led_aside [] i t l c = absurd (omega (arith, c.1))
+led_aside (m ∷ maps) i t l (zero, low, is) = (i, subst (λ k. IsLinked with_one_aside i 0 k 0) is l.0)
+led_aside (m ∷ maps) i t l (suc k, low, is) = led_aside maps m t l.1 (k, omega (arith, low), is)
 
 -- a map that stands aside: no way from the source leads through it
 pub aside_is_none : IsRow with_one_aside → ⊥
@@ -109,7 +109,7 @@ aside_is_none r = by (r.no_others 0 (omega arith))
   where
     by : (0 ≡ r.source) ⊎ Contains r.maps 0 ⊎ (0 ≡ r.sink) → ⊥
     by (inl is) = cc (ap (kind_at with_one_aside) is ∙ r.is_source)
-    by (inr (inl c)) = let l = led r.maps r.source r.sink r.leads c in none_leads l.0 l.1
+    by (inr (inl c)) = let l = led_aside r.maps r.source r.sink r.leads c in none_leads l.0 l.1
     by (inr (inr is)) = cc (ap (kind_at with_one_aside) is ∙ r.is_sink)
 
 -- ---- the one value that passes through one map
