@@ -7,3 +7,4 @@ mod TalkLemmas
 mod CourseLemmas
 mod LawLemmas
 mod CrowdLemmas
+mod RoundLemmas

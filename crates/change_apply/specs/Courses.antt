@@ -14,10 +14,16 @@ use Rattle.change_apply.specs.Sessions.{Change, Scene, asked, first_scene, goes_
 use Rattle.change_apply.specs.declared.said.Phase.{Phase}
 use Rattle.change_apply.specs.declared.said.Phase.TheVariants as phase
 use Rattle.change_apply.specs.declared.said.Said.{Said}
+use Rattle.change_apply.specs.declared.said.Said.TheVariants as says
 
 -- where a session is behind what was said
 abbrev pub scene_after : Change → List Said → Scene
 scene_after c said = fold (λ s x. (turn c s x).next) (goes_on c (first_scene c)).next said
+
+-- whether a line counts as a round
+abbrev pub is_round : Said → Bool
+is_round says.Round = true
+is_round _ = false
 
 -- the events that lines tell
 abbrev pub is_told : Event → Bool

@@ -1,9 +1,9 @@
 //! What sessions do to a system.
 
-ghost use Rattle.std.specs.Prelude.{◌≡◌, [], ◌∷◌, ◌++◌, ℕ, List, true, false, Some};
+ghost use Rattle.std.specs.Prelude.{◌-◌, count_by, ◌≡◌, [], ◌∷◌, ◌++◌, ℕ, List, true, false, Some};
 ghost use Rattle.cfg_io.specs.Sink.{with_bytes};
 ghost use Rattle.change_apply.specs.Applied.{applied, ending_of};
-ghost use Rattle.change_apply.specs.Courses.{Course, scene_after};
+ghost use Rattle.change_apply.specs.Courses.{Course, is_round, scene_after};
 ghost use Rattle.change_apply.specs.Sessions.{CanChange, Change, is_over};
 ghost use Rattle.change_apply.specs.Talks.{Bytes, HasEnded};
 ghost use Rattle.crowd_laws.specs.Acts.{Act, MayGoOn, events_told, world_after};
@@ -61,6 +61,12 @@ pub fn sessions_commit_by_go()
         → (scene_after c (said ++ Said.Go ∷ [])).phase ≡ Phase.Committed }
     ensures over { (c : Change) (said more_ : List Said) → is_over (scene_after c said).phase ≡ true
         → scene_after c (said ++ more_) ≡ scene_after c said }
+{}
+
+/// As long as a session isn't over, as many rounds are left as it has, but for those that were told.
+pub fn sessions_count_rounds()
+    ensures { (c : Change) (said : List Said) → is_over (scene_after c said).phase ≡ false
+        → (scene_after c said).left ≡ c.within - count_by is_round said }
 {}
 
 /// One input has one answer: where a session ended, and the input could be read as far as that, what was written and how

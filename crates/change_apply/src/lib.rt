@@ -13,8 +13,8 @@ mod telling;
 
 pub use applying::apply;
 pub use laws::{
-    one_input_has_one_answer, sessions_commit_by_go, sessions_find_crowds_quiescent,
-    sessions_find_nodes_quiescent, sessions_keep_their_course,
+    one_input_has_one_answer, sessions_commit_by_go, sessions_count_rounds,
+    sessions_find_crowds_quiescent, sessions_find_nodes_quiescent, sessions_keep_their_course,
 };
 pub use request::{Called, Request};
 pub use said::{Answer, Ending, Phase, Said};
