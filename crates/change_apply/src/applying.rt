@@ -21,7 +21,7 @@ use std::alloc::Global;
 use std::io::BufRead;
 
 /// Why a turn isn't made to its end.
-#[derive(Clone, Copy, Debug, PartialEq, Eq)]
+#[derive(Clone, Copy, PartialEq, Eq)]
 enum Stop {
     Unwritten,
     NoMemory,

@@ -7,7 +7,7 @@ use crate::saying::LINE_LIMIT;
 use std::io::{BufRead, ErrorKind};
 
 /// What comes next of an input.
-#[derive(Clone, Copy, Debug, PartialEq, Eq)]
+#[derive(Clone, Copy, PartialEq, Eq)]
 pub(crate) enum Came {
     /// A line. One that is too long ends with the byte that is one too many.
     Line,
@@ -19,7 +19,7 @@ pub(crate) enum Came {
 }
 
 /// The next byte of an input.
-#[derive(Clone, Copy, Debug, PartialEq, Eq)]
+#[derive(Clone, Copy, PartialEq, Eq)]
 enum NextByte {
     Is(u8),
     End,

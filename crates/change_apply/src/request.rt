@@ -4,7 +4,7 @@ use change_plan::Plan;
 use config_graph::{Graph, List, Text};
 
 /// A component as it was called, and its graph.
-#[derive(Debug, Drop)]
+#[derive(Drop)]
 pub struct Called {
     pub name: Text,
     pub args: List<i32>,
@@ -12,7 +12,7 @@ pub struct Called {
 }
 
 /// The change of a system from one component to another.
-#[derive(Debug, Drop)]
+#[derive(Drop)]
 pub struct Request {
     pub from: Called,
     pub to: Called,

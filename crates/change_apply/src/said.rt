@@ -4,7 +4,7 @@ ghost use Rattle.std.specs.Prelude.{◌≡◌};
 ghost use Rattle.change_apply.specs.Applied.{status_of};
 
 /// What a line says, or the end of the input.
-#[derive(Clone, Copy, Debug, PartialEq, Eq)]
+#[derive(Clone, Copy, PartialEq, Eq)]
 pub enum Said {
     /// A transaction is under way at the port that its owner began by itself.
     Busy { port: u32 },
@@ -27,7 +27,7 @@ pub enum Said {
 }
 
 /// Where a session is.
-#[derive(Clone, Copy, Debug, PartialEq, Eq)]
+#[derive(Clone, Copy, PartialEq, Eq)]
 pub enum Phase {
     /// Some port isn't drained.
     Waiting,
@@ -40,7 +40,7 @@ pub enum Phase {
 }
 
 /// What is answered, beside the lines of the history.
-#[derive(Clone, Copy, Debug, PartialEq, Eq)]
+#[derive(Clone, Copy, PartialEq, Eq)]
 pub enum Answer {
     /// Nothing.
     Waits,
@@ -57,7 +57,7 @@ pub enum Answer {
 }
 
 /// How a session with a reader and a sink ended.
-#[derive(Clone, Copy, Debug, PartialEq, Eq)]
+#[derive(Clone, Copy, PartialEq, Eq)]
 pub enum Ending {
     Committed,
     GivenUp,

@@ -36,7 +36,7 @@ use report_types::HistoryLine;
 use std::alloc::Global;
 
 /// What is there of a system that was started.
-#[derive(Debug, Drop)]
+#[derive(Drop)]
 struct Ground {
     core: Core,
     /// What was made.
@@ -46,7 +46,7 @@ struct Ground {
 }
 
 /// One change of a system that runs elsewhere, by what was told of it.
-#[derive(Debug, Drop)]
+#[derive(Drop)]
 pub struct Session {
     request: Request,
     core: Core,

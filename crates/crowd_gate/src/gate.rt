@@ -18,7 +18,7 @@ const CLOSED: u32 = 1 << 31;
 pub const MAX_ROOTS: u32 = CLOSED - 1;
 
 /// A gate. Its number is the whole of it, so that one atomic step, or one lock, does each of its acts.
-#[derive(Clone, Copy, Debug, PartialEq, Eq)]
+#[derive(Clone, Copy, PartialEq, Eq)]
 pub struct Gate {
     /// The transactions under way, and more where the gate is closed.
     pub number: u32,
