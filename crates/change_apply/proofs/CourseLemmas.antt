@@ -38,7 +38,7 @@ use Rattle.change_apply.specs.declared.said.Phase.{Phase}
 use Rattle.change_apply.specs.declared.said.Phase.TheVariants as phase
 use Rattle.change_apply.specs.declared.said.Said.{Said}
 use Rattle.change_apply.specs.declared.said.Said.TheVariants as says
-use Rattle.change_apply.proofs.StandLemmas.{are_told, grow, opens, same_made, still_drained}
+use Rattle.change_apply.proofs.StandLemmas.{are_told, grow, are_opened, same_made, still_drained}
 use Rattle.base.proofs.ContainsLaws.{any_of}
 
 -- what is known of the plan, from the laws of commits
@@ -154,7 +154,7 @@ in_or_out (q ∷ ps) p = ⊎_elim
 
 left_course : (c : Change) (s : Scene) → Plans c → Open c s → (e : List Event) (n : ℕ) → e ≡ s.events ++ map Reopen (asked c) → Course c (record { events = e; left = n; phase = phase.Left })
 left_course c s h o e n is =
-    let on = opens s.events (asked c) o.run (asked_live c s h o) in
+    let on = are_opened s.events (asked c) o.run (asked_live c s h o) in
     let turned = all_open s.events (asked c) (live_in c s h o) (map Reopen (asked c)) (reopens_of_change (asked c)) in
     let before = start_of c.old ++ o.told in
     record {
@@ -266,11 +266,11 @@ happened_told s (e ∷ es) h =
     let parts = and_parts (is_told e) (list_all is_told es) h in
     all_told_by s e (happened (effect s e) es) (denial s e) parts.0 (happened_told (effect s e) es parts.1)
 
-all_both : (xs ys : List Event) → list_all is_told xs ≡ true → list_all is_told ys ≡ true → list_all is_told (xs ++ ys) ≡ true
-all_both [] ys h k = k
-all_both (x ∷ xs) ys h k =
+all_told : (xs ys : List Event) → list_all is_told xs ≡ true → list_all is_told ys ≡ true → list_all is_told (xs ++ ys) ≡ true
+all_told [] ys h k = k
+all_told (x ∷ xs) ys h k =
     let parts = and_parts (is_told x) (list_all is_told xs) h in
-    and_from (is_told x) (list_all is_told (xs ++ ys)) parts.0 (all_both xs ys parts.1 k)
+    and_from (is_told x) (list_all is_told (xs ++ ys)) parts.0 (all_told xs ys parts.1 k)
 
 -- the scene behind what a line told
 abbrev pub told_in : Scene → Said → Scene
@@ -284,7 +284,7 @@ open_told c s x o may =
     record {
       told = o.told ++ done;
       are = ap (λ l. l ++ done) o.are ∙ append_assoc (start_of c.old) o.told done;
-      by_lines = all_both o.told done o.by_lines (happened_told (state_of s) es (are_told (state_of s) x));
+      by_lines = all_told o.told done o.by_lines (happened_told (state_of s) es (are_told (state_of s) x));
       run = g.run;
       links = same_then (first c) (state_of s).config (state_after (s.events ++ done)).config o.links g.links;
       others = λ q out. gates_left q s.events es (told_leave c s x q may out) ∙ o.others q out;

@@ -13,10 +13,10 @@ use Rattle.quiesce_core.proofs.StepsLaws.{end_is}
 use Rattle.quiesce_laws.specs.Starts.{start_of}
 use Rattle.quiesce_laws.proofs.MeanwhileLaws.{after_more}
 
-pub may_change : (g : Graph) (w : World) (acts : List Act) (events after : List Event) (e : Event) → Steps w.machine (events_told w acts) (world_after w acts).machine
+pub change_may_come : (g : Graph) (w : World) (acts : List Act) (events after : List Event) (e : Event) → Steps w.machine (events_told w acts) (world_after w acts).machine
     → w.machine ≡ started g → state_after (start_of g) ≡ started g → IsRun events → events ≡ (start_of g ++ events_told w acts) ++ e ∷ after
     → ((s : State) → is_change s e ≡ true) → MayChange (world_after w acts).machine e
-may_change g w acts events after e steps first is run are one =
+change_may_come g w acts events after e steps first is run are one =
     let told = events_told w acts in
     let there : (world_after w acts).machine ≡ state_after (start_of g ++ told) =
     end_is w.machine (world_after w acts).machine told steps ∙ ap (λ s. fold effect s told) (first ∙ sym is) ∙ sym (after_more empty (start_of g) told) in

@@ -57,8 +57,8 @@ one_place r came _ (by_fault lines first) over read = ⊎_elim
 
 -- what commits
 
-pub after_one : (c : Change) (xs : List Said) (x : Said) → scene_after c (xs ++ x ∷ []) ≡ (turn c (scene_after c xs) x).next
-after_one c xs x = fold_push (λ s y. (turn c s y).next) (goes_on c (first_scene c)).next xs x
+pub scene_after_one : (c : Change) (xs : List Said) (x : Said) → scene_after c (xs ++ x ∷ []) ≡ (turn c (scene_after c xs) x).next
+scene_after_one c xs x = fold_push (λ s y. (turn c s y).next) (goes_on c (first_scene c)).next xs x
 
 abbrev is_made : Phase → Bool
 is_made phase.Committed = true

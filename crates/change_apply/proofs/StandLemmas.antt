@@ -186,8 +186,8 @@ pub record Opens (es : List Event) (ps : List ℕ) : Type 0 where
   pub run : IsRun (es ++ map Reopen ps)
   pub links : SameLinks (state_after es).config (state_after (es ++ map Reopen ps)).config
 
-live_same : (c d : Configuration) (p : ℕ) → SameLinks c d → is_live_port d p ≡ is_live_port c p
-live_same c d p same =
+live_port_same : (c d : Configuration) (p : ℕ) → SameLinks c d → is_live_port d p ≡ is_live_port c p
+live_port_same c d p same =
     ap (λ n. nat_lt p n && is_live d (owner d p)) same.long
     ∙ ap (λ n. nat_lt p (length c.gates) && is_live d n) (same.owners p)
     ∙ ap (λ b. nat_lt p (length c.gates) && b) (live_still c d same (owner c p))
@@ -201,16 +201,16 @@ opens_next es p run live =
       links = subst (SameLinks s.config) (sym config) (same_turned s.config s.config p false (live_port s.config p live).made (same_here s.config));
     }
 
-pub opens : (es : List Event) (ps : List ℕ) → IsRun es → All (λ p. is_live_port (state_after es).config p ≡ true) ps → Opens es ps
-opens es [] run live = record {
+pub are_opened : (es : List Event) (ps : List ℕ) → IsRun es → All (λ p. is_live_port (state_after es).config p ≡ true) ps → Opens es ps
+are_opened es [] run live = record {
   run = subst IsRun (sym (append-nil es)) run;
   links = subst (λ xs. SameLinks (state_after es).config (state_after xs).config) (sym (append-nil es)) (same_here (state_after es).config);
 }
-opens es (p ∷ ps) run live =
+are_opened es (p ∷ ps) run live =
     let c = (state_after es).config in
     let first = opens_next es p run (All-head (λ q. is_live_port c q ≡ true) p ps live) in
     let d = (state_after (es ++ Reopen p ∷ [])).config in
-    let rest = opens (es ++ Reopen p ∷ []) ps first.run (still c d first.links ps (All-tail (λ q. is_live_port c q ≡ true) p ps live)) in
+    let rest = are_opened (es ++ Reopen p ∷ []) ps first.run (still c d first.links ps (All-tail (λ q. is_live_port c q ≡ true) p ps live)) in
     let parts = append_assoc es (Reopen p ∷ []) (map Reopen ps) in
     record {
       run = subst IsRun parts rest.run;
@@ -218,7 +218,7 @@ opens es (p ∷ ps) run live =
     }
   where
     still : (c d : Configuration) → SameLinks c d → (qs : List ℕ) → All (λ q. is_live_port c q ≡ true) qs → All (λ q. is_live_port d q ≡ true) qs
-    still c d same qs h k x lt = live_same c d (get_or qs k x) same ∙ h k x lt
+    still c d same qs h k x lt = live_port_same c d (get_or qs k x) same ∙ h k x lt
 
 module _ (d : Session) (es : List Event) (h : Stands d es) where
   abbrev pub c : Configuration

@@ -166,23 +166,23 @@ small_event first n m e ends low led x = by e refl led
 
 -- ---- along a run
 
-abbrev pub ended : List Event → ℕ
-ended es = count_by ends_transaction es
+abbrev pub ends_so_far : List Event → ℕ
+ends_so_far es = count_by ends_transaction es
 
 abbrev pub AllSmall : List Event → Type 0
-AllSmall es = (n : ℕ) → Small (ended es) (come es n).kept
+AllSmall es = (n : ℕ) → Small (ends_so_far es) (come es n).kept
 
-ended_next : (es : List Event) (e : Event) → ended (es ++ e ∷ []) ≡ ended es + ends_in e
-ended_next es e = count_by-append ends_transaction es (e ∷ []) ∙ ap (λ n. ended es + n) (count_by-one ends_transaction e)
+ended_next : (es : List Event) (e : Event) → ends_so_far (es ++ e ∷ []) ≡ ends_so_far es + ends_in e
+ended_next es e = count_by-append ends_transaction es (e ∷ []) ∙ ap (λ n. ends_so_far es + n) (count_by-one ends_transaction e)
 
 module _ (handed : StatesAreHanded) (es : List Event) (e : Event) (here : IsNext es e) (run' : IsRun (es ++ e ∷ [])) (later : HasFolds (es ++ e ∷ [])) (was : AllSmall es) where
-  waited : (n : ℕ) (s : Kept) → Small (ended es) s → Small (ended (es ++ e ∷ [])) s
-  waited n s x = let w = ended_next es e in later_small (ended es) (ended (es ++ e ∷ [])) s (omega (arith, w)) x
+  waited : (n : ℕ) (s : Kept) → Small (ends_so_far es) s → Small (ends_so_far (es ++ e ∷ [])) s
+  waited n s x = let w = ended_next es e in later_small (ends_so_far es) (ends_so_far (es ++ e ∷ [])) s (omega (arith, w)) x
 
   node_small : is_of_change e ≡ false → AllSmall (es ++ e ∷ [])
   node_small of_node n = ⊎_elim
-      (λ (same : n ≡ w.at). subst (λ i. Small (ended (es ++ e ∷ [])) (come (es ++ e ∷ []) i).kept) (sym same) mine)
-      (λ (other : n ≡ w.at → ⊥). subst (λ (x : NodeState). Small (ended (es ++ e ∷ [])) x.kept) (sym (w.others n other)) (waited n _ (was n)))
+      (λ (same : n ≡ w.at). subst (λ i. Small (ends_so_far (es ++ e ∷ [])) (come (es ++ e ∷ []) i).kept) (sym same) mine)
+      (λ (other : n ≡ w.at → ⊥). subst (λ (x : NodeState). Small (ends_so_far (es ++ e ∷ [])) x.kept) (sym (w.others n other)) (waited n _ (was n)))
       (cases_eq n w.at)
     where
       w : Does es e
@@ -194,15 +194,15 @@ module _ (handed : StatesAreHanded) (es : List Event) (e : Event) (here : IsNext
           let value = eqb-true v (exchange (state_after es) p).value (and_parts (k == (exchange (state_after es) p).serial) (v == (exchange (state_after es) p).value) l.message).1 in
           let bound = (here.well.bounds p).value in omega (arith, value, bound)
 
-      mine : Small (ended (es ++ e ∷ [])) (come (es ++ e ∷ []) w.at).kept
-      mine = subst (λ n. Small n (come (es ++ e ∷ []) w.at).kept) (sym (ended_next es e)) (small_event w.made.first_port (come es w.at) (come (es ++ e ∷ []) w.at) e (ended es) taken_low w.led (was w.at))
+      mine : Small (ends_so_far (es ++ e ∷ [])) (come (es ++ e ∷ []) w.at).kept
+      mine = subst (λ n. Small n (come (es ++ e ∷ []) w.at).kept) (sym (ended_next es e)) (small_event w.made.first_port (come es w.at) (come (es ++ e ∷ []) w.at) e (ends_so_far es) taken_low w.led (was w.at))
 
   calm_small : (change : is_of_change e ≡ true) → is_make e ≡ false → AllSmall (es ++ e ∷ [])
-  calm_small change none_made n = subst (λ (x : NodeState). Small (ended (es ++ e ∷ [])) x.kept) (sym (folds_stay handed es e here run' change none_made n)) (waited n _ (was n))
+  calm_small change none_made n = subst (λ (x : NodeState). Small (ends_so_far (es ++ e ∷ [])) x.kept) (sym (folds_stay handed es e here run' change none_made n)) (waited n _ (was n))
 
   made_small : (k : ℕ) (made : Node) (from : Option ℕ) → e ≡ Make k made from → AllSmall (es ++ e ∷ [])
   made_small k made from at n = ⊎_elim
-      (λ (same : n ≡ last). subst (λ i. Small (ended (es ++ e ∷ [])) (come (es ++ e ∷ []) i).kept) (sym same) new_small)
+      (λ (same : n ≡ last). subst (λ i. Small (ends_so_far (es ++ e ∷ [])) (come (es ++ e ∷ []) i).kept) (sym same) new_small)
       (λ (other : n ≡ last → ⊥). old_small other (slot c n) refl)
       (cases_eq n last)
     where
@@ -219,12 +219,12 @@ module _ (handed : StatesAreHanded) (es : List Event) (e : Event) (here : IsNext
       r = subst (λ (x : State). Reconfigures (state_after es).config (Make k made from) x.config) (sym here'.next) (reconfigured (state_after es) (Make k made from) here'.legal)
 
       -- it opens with its argument, which is a value, or with what the old one kept
-      given_small : (o : Option ℕ) → Small (ended es) (given_to es made o)
+      given_small : (o : Option ℕ) → Small (ends_so_far es) (given_to es made o)
       given_small (Some j) = was j
       given_small None = of_kind made.kind refl
         where
-          of_kind : (x : Kind) → made.kind ≡ x → Small (ended es) (opening made.kind (option_map_or (λ a. a) made.arg 0))
-          of_kind Account is = subst (λ y. Small (ended es) (opening y (option_map_or (λ a. a) made.arg 0))) (sym is) (record { count = omega arith; total = small; items = tt })
+          of_kind : (x : Kind) → made.kind ≡ x → Small (ends_so_far es) (opening made.kind (option_map_or (λ a. a) made.arg 0))
+          of_kind Account is = subst (λ y. Small (ends_so_far es) (opening y (option_map_or (λ a. a) made.arg 0))) (sym is) (record { count = omega arith; total = small; items = tt })
             where
               has : has_its_argument made ≡ true
               has = (and_parts (not (is_path_taken (state_after es).config made.path)) (has_its_argument made) here'.legal.new_path).1
@@ -235,23 +235,23 @@ module _ (handed : StatesAreHanded) (es : List Event) (e : Event) (here : IsNext
                   let w = map_or_true is_value made.arg value in
                   let low = ltb-true w.0 value_limit w.2 in
                   let is_arg : option_map_or (λ a. a) made.arg 0 ≡ w.0 = ap (λ o. option_map_or (λ a. a) o 0) w.1 in omega (arith, low, is_arg)
-          of_kind _ is = subst (λ y. Small (ended es) (opening y (option_map_or (λ a. a) made.arg 0))) (sym is) (small_nothing (ended es))
+          of_kind _ is = subst (λ y. Small (ends_so_far es) (opening y (option_map_or (λ a. a) made.arg 0))) (sym is) (small_nothing (ends_so_far es))
 
-      new_small : Small (ended (es ++ e ∷ [])) (come (es ++ e ∷ []) last).kept
+      new_small : Small (ends_so_far (es ++ e ∷ [])) (come (es ++ e ∷ []) last).kept
       new_small =
-          subst (λ z. Small (ended (es ++ z ∷ [])) (come (es ++ z ∷ []) last).kept) (sym at)
-          (subst (λ s. Small (ended (es ++ Make k made from ∷ [])) s)
+          subst (λ z. Small (ends_so_far (es ++ z ∷ [])) (come (es ++ z ∷ []) last).kept) (sym at)
+          (subst (λ s. Small (ends_so_far (es ++ Make k made from ∷ [])) s)
           (sym (made_has handed es k made from here' (subst (λ z. IsRun (es ++ z ∷ [])) at run') (subst (λ z. HasFolds (es ++ z ∷ [])) at later)))
-          (subst (λ z. Small (ended (es ++ z ∷ [])) (given_to es made from)) at (waited last _ (given_small from))))
+          (subst (λ z. Small (ends_so_far (es ++ z ∷ [])) (given_to es made from)) at (waited last _ (given_small from))))
 
-      old_small : (n ≡ last → ⊥) → (o : Option Slot) → slot c n ≡ o → Small (ended (es ++ e ∷ [])) (come (es ++ e ∷ []) n).kept
+      old_small : (n ≡ last → ⊥) → (o : Option Slot) → slot c n ≡ o → Small (ends_so_far (es ++ e ∷ [])) (come (es ++ e ∷ []) n).kept
       old_small other (Some m) is =
-          subst (λ (x : NodeState). Small (ended (es ++ e ∷ [])) x.kept) (sym (old_stays handed es e here run' (ap is_of_change at) n m is)) (waited n _ (was n))
+          subst (λ (x : NodeState). Small (ends_so_far (es ++ e ∷ [])) x.kept) (sym (old_stays handed es e here run' (ap is_of_change at) n m is)) (waited n _ (was n))
       old_small other None is =
           let none_then : slot (state_after (es ++ e ∷ [])).config n ≡ None =
           ap (λ z. slot (state_after (es ++ z ∷ [])).config n) at ∙ r.slots n
           ∙ ap (λ b. cond b (Some (record { node = made; first_port = length (state_after es).config.gates; from = from; live = true })) (slot (state_after es).config n)) (ne_eqb n last other) ∙ is in
-          subst (λ (x : NodeState). Small (ended (es ++ e ∷ [])) x.kept) (sym (unmade_come (es ++ e ∷ []) n none_then)) (small_nothing (ended (es ++ e ∷ [])))
+          subst (λ (x : NodeState). Small (ends_so_far (es ++ e ∷ [])) x.kept) (sym (unmade_come (es ++ e ∷ []) n none_then)) (small_nothing (ends_so_far (es ++ e ∷ [])))
 
   small_next : AllSmall (es ++ e ∷ [])
   small_next = ⊎_elim
@@ -281,7 +281,7 @@ sum_of_same : (a n x : ℕ) → sum_by (λ i. x) (range_with_len a n) ≡ n * x
 sum_of_same a zero x = omega arith
 sum_of_same a (suc n) x = let w = sum_by-cons (λ i. x) a (range_with_len (a + 1) n) in let rest = sum_of_same (a + 1) n x in omega (arith, w, rest)
 
-pub few_end : (es : List Event) → IsRun es → ended es ≤ MAX_PORTS * LAST_SERIAL
+pub few_end : (es : List Event) → IsRun es → ends_so_far es ≤ MAX_PORTS * LAST_SERIAL
 few_end es run =
     let all = ends_make_all_serials es run in
     let well = runs_are_well_formed es run in

@@ -28,7 +28,7 @@ use Rattle.change_round_laws.proofs.FoldLaws.{StatesAreHanded}
 use Rattle.command_spec.specs.Telling.{CountFits, NumbersFit, StateFits}
 use Rattle.command_spec.specs.Schedules.{IsReportBy, Schedule, rounds, threads}
 use Rattle.result_laws.specs.Coming.{come}
-use Rattle.result_laws.proofs.Bounds.{Small, all_small, ended, few_end, numbers_small}
+use Rattle.result_laws.proofs.Bounds.{Small, all_small, ends_so_far, few_end, numbers_small}
 use Rattle.result_laws.proofs.Told.{log_folds}
 
 -- ---- lists
@@ -66,9 +66,9 @@ module _ (statements : List Statement) (report : Report) (l : Lawful statements 
       let since = each_at IsEndedAt w.before w.after (of_history (to.Run k n)) (subst (λ xs. Each IsEndedAt xs) w.parts numbers_end) in
       let whole = count_by-append ends_transaction (events w.before) (events (of_history (to.Run k n) ∷ w.after)) in
       let parts = count_by-append ends_transaction (events since.front) (events (map by_node since.later)) in
-      let all : ended (events l.members) ≡ ended (events w.before ++ events (of_history (to.Run k n) ∷ w.after)) = ap ended (ap events w.parts ∙ events_parts w.before (of_history (to.Run k n) ∷ w.after)) in
-      let front : ended (events w.before) ≡ ended (events since.front ++ events (map by_node since.later)) = ap ended (ap events since.parts ∙ events_parts since.front (map by_node since.later)) in
-      let done = ap ended (events_done since.later) in
+      let all : ends_so_far (events l.members) ≡ ends_so_far (events w.before ++ events (of_history (to.Run k n) ∷ w.after)) = ap ends_so_far (ap events w.parts ∙ events_parts w.before (of_history (to.Run k n) ∷ w.after)) in
+      let front : ends_so_far (events w.before) ≡ ends_so_far (events since.front ++ events (map by_node since.later)) = ap ends_so_far (ap events since.parts ∙ events_parts since.front (map by_node since.later)) in
+      let done = ap ends_so_far (events_done since.later) in
       let enough = since.enough in
       let few = few_end (events l.members) l.by_them.runs in
       omega (arith, whole, parts, all, front, done, enough, few)
@@ -101,7 +101,7 @@ module _ (handed : StatesAreHanded) (statements : List Statement) (report : Repo
           let same : come (events l.members) x.slot ≡ s = ap (λ f. Rattle.std.specs.Prelude.unwrap_or f (Rattle.component_trait.specs.States.at_rest Rattle.config_graph.specs.declared.kind.Kind.TheVariants.Fork 0 Rattle.component_trait.specs.States.nothing)) is in
           let small = all_small handed (events l.members) l.by_them.runs (log_folds statements report l) x.slot in
           subst (λ ys. AllByRecursion (λ v. v < 2 ^ 64) ys) (subst (λ f. EndsAs f None (last.State xs)) is h)
-          (numbers_small s.kind (ended (events l.members)) s.kept (few_end (events l.members) l.by_them.runs) (subst (λ (z : NodeState). Small (ended (events l.members)) z.kept) same small))
+          (numbers_small s.kind (ends_so_far (events l.members)) s.kept (few_end (events l.members) l.by_them.runs) (subst (λ (z : NodeState). Small (ends_so_far (events l.members)) z.kept) same small))
 
 -- ---- the report of a run
 

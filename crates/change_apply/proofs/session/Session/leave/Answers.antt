@@ -10,7 +10,7 @@ use Rattle.report_types.specs.declared.report.HistoryLine.TheVariants as to
 use Rattle.change_apply.specs.Sessions.{asked}
 use Rattle.change_apply.specs.Standing.{change_of}
 use Rattle.change_apply.specs.declared.said.Phase.TheVariants as phase
-use Rattle.change_apply.proofs.StandLemmas.{can_do, closed_are_live, holds_left, opens, reopen_lines, state_done}
+use Rattle.change_apply.proofs.StandLemmas.{can_do, closed_are_live, holds_left, are_opened, reopen_lines, state_done}
 use Rattle.change_apply.proofs.session.Session.leave.Goals as goal
 
 pub do_all-requires : goal.do_all-requires
@@ -21,7 +21,7 @@ do_all-requires c =
     let cf = (state_after es).config in
     let closes : d.asked.items ≡ ports_to_close d.request.from.graph d.request.plan cf =
     st.closed ∙ sym (c.layouts_tell_commits.ensures.closed d.request.from.graph d.request.to.graph [] d.request.plan cf d.layout st.is_graph st.planned.new_graph st.planned.is_plan st.graph st.layout) in
-    let on = opens es d.asked.items st.run (closed_are_live d es st closes) in
+    let on = are_opened es d.asked.items st.run (closed_are_live d es st closes) in
     can_do es (map Reopen d.asked.items) c.deref-3.result.now d.core.state st.state
     (c.deref-3.ensures.value ∙ c.in_ok-events.ensures ∙ ap (map Reopen) c.deref.ensures.value) on.run
 
@@ -33,7 +33,7 @@ returns c es st =
     let ps = asked (change_of d) in
     let closes : d.asked.items ≡ ports_to_close d.request.from.graph d.request.plan cf =
     st.closed ∙ sym (c.layouts_tell_commits.ensures.closed d.request.from.graph d.request.to.graph [] d.request.plan cf d.layout st.is_graph st.planned.new_graph st.planned.is_plan st.graph st.layout) in
-    let on = opens es ps st.run (subst (λ qs. All (λ p. is_live_port cf p ≡ true) qs) st.asked_are (closed_are_live d es st closes)) in
+    let on = are_opened es ps st.run (subst (λ qs. All (λ p. is_live_port cf p ≡ true) qs) st.asked_are (closed_are_live d es st closes)) in
     let after = state_after (es ++ map Reopen ps) in
     let opened = lines_of_events c.deref-2.result.now in
     let last = to.Abandon ∷ [] in
