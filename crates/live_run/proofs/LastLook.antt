@@ -49,5 +49,5 @@ agrees_still statements report r p w nodes a merged = record {
   logs_are = a.logs_are ∙ ap (λ (c : Configuration). map (log_in nodes) (range_with_len 0 (length c.slots))) (sym (config_looked r p w));
   early = a.early;
   merged = merged;
-  all = subst (λ (c : Configuration). AreAllAmong (length c.slots) nodes) (sym (config_kept r p w)) a.all;
+  all = subst (λ (c : Configuration). AreAllAmong (length c.slots) nodes) (sym (config_looked r p w)) a.all;
 }
