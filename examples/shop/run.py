@@ -1,8 +1,8 @@
 #!/usr/bin/env python3
 """A shop that is changed five times under load, and what was lost: nothing, or it says what and ends with status 1.
 
-Usage: examples/shop/run.py [--program DARWIN_RUN] [--connections N] [--seconds S] [--log FILE]. Where darwin_run isn't built, the plain
-statements of tests/plain stand in its place.
+Usage: examples/shop/run.py [--program DARWIN_RUN] [--connections N] [--seconds S] [--log FILE]. The plain statements of
+tests/plain are the manager, as darwin_run has no `apply` yet; --program names another.
 """
 import argparse
 import asyncio
@@ -20,15 +20,15 @@ import load
 import shop
 from tareslater import GivenUp, System
 
-BUILT, PLAIN = os.path.join(TOP, "crates", "darwin_run", "out", "darwin_run"), os.path.join(TOP, "tests", "plain")
+PLAIN = os.path.join(TOP, "tests", "plain")
 WITHIN = 5  # seconds
 BATCHES = {"stock": "stock", "mail": "mail"}
 
 
 def manager(program=None):
     """The command of the manager."""
-    if program or os.path.exists(BUILT):
-        return [os.path.abspath(program or BUILT)]
+    if program:
+        return [os.path.abspath(program)]
     return [sys.executable, PLAIN]
 
 
