@@ -111,8 +111,8 @@ numbers_fit handed rounds statements report is = record {
   states = states_fit handed statements report is.lawful.lawful;
 }
 numbers_fit handed (threads observers) statements report is = record {
-  counts = counts_fit statements report is.lawful (each_weaker IsRunAt IsEndedAt [] is.lawful.members ended_so is.numbers.runs_end);
-  states = states_fit handed statements report is.lawful;
+  counts = counts_fit statements report is.lawful.lawful (each_weaker IsRunAt IsEndedAt [] is.lawful.lawful.members ended_so is.lawful.numbers.runs_end);
+  states = states_fit handed statements report is.lawful.lawful;
 }
   where
     ended_so : (before : List Member) (x : Member) → IsRunAt before x → IsEndedAt before x
