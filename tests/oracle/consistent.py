@@ -1,4 +1,4 @@
-"""Whether a report can be one of this machine for a script: plain statements of docs/definitions.md, apart from the proved code.
+"""Whether a report can be one of this machine for a script: plain statements of docs/inside/definitions.md, apart from the proved code.
 
 The history follows the script: it has the lines that the rounds would write, but for what looks saw, for the numbers of `run`, and for
 those of `finish`, which only keep to their limit. Each log is what a node of its kind does, and ends as it must. And the events of the logs

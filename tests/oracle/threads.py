@@ -1,4 +1,4 @@
-"""Whether a report can be one of a system on threads: plain statements of docs/definitions.md, apart from the proved code.
+"""Whether a report can be one of a system on threads: plain statements of docs/inside/definitions.md, apart from the proved code.
 
 It has to be consistent (consistent.py), and the numbers of its `run` and `finish` lines have to fit the same list of lines and events.
 Behind the line before a `run`, and before the `run` itself, so many transactions have ended; and they are as many as were asked for, or all

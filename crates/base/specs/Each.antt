@@ -1,4 +1,4 @@
--- To be believed (docs/definitions.md).
+-- To be believed (definitions.md).
 -- 'At each place of a list': a fact of each member together with the list of those before it. It can be evaluated on
 -- a list, and grows at the list's end.
 use Rattle.std.specs.Prelude.{List, [], ◌∷◌, ◌++◌, ⊤}

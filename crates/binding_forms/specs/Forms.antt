@@ -1,4 +1,4 @@
--- To be believed (docs/definitions.md).
+-- To be believed (definitions.md).
 -- Which ports a binding may lead from and to.
 use Rattle.std.specs.Prelude.{Bool, true, false}
 use Rattle.darwin_parser.specs.declared.tree.Side.{Side}

@@ -1,4 +1,4 @@
--- To be believed (docs/definitions.md).
+-- To be believed (definitions.md).
 -- Shelves: places from which files are fetched by name. A shelf has the list of the names on which it failed, and it
 -- may tell its files, a look-up from names to bytes.
 use Rattle.std.specs.Prelude.{◌≡◌, ◌≤◌, ◌<◌, ℕ, List, [], ◌∷◌, ◌++◌, Option, Some, Result, Ok, Err, length, IsSomeAnd}

@@ -1,4 +1,4 @@
--- To be believed (docs/definitions.md).
+-- To be believed (definitions.md).
 -- Sinks: places that take bytes, piece by piece. A sink may tell all the bytes that it took.
 use Rattle.std.specs.Prelude.{ℕ, List, ◌++◌, Option, Some, None, Result, Ok, Err, take}
 use Rattle.cfg_io.specs.declared.sink.SinkFailed.{SinkFailed}

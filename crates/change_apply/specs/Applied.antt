@@ -1,4 +1,4 @@
--- To be believed (docs/definitions.md).
+-- To be believed (definitions.md).
 -- What a session writes and how it ends, as a function of what is asked and of the lines that come.
 use Rattle.std.specs.Prelude.{ℕ, ◌+◌, List, [], ◌∷◌, ◌++◌, map, fold, if◌then◌else◌}
 use Rattle.change_apply.specs.Lines.{lines_of, said_by}

@@ -1,4 +1,4 @@
--- To be believed (docs/definitions.md).
+-- To be believed (definitions.md).
 -- What has happened in a session, whatever was said: the start's events, those that lines told, and those of its end.
 use Rattle.std.specs.Prelude.{◌≡◌, ◌<◌, ℕ, Bool, true, false, List, [], ◌++◌, fold, map}
 use Rattle.std.specs.List.{list_all}

@@ -1,4 +1,4 @@
--- To be believed (docs/definitions.md).
+-- To be believed (definitions.md).
 -- The lines that come in a session, and what each says: `busy P`, `closed P`, `idle P`, `round`, `stop`, `go`.
 use Rattle.std.specs.Prelude.{ℕ, ◌==◌, ◌||◌, Bool, not, nat_lt, List, [], ◌∷◌, ◌++◌, length, take, drop, codes, bytes_eq, ◌&&◌, if◌then◌else◌}
 use Rattle.std.specs.List.{prefix_len}

@@ -1,4 +1,4 @@
--- To be believed (docs/definitions.md).
+-- To be believed (definitions.md).
 -- Scans: turns given to nodes, then sights of nodes, and a look at each port.
 use Rattle.std.specs.Prelude.{◌≡◌, ◌==◌, ℕ, Bool, true, false, not, ◌&&◌, ◌||◌, List, ◌∷◌, ◌++◌, map, length, filter, Option, Some}
 use Rattle.std.specs.List.{list_all, range_with_len, sum_by}

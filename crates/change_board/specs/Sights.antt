@@ -1,4 +1,4 @@
--- To be believed (docs/definitions.md).
+-- To be believed (definitions.md).
 -- Sights of nodes, and what a node has come to by the events that were seen.
 use Rattle.std.specs.Prelude.{ℕ, zero, suc, Bool, false, ◌==◌, List, find, Option, Some, None, option_map, option_and_then}
 use Rattle.std.specs.Option.{option_map_or}

@@ -1,4 +1,4 @@
--- To be believed (docs/definitions.md).
+-- To be believed (definitions.md).
 -- Lists of the change's events, each of which may be done on a board after those before it.
 use Rattle.std.specs.Prelude.{◌≡◌, ⊤, ℕ, ◌<◌, ◌-◌, Bool, true, false, nat_lt, List, [], ◌∷◌, ◌++◌, map, flat_map, Option, if◌then◌else◌}
 use Rattle.std.specs.List.{list_all}

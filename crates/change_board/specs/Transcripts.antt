@@ -1,4 +1,4 @@
--- To be believed (docs/definitions.md).
+-- To be believed (definitions.md).
 -- Transcripts: entries of a board's record and lines of a history in one order, since some are both.
 use Rattle.std.specs.Prelude.{List, filter_map, Option, Some, None, if◌then◌else◌}
 use Rattle.change_spec.specs.Members.{line_of}

@@ -1,4 +1,4 @@
--- To be believed (docs/definitions.md).
+-- To be believed (definitions.md).
 -- How a change waits for its ports to drain, and what it tells where some don't.
 use Rattle.std.specs.Prelude.{◌≡◌, ◌⊎◌, ⊤, ℕ, List, [], ◌∷◌, ◌++◌, map, length}
 use Rattle.report_types.specs.declared.report.HistoryLine.{HistoryLine}

@@ -1,4 +1,4 @@
--- To be believed (docs/definitions.md).
+-- To be believed (definitions.md).
 -- How ports are passivated (Kramer and Magee 1990): they are closed, looked at, and looked at again after each of some
 -- scans in which no node begins a transaction, until each was found drained.
 use Rattle.std.specs.Prelude.{◌≡◌, ◌⊎◌, ◌≤◌, ◌<◌, ℕ, All, IsTrue, Bool, false, not, List, [], ◌∷◌, ◌++◌, map, filter, flat_map, fold, length, vec_capacity, if◌then◌else◌}

@@ -1,4 +1,4 @@
--- To be believed (docs/definitions.md).
+-- To be believed (definitions.md).
 -- How a system is run until so many transactions have ended: looks at all ports, and then scans in which nodes may
 -- begin transactions.
 use Rattle.std.specs.Prelude.{◌≡◌, ◌-◌, ℕ, Bool, true, false, not, ◌||◌, nat_le, List, fold, map, if◌then◌else◌}

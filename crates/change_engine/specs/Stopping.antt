@@ -1,4 +1,4 @@
--- To be believed (docs/definitions.md).
+-- To be believed (definitions.md).
 -- How a system is stopped: the ports of all live nodes are passivated, and all logs are collected.
 use Rattle.std.specs.Prelude.{◌≡◌, ℕ, List, [], ◌∷◌}
 use Rattle.report_types.specs.declared.report.HistoryLine.TheVariants as to

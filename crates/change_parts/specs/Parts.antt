@@ -1,4 +1,4 @@
--- To be believed (docs/definitions.md).
+-- To be believed (definitions.md).
 -- A change in parts: each part takes the fewest groups after which there is no cycle of dependent services.
 use Rattle.std.specs.Prelude.{⊤, ◌<◌, ◌≡◌, ℕ, List, [], ◌∷◌, ◌++◌, length, take, Some, slice_get, zero, suc}
 use Rattle.config_graph.specs.Cycles.{HasCycle, graph_wiring}

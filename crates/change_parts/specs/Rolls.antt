@@ -1,4 +1,4 @@
--- To be believed (docs/definitions.md).
+-- To be believed (definitions.md).
 -- A roll: a start, a run, and the parts of a change one after the other. The rounds decide which part is given up, if
 -- any.
 use Rattle.std.specs.Prelude.{◌≡◌, ◌+◌, ◌-◌, ℕ, ℤ, List, [], ◌∷◌, drop, length, map, Option, None, Some, if◌then◌else◌}

@@ -1,4 +1,4 @@
--- To be believed (docs/definitions.md).
+-- To be believed (definitions.md).
 -- Groups that are applied to a graph: their removed nodes are taken out and their created ones put in, and all ports
 -- of their created and kept nodes have the targets of the new graph.
 use Rattle.std.specs.Prelude.{◌⊎◌, ◌↔◌, ℕ, List, Contains}

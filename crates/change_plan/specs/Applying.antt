@@ -1,4 +1,4 @@
--- To be believed (docs/definitions.md).
+-- To be believed (definitions.md).
 -- What is there after a plan's steps: nodes as they are, by path, kind and argument, and connections between such
 -- nodes.
 use Rattle.std.specs.Prelude.{◌≡◌, ◌<◌, ◌⊎◌, ℕ, List, Some, slice_get, Contains}

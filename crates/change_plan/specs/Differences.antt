@@ -1,4 +1,4 @@
--- To be believed (docs/definitions.md).
+-- To be believed (definitions.md).
 -- What one graph has and another hasn't. A node of the one and a node of the other are the same exactly where path,
 -- kind and argument are equal; links are compared through the nodes at which they begin and end.
 use Rattle.std.specs.Prelude.{◌≡◌, ℕ, List, Some, length, map, slice_get, Contains}

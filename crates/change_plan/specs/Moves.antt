@@ -1,4 +1,4 @@
--- To be believed (docs/definitions.md).
+-- To be believed (definitions.md).
 -- Moves: the state of a node that is removed goes to one that is created, of the same kind. They are named by paths.
 use Rattle.std.specs.Prelude.{◌≡◌, ◌<◌, ℕ, List, Some, map, slice_get, take, Any, Contains}
 use Rattle.std.specs.List.Sorted.{IsStrictlyIncreasing}

@@ -1,4 +1,4 @@
--- To be believed (docs/definitions.md).
+-- To be believed (definitions.md).
 -- The text of a plan: a line for each of its steps.
 use Rattle.std.specs.Prelude.{ℕ, List, [], ◌++◌, flat_map, slice_get, codes}
 use Rattle.std.specs.Option.{option_map_or}

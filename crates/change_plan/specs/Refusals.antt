@@ -1,4 +1,4 @@
--- To be believed (docs/definitions.md).
+-- To be believed (definitions.md).
 -- Why there is no plan: the first move in order that can't be made, and in it the first of its faults; or else too
 -- many nodes or ports.
 use Rattle.std.specs.Prelude.{◌≡◌, ◌⊎◌, ℕ, List, Some, length, slice_get, sum_by, take}

@@ -1,4 +1,4 @@
--- To be believed (docs/definitions.md).
+-- To be believed (definitions.md).
 -- The part of a list that has a property.
 use Rattle.std.specs.Prelude.{List, [], ◌∷◌}
 

@@ -1,4 +1,4 @@
--- To be believed (docs/definitions.md).
+-- To be believed (definitions.md).
 -- The nodes of the old graph that a change touches, which have to be quiescent for it, and those that it freezes, so
 -- that these become quiescent (Kramer and Magee 1990).
 use Rattle.std.specs.Prelude.{◌≡◌, ◌<◌, ◌⊎◌, ℕ, Option, Some, None}

@@ -1,4 +1,4 @@
--- To be believed (docs/definitions.md).
+-- To be believed (definitions.md).
 -- The events that carry out a plan, from the configuration in which its commit begins. A plan names nodes by their
 -- places in the old and the new graph, the machine by slots: they meet in the paths of live nodes. Ports are
 -- unlinked, nodes removed, made in the slots that come next, and linked, and then ports are reopened, each in the

@@ -1,4 +1,4 @@
--- To be believed (docs/definitions.md).
+-- To be believed (definitions.md).
 -- When the change that a plan describes may be committed.
 use Rattle.std.specs.Prelude.{◌≡◌, ℕ, ◌<◌, length, slice_get, Some, Contains, IsTrue, List}
 use Rattle.change_plan.specs.Plans.{IsPlanOf}

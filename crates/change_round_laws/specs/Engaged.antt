@@ -1,4 +1,4 @@
--- To be believed (docs/definitions.md).
+-- To be believed (definitions.md).
 -- In which logs of a report the events of a transaction stand: in those of the two nodes that it engages, and in no other
 -- (after Kramer and Magee 1990).
 use Rattle.std.specs.Prelude.{◌≡◌, ℕ, ◌==◌, List, All, Some, IsTrue, if◌then◌else◌}

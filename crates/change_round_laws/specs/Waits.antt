@@ -1,4 +1,4 @@
--- To be believed (docs/definitions.md).
+-- To be believed (definitions.md).
 -- Changes that are committed, by how long they may wait.
 use Rattle.std.specs.Prelude.{◌≤◌, ⊤, ℕ, List, IsTrue}
 use Rattle.change_spec.specs.Serial.{ChangesTo, Played, is_none_left, world_after}

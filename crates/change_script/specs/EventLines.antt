@@ -1,4 +1,4 @@
--- To be believed (docs/definitions.md).
+-- To be believed (definitions.md).
 -- What a line of an event file means, by its tokens.
 use Rattle.std.specs.Prelude.{ℕ, ℤ, ◌&&◌, if◌then◌else◌, List, [], ◌∷◌, ◌++◌, codes, bytes_eq, find, Option, Some, None, option_map, option_copied, Result, Ok, Err}
 use Rattle.std.specs.List.{list_all}

@@ -1,4 +1,4 @@
--- To be believed (docs/definitions.md).
+-- To be believed (definitions.md).
 -- What is wrong with a line, of which the form is looked at before the size of its numbers, and how a text's refusal
 -- names it.
 use Rattle.std.specs.Prelude.{◌≡◌, ℕ, Result, Ok, Err}

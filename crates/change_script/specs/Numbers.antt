@@ -1,4 +1,4 @@
--- To be believed (docs/definitions.md).
+-- To be believed (definitions.md).
 -- Words that are numbers and integers, and their values.
 use Rattle.std.specs.Prelude.{ℕ, ℤ, pos, neg_ℤ, Bool, false, ◌==◌, nat_le, if◌then◌else◌, List, [], ◌∷◌, drop, slice_index, Result, Ok, Err}
 use Rattle.std.specs.List.{list_all}

@@ -1,4 +1,4 @@
--- To be believed (docs/definitions.md).
+-- To be believed (definitions.md).
 -- The words of a line of a script, by the form that the line has.
 use Rattle.std.specs.Prelude.{ℕ, Bool, false, not, nat_eq, ◌&&◌, if◌then◌else◌, List, [], ◌∷◌, map, drop, codes, bytes_eq, find, Option, Some, None, option_map}
 use Rattle.std.specs.List.{list_all, prefix_len, starts_with}

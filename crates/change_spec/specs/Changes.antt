@@ -1,4 +1,4 @@
--- To be believed (docs/definitions.md).
+-- To be believed (definitions.md).
 -- The lines of a change: it closes the ports of the nodes that its plan freezes, and waits for them to drain. Then
 -- either it takes each step of the plan, or it reopens what it closed (Kramer and Magee 1990).
 use Rattle.std.specs.Prelude.{◌≡◌, ◌≤◌, ◌<◌, ◌⊎◌, ℕ, ℤ, ◌+◌, List, [], ◌∷◌, ◌++◌, map, length, flat_map, All}

@@ -1,4 +1,4 @@
--- To be believed (docs/definitions.md).
+-- To be believed (definitions.md).
 -- Whether a report can be one of this machine for a script: all that is asked of a lawful one, but for the numbers of
 -- `run` lines, and of those of `finish` lines only that they keep to their limit.
 use Rattle.std.specs.Prelude.{Bool, true, nat_le, List, IsTrue}

@@ -1,4 +1,4 @@
--- To be believed (docs/definitions.md).
+-- To be believed (definitions.md).
 -- How a report ends: to which node a state went, and with which status.
 use Rattle.std.specs.Prelude.{ℕ, Bool, false, ◌==◌, List, find, filter_map, Option, is_some, if◌then◌else◌}
 use Rattle.std.specs.List.{list_any}

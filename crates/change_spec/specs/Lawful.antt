@@ -1,4 +1,4 @@
--- To be believed (docs/definitions.md).
+-- To be believed (definitions.md).
 -- Lawful reports: the nodes' logs and the history are parts of one run of the change machine, in which a change
 -- touches a node only while it is quiescent (Kramer and Magee 1990).
 use Rattle.std.specs.Prelude.{◌≡◌, ◌≤◌, ◌<◌, ◌⊎◌, ⊤, ℕ, ◌-◌, Bool, true, false, not, List, ◌++◌, map, length, filter_map, slice_get, find, All, Option, Some, None, IsTrue, if◌then◌else◌}

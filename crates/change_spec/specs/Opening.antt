@@ -1,4 +1,4 @@
--- To be believed (docs/definitions.md).
+-- To be believed (definitions.md).
 -- What a node has come to by a run: the fold of its own events, from what it was made with. A node whose `make` names
 -- another opens with what that one kept at last, and with its own argument.
 use Rattle.std.specs.Prelude.{ℕ, zero, suc, List, Option, Some, None, option_map, option_and_then}

@@ -1,4 +1,4 @@
--- To be believed (docs/definitions.md).
+-- To be believed (definitions.md).
 -- Rest on threads: all at rest at one place, and what the report of a run on threads must be beside lawful: where it
 -- ended short of what was asked, all rested at one place.
 use Rattle.std.specs.Prelude.{◌≡◌, ◌≤◌, ◌<◌, ◌⊎◌, ◌++◌, ◌∷◌, ⊤, ℕ, false, List, map, None, IsTrue}

@@ -1,4 +1,4 @@
--- To be believed (docs/definitions.md).
+-- To be believed (definitions.md).
 -- What the lines of a history so far come to, and what looks at closed ports found.
 use Rattle.std.specs.Prelude.{◌≡◌, ℕ, ◌==◌, List, filter_map}
 use Rattle.std.specs.List.{count_by}

@@ -1,4 +1,4 @@
--- To be believed (docs/definitions.md).
+-- To be believed (definitions.md).
 -- Which statements a script has, by what its descriptions elaborate to. A change is planned from the graph that the
 -- start or change before it named, and there must be room for all that the lines above would make: whether a change
 -- is given up isn't known before the run. `elab` says to which graph a component elaborates: by the file's name, the

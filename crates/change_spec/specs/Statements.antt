@@ -1,4 +1,4 @@
--- To be believed (docs/definitions.md).
+-- To be believed (definitions.md).
 -- The statements of a script, each start and change with the graph that its description elaborates to. What a report
 -- must be follows from these; which statements a script has is `StatementsOf` (Scripts).
 use Rattle.std.specs.Prelude.{ℕ, ℤ, Bool, true, false, List, Option, Some, None}

@@ -1,4 +1,4 @@
--- To be believed (docs/definitions.md).
+-- To be believed (definitions.md).
 -- What was told and what was done, as one list: items of a transcript and moments of a run that have the same entries
 -- are joined so that each entry stands once. The members of a lawful report are those of such a list.
 use Rattle.std.specs.Prelude.{◌≡◌, List, filter_map, Option, Some, None, if◌then◌else◌}

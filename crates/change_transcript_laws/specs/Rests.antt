@@ -1,4 +1,4 @@
--- To be believed (docs/definitions.md).
+-- To be believed (definitions.md).
 -- Rest on threads: what stands behind a place where all rested.
 use Rattle.std.specs.Prelude.{◌≡◌, ℕ, false, List, Some, None, IsTrue}
 use Rattle.std.specs.List.{AllByRecursion}

@@ -1,4 +1,4 @@
--- To be believed (docs/definitions.md).
+-- To be believed (definitions.md).
 -- The text of a change in parts: of each part its number, and the text of its plan from the graph before it. And that
 -- of a roll, which carries them out one after the other.
 use Rattle.std.specs.Prelude.{ℕ, List, [], ◌∷◌, ◌++◌, codes, decimal, suc, Option, None, Some}

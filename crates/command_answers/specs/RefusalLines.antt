@@ -1,4 +1,4 @@
--- To be believed (docs/definitions.md).
+-- To be believed (definitions.md).
 -- The lines that refuse: what refuses, and the name of the fault with its fields, each after a space. A place is
 -- written as LINE:COLUMN, and the empty path, that of the top, as a full stop.
 use Rattle.std.specs.Prelude.{ℕ, List, [], ◌∷◌, ◌++◌, codes, decimal}

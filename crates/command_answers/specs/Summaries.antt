@@ -1,4 +1,4 @@
--- To be believed (docs/definitions.md).
+-- To be believed (definitions.md).
 -- The summary of a run: how many nodes were made, how many `commit` lines there are (that of the start is one), how many
 -- values the sinks keep at the end, and how the run ended.
 use Rattle.std.specs.Prelude.{ℕ, Bool, true, false, List, [], ◌++◌, codes, count_by, flat_map, length, slice_get, if◌then◌else◌}

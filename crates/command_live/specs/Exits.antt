@@ -1,4 +1,4 @@
--- To be believed (docs/definitions.md).
+-- To be believed (definitions.md).
 -- The code with which the program exits.
 use Rattle.std.specs.Prelude.{◌≡◌}
 use Rattle.std.specs.Process.{exit_status}

@@ -1,4 +1,4 @@
--- To be believed (docs/definitions.md).
+-- To be believed (definitions.md).
 -- Which words name no file of the shelf.
 use Rattle.std.specs.Prelude.{⊤, ℕ, Bool, List}
 use Rattle.command_words.specs.declared.words.Command.{Command}

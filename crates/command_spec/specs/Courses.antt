@@ -1,4 +1,4 @@
--- To be believed (docs/definitions.md).
+-- To be believed (definitions.md).
 -- Courses: what may be fetched one after the other, and what is answered then. A course is put together of single
 -- steps, each of which says once, for all commands, how it ends early: by a refusal, or since memory ran out.
 use Rattle.std.specs.Prelude.{◌≡◌, ℕ, List, [], ◌∷◌, codes}

@@ -1,4 +1,4 @@
--- To be believed (docs/definitions.md).
+-- To be believed (definitions.md).
 -- What the bytes of a description say: its tree, the graph of a component with arguments, or what refuses it.
 use Rattle.std.specs.Prelude.{ℕ, ℤ, List, length, slice_get}
 use Rattle.std.specs.Option.{option_map_or}

@@ -1,4 +1,4 @@
--- To be believed (docs/definitions.md).
+-- To be believed (definitions.md).
 -- Fetches of files by their names, and what a shelf tells of them.
 use Rattle.std.specs.Prelude.{◌≡◌, ◌≤◌, ◌<◌, ℕ, List, [], ◌∷◌, Option, Some, None, IsSomeAnd, Contains, length}
 use Rattle.std.specs.List.{flat_map}

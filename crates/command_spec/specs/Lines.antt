@@ -1,4 +1,4 @@
--- To be believed (docs/definitions.md).
+-- To be believed (definitions.md).
 -- What a run does line by line, whether the lines are those of a script or stand for the words of a command: which
 -- description is used from there on, and which graph is drawn, started, or changed to.
 use Rattle.std.specs.Prelude.{◌≡◌, ℕ, ℤ, List, [], ◌∷◌, ◌++◌, Option, Some, None, length}

@@ -1,4 +1,4 @@
--- To be believed (docs/definitions.md).
+-- To be believed (definitions.md).
 -- What each status of a run says, of the words and of what was fetched and written.
 use Rattle.std.specs.Prelude.{◌≡◌, ◌≢◌, ◌≤◌, ◌<◌, ◌⊎◌, ℕ, Bool, true, List, [], ◌∷◌, ◌++◌, Option, Some, None, IsSomeAnd, length, take, codes}
 use Rattle.std.specs.List.{AllByRecursion}

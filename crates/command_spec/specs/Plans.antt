@@ -1,4 +1,4 @@
--- To be believed (docs/definitions.md).
+-- To be believed (definitions.md).
 -- Changes between two components of one description. A run that starts with the first has to keep the limits of a run;
 -- the change to the second then follows, with what the start made. No state is moved.
 use Rattle.std.specs.Prelude.{◌≡◌, ℕ, ℤ, List, [], length, Option}

@@ -1,4 +1,4 @@
--- To be believed (docs/definitions.md).
+-- To be believed (definitions.md).
 -- What is wanted of a description: with which words its bytes are refused, and which status and text they give.
 use Rattle.std.specs.Prelude.{◌≡◌, ℕ, List}
 use Rattle.config_graph.specs.Graph.{Graph}

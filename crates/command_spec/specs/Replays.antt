@@ -1,4 +1,4 @@
--- To be believed (docs/definitions.md).
+-- To be believed (definitions.md).
 -- What events come to over a component of a description.
 use Rattle.std.specs.Prelude.{ℕ, List, length}
 use Rattle.config_graph.specs.Graph.{Graph}

@@ -1,4 +1,4 @@
--- To be believed (docs/definitions.md).
+-- To be believed (definitions.md).
 -- What the report of a run must be, for what was to be done in it.
 use Rattle.std.specs.Prelude.{List}
 use Rattle.change_spec.specs.Lawful.{LawfulInRounds}

@@ -1,4 +1,4 @@
--- To be believed (docs/definitions.md).
+-- To be believed (definitions.md).
 -- What a run of the program is, by its words: some fetches, an answer, and what was written of it.
 use Rattle.std.specs.Prelude.{◌≡◌, ◌<◌, ⊤, ℕ, Bool, List, [], ◌++◌, Option, length, take}
 use Rattle.std.specs.List.{AllByRecursion}

@@ -1,4 +1,4 @@
--- To be believed (docs/definitions.md).
+-- To be believed (definitions.md).
 -- How the nodes of a run take their turns, what the report of the run must be then, and which bytes show it.
 use Rattle.std.specs.Prelude.{◌≡◌, ℕ, List}
 use Rattle.change_spec.specs.Resting.{ReportsOnThreads}

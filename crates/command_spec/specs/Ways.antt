@@ -1,4 +1,4 @@
--- To be believed (docs/definitions.md).
+-- To be believed (definitions.md).
 -- The way that lines lead, where it is told what each file holds: to which progress, or to which line that is refused.
 use Rattle.std.specs.Prelude.{◌≡◌, ◌≤◌, ℕ, ℤ, List, [], ◌∷◌, ◌++◌, codes, length}
 use Rattle.config_graph.specs.Graph.{Graph}

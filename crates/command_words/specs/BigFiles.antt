@@ -1,4 +1,4 @@
--- To be believed (docs/definitions.md).
+-- To be believed (definitions.md).
 -- The files of `big`: a description of lanes, each a source, a map, a buffer, a map and a sink in a row, and the
 -- script of a run that starts so many lanes, changes the first map of each, and ends when all are done or 100,000 rounds
 -- are made.

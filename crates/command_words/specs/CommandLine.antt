@@ -1,4 +1,4 @@
--- To be believed (docs/definitions.md).
+-- To be believed (definitions.md).
 -- The words of a command line, and which command they ask for: the first word names it, and the others are its body.
 use Rattle.std.specs.Prelude.{◌≡◌, ◌≢◌, ◌≤◌, ◌<◌, ◌^◌, ℕ, ℤ, List, [], ◌∷◌, ◌++◌, map, codes, slice_index, FitsSigned, Bool, not, bytes_eq}
 use Rattle.std.specs.Int.{w32}

@@ -1,4 +1,4 @@
--- To be believed (docs/definitions.md).
+-- To be believed (definitions.md).
 -- The state of a node after events of its own. There is none where an event isn't what a node of its kind does.
 use Rattle.std.specs.Prelude.{ℕ, ◌+◌, Bool, false, ◌==◌, ◌&&◌, ◌||◌, nat_lt, List, length, fold, if◌then◌else◌}
 use Rattle.std.specs.Prelude.{Option, Some, None, is_none, option_and_then}

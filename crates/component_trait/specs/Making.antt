@@ -1,4 +1,4 @@
--- To be believed (docs/definitions.md).
+-- To be believed (definitions.md).
 -- What a node that is made opens with, and what one opens with that takes over what another of its kind keeps.
 use Rattle.std.specs.Prelude.{ℕ, Option}
 use Rattle.std.specs.Option.{option_map_or}

@@ -1,4 +1,4 @@
--- To be believed (docs/definitions.md).
+-- To be believed (definitions.md).
 -- The state of a node: what it keeps from one service to the next, and the service that it is in.
 use Rattle.std.specs.Prelude.{ℕ, Bool, List, [], Option, Some, None, is_some, if◌then◌else◌}
 use Rattle.config_graph.specs.Kinds.{row}

@@ -1,4 +1,4 @@
--- To be believed (docs/definitions.md).
+-- To be believed (definitions.md).
 -- The machine of each kind, as tables: what a node opens with, what it wants, what an ended transaction of its own
 -- changes, what serving does at once, what comes next in a service, what it replies, when it is done, and the numbers
 -- of its state.

@@ -1,4 +1,4 @@
--- To be believed (docs/definitions.md).
+-- To be believed (definitions.md).
 -- The wiring of a graph, and cycles of it.
 use Rattle.std.specs.Prelude.{◌≡◌, ℕ, ◌<◌, Bool, false, IsTrue, if◌then◌else◌, List, Option, Some, None, option_map, slice_get}
 use Rattle.std.specs.Option.{option_map_or}

@@ -1,4 +1,4 @@
--- To be believed (docs/definitions.md).
+-- To be believed (definitions.md).
 -- The passive set of a change, enlarged for dependent transactions (Kramer and Magee 1990).
 use Rattle.std.specs.Prelude.{ℕ, ◌⊎◌}
 use Rattle.config_graph.specs.Cycles.{graph_wiring}

@@ -1,4 +1,4 @@
--- To be believed (docs/definitions.md).
+-- To be believed (definitions.md).
 -- Configurations as flat graphs (Kramer and Magee 1990: nodes and directed connections): a list of nodes, ordered by
 -- their paths, and a list of links, ordered by their ports. Nodes are named by their places in the list, from 0. A
 -- port is a required service of a node; ports are numbered through all nodes in order, each node's requirements in

@@ -1,4 +1,4 @@
--- To be believed (docs/definitions.md).
+-- To be believed (definitions.md).
 -- The text of a graph: a line for each node, and below it a line for each of its requirements.
 use Rattle.std.specs.Prelude.{ℕ, List, [], ◌++◌, flat_map, Option, Some, None, slice_get, unwrap_or, codes, decimal, ◌≢◌, All}
 use Rattle.std.specs.List.{enumerate_from, range_with_len}

@@ -1,4 +1,4 @@
--- To be believed (docs/definitions.md).
+-- To be believed (definitions.md).
 -- The kinds of nodes as a table: of each kind its number and name, the services that it provides and requires, each
 -- numbered from 0 in the order given, and whether a node of it has an argument.
 use Rattle.std.specs.Prelude.{ℕ, Bool, false, List, [], ◌∷◌, Option, Some, None, ◌==◌, codes, bytes_eq, slice_get, find}

@@ -1,4 +1,4 @@
--- To be believed (docs/definitions.md).
+-- To be believed (definitions.md).
 -- A search for all nodes to which ways lead: those that were seen, as a bit a node, and the list of them in the order
 -- in which they were seen.
 use Rattle.std.specs.Prelude.{ℕ, Bool, true, List, [], ◌∷◌, ◌++◌, filter_map, if◌then◌else◌, slice_index_or, slice_set}

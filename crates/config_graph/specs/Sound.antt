@@ -1,4 +1,4 @@
--- To be believed (docs/definitions.md).
+-- To be believed (definitions.md).
 -- Sound graphs: those that a description gives and that may be run.
 use Rattle.std.specs.Prelude.{◌≡◌, ◌<◌, All, IfSome, is_some}
 use Rattle.config_graph.specs.Kinds.{row}

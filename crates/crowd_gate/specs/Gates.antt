@@ -1,4 +1,4 @@
--- To be believed (docs/definitions.md).
+-- To be believed (definitions.md).
 -- A gate in one number: how many roots are under way at its port, and 2^31 more where it is closed. What it tells of the
 -- port, and when the number is that of a port in a crowd.
 use Rattle.std.specs.Prelude.{◌≡◌, ℕ, ◌-◌, ◌+◌, Bool, true, false, ◌&&◌, nat_le, nat_lt, List, [], ◌∷◌, count_by, filter, IsTrue, if◌then◌else◌}

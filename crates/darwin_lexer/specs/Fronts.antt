@@ -1,4 +1,4 @@
--- To be believed (docs/definitions.md).
+-- To be believed (definitions.md).
 -- What stands at the front of a text: a blank, a comment, the longest token, or what is wrong there.
 use Rattle.std.specs.Prelude.{◌≡◌, ℕ, suc, ◌+◌, ◌<◌, ◌≤◌, ◌==◌, not, nat_eq, nat_le, if◌then◌else◌, Option, Some, None, option_map, List, [], ◌∷◌, take, drop, length, codes}
 use Rattle.std.specs.List.{starts_with, prefix_len}

@@ -1,4 +1,4 @@
--- To be believed (docs/definitions.md).
+-- To be believed (definitions.md).
 -- Words that are names by themselves, with nothing before or behind.
 use Rattle.std.specs.Prelude.{◌≡◌, ℕ, List, length}
 use Rattle.darwin_lexer.specs.declared.front.Front.TheVariants.{Lexeme}

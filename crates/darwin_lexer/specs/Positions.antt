@@ -1,4 +1,4 @@
--- To be believed (docs/definitions.md).
+-- To be believed (definitions.md).
 -- The place of a byte: its line and its column, both from 1, by what stands before it. Only a line feed ends a line.
 use Rattle.std.specs.Prelude.{ℕ, ◌+◌, ◌==◌, if◌then◌else◌, List, fold, take}
 use Rattle.darwin_lexer.specs.declared.token.At.{At}

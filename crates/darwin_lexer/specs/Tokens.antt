@@ -1,4 +1,4 @@
--- To be believed (docs/definitions.md).
+-- To be believed (definitions.md).
 -- The tokens of a text: the one way to part it, from its first byte to its last, into blanks, comments and longest
 -- tokens; or its first fault.
 use Rattle.std.specs.Prelude.{◌≡◌, ℕ, ◌+◌, ◌-◌, List, [], ◌∷◌, take, drop, length, Result, IsErrOf, ◌⊎◌}

@@ -1,4 +1,4 @@
--- To be believed (docs/definitions.md).
+-- To be believed (definitions.md).
 -- The grammar of descriptions, one definition a production: which tokens spell which tree. The numbers say how deep
 -- operands and statements may nest. Chains of one level group to the left, comparisons don't chain, and a place is
 -- that of the first token.

@@ -1,4 +1,4 @@
--- To be believed (docs/definitions.md).
+-- To be believed (definitions.md).
 -- Languages: which lists of tokens spell which values, and how longer spellings are made of shorter ones.
 use Rattle.std.specs.Prelude.{◌≡◌, ◌⊎◌, List, [], ◌∷◌, ◌++◌, Option, Some, None}
 use Rattle.darwin_lexer.specs.declared.token.Token.{Token}

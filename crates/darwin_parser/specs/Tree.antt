@@ -1,4 +1,4 @@
--- To be believed (docs/definitions.md).
+-- To be believed (definitions.md).
 -- The syntax tree of a description, without where it lies in memory. A tree of the program is seen as one
 -- of these, so that two trees are equal exactly where they say the same.
 use Rattle.std.specs.Prelude.{ℕ, List, [], ◌∷◌, Option, map, option_map}

@@ -1,4 +1,4 @@
--- To be believed (docs/definitions.md).
+-- To be believed (definitions.md).
 -- The faults of a description: names that stand for two things or for nothing, and arguments too few or too many.
 -- Values (parameters and the variables of `forall`s), ports, and instances with arrays are three classes of names.
 use Rattle.std.specs.Prelude.{◌≡◌, ◌≢◌, ℕ, Bool, true, false, List, Option, Some, None, Contains, map, count_by, length, min, nat_le, bytes_eq, IsSome}

@@ -1,4 +1,4 @@
--- To be believed (docs/definitions.md).
+-- To be believed (definitions.md).
 -- Where a component uses names or gives them: each expression and each variable of a `forall` with the
 -- names of values round it, each `inst` entry, and each end of a binding.
 use Rattle.std.specs.Prelude.{List, [], ◌∷◌, ◌++◌, Option, map, unwrap_or}

@@ -1,4 +1,4 @@
--- To be believed (docs/definitions.md).
+-- To be believed (definitions.md).
 -- Primitive components as node kinds.
 use Rattle.std.specs.Prelude.{ℕ, Bool, true, false, List, map, length, ◌==◌, ◌&&◌, bytes_eq, is_none, is_some, cond}
 use Rattle.std.specs.List.{list_any, list_all}

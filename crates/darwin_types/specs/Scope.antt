@@ -1,4 +1,4 @@
--- To be believed (docs/definitions.md).
+-- To be believed (definitions.md).
 -- What a description declares: its components by name, and the parameters, ports, arrays, instances and entries of
 -- each component. Where a name is declared twice, a look-up finds the first.
 use Rattle.std.specs.Prelude.{ℕ, List, [], ◌∷◌, ◌++◌, Option, Bool, ◌==◌, find, length, map, option_map, unwrap_or, is_none, bytes_eq, Some, false}

@@ -1,4 +1,4 @@
--- To be believed (docs/definitions.md).
+-- To be believed (definitions.md).
 -- What one instance of a component gives by what is reached in it: the instances that its entries make, its bindings
 -- with the values of their indexes, and its faults.
 use Rattle.std.specs.Prelude.{◌&&◌, ℤ, pos, int_le, int_lt, List, [], ◌∷◌, ◌++◌, map, Option, Some, None, option_map, option_and_then, if◌then◌else◌}

@@ -1,4 +1,4 @@
--- To be believed (docs/definitions.md).
+-- To be believed (definitions.md).
 -- What is reached in one instance of a component: the expressions that are valued, the turns of `forall`, and the
 -- entries of instances and bindings, each with the variables round it. A statement is reached where the variables
 -- round it have values of their ranges and each `when` round it is true.

@@ -1,4 +1,4 @@
--- To be believed (docs/definitions.md).
+-- To be believed (definitions.md).
 -- What expressions are worth. Values are integers from -2,147,483,648 to 2,147,483,647; an operation whose exact
 -- result lies outside has no value, nor has a division by 0.
 use Rattle.std.specs.Prelude.{Bool, true, false, ◌&&◌, not, ℤ, pos, negsuc, ◌+ℤ◌, ◌-ℤ◌, ◌*ℤ◌, int_lt, int_le, int_div, int_rem, if◌then◌else◌, List, find, bytes_eq, map}

@@ -1,4 +1,4 @@
--- To be believed (docs/definitions.md).
+-- To be believed (definitions.md).
 -- The bindings of an elaboration as pairs of ends, the source first, and where lists of them lead. An inner requirement
 -- may be bound to an inner provision or to an outer requirement, and an outer provision to an inner provision. So a
 -- list of bindings leads outward through requirements, once across, and inward through provisions.

@@ -1,4 +1,4 @@
--- To be believed (docs/definitions.md).
+-- To be believed (definitions.md).
 -- What an elaboration gives where none of its faults holds: the one graph.
 use Rattle.std.specs.Prelude.{◌≡◌, ℤ, List, Some, Result}
 use Rattle.base.specs.Answers.{Answers}

@@ -1,4 +1,4 @@
--- To be believed (docs/definitions.md).
+-- To be believed (definitions.md).
 -- The faults of an elaboration: the set of those that hold. Where it is empty the elaboration is the graph.
 use Rattle.std.specs.Prelude.{Bool, ◌≡◌, ◌≢◌, ◌<◌, ℕ, true, ◌&&◌, not, ℤ, pos, int_le, int_lt, List, [], ◌∷◌, ◌++◌, length, sum_by, Option, Some, None, if◌then◌else◌, Contains, slice_get}
 use Rattle.std.specs.List.{flat_map, list_all}

@@ -1,4 +1,4 @@
--- To be believed (docs/definitions.md).
+-- To be believed (definitions.md).
 -- The graph of an elaboration: its nodes are the instances of primitive components, and a requirement of a node is
 -- linked to a provision of a node where a list of bindings leads from the one to the other.
 use Rattle.std.specs.Prelude.{◌≡◌, ℕ, ℤ, pos, negsuc, List, Option, Some, None, option_map, slice_get, if◌then◌else◌}

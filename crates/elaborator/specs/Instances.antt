@@ -1,4 +1,4 @@
--- To be believed (docs/definitions.md).
+-- To be believed (definitions.md).
 -- The instances of an elaboration: the top, and below each instance those that the entries reached in it make. Nothing
 -- is reached in an instance of a primitive component, which is a node, nor in one of depth 33, which is too deep.
 use Rattle.std.specs.Prelude.{ℕ, zero, suc, Bool, ◌&&◌, not, nat_lt, ℤ, List, [], ◌∷◌, ◌++◌, length, sum_by, Option, Some, None, option_map, option_and_then, if◌then◌else◌, ◌==◌, Contains}

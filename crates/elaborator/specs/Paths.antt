@@ -1,4 +1,4 @@
--- To be believed (docs/definitions.md).
+-- To be believed (definitions.md).
 -- Paths of instances, as bytes: the segments from the top inward, joined by full stops. A segment is the name of an
 -- instance, or the name of an array and an index in brackets. The path of the top is empty.
 use Rattle.std.specs.Prelude.{ℤ, [], ◌∷◌, ◌++◌, Option, codes}

@@ -1,4 +1,4 @@
--- To be believed (docs/definitions.md).
+-- To be believed (definitions.md).
 -- What a system on threads leaves behind: a report, and the seat of its change, with its record and the nodes that it
 -- took in for good.
 use Rattle.std.specs.Prelude.{◌≡◌, ◌++◌, ℕ, false, List, None, map, length, All}

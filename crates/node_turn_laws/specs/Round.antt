@@ -1,4 +1,4 @@
--- To be believed (docs/definitions.md).
+-- To be believed (definitions.md).
 -- Rounds: one turn to each live node, in the order of slots.
 use Rattle.std.specs.Prelude.{◌≡◌, ℕ, not, zero, suc, ◌<◌, Bool, false, ◌&&◌, ◌||◌, List, length, fold, filter, is_some, IsTrue}
 use Rattle.std.specs.List.{count_by, list_all, range_with_len}

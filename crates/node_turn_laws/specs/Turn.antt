@@ -1,4 +1,4 @@
--- To be believed (docs/definitions.md).
+-- To be believed (definitions.md).
 -- A node's turn: it posts what waits, and makes the first of four moves that is possible. It ends, or replies in, a
 -- transaction at the lowest of its ports at which a reply stands; it goes on with its service; it takes up the next
 -- request; or it begins what it wants.

@@ -1,4 +1,4 @@
--- To be believed (docs/definitions.md).
+-- To be believed (definitions.md).
 -- All that a system of one thread is while its nodes take turns: the machine's state, what each node made has come to
 -- by its own events, and the hints. A hint tells a node that a request waits for it at a port. It lies in the node's
 -- inbox, or waits with the node that would post it while that inbox is full.

@@ -1,4 +1,4 @@
--- To be believed (docs/definitions.md).
+-- To be believed (definitions.md).
 -- What a port of a state shows, which is all that a gate has of it.
 use Rattle.std.specs.Prelude.{ℕ, is_some}
 use Rattle.quiesce_word.specs.declared.word.Word.{Word}

@@ -1,4 +1,4 @@
--- To be believed (docs/definitions.md).
+-- To be believed (definitions.md).
 -- What a node knows from its own events alone: what it services, and how far each port of its own has come; and that
 -- the state has of it exactly that.
 use Rattle.std.specs.Prelude.{◌≡◌, ℕ, ◌+◌, Bool, true, false, not, ◌==◌, List, [], ◌∷◌, length, slice_get, Option, Some, None, is_some, option_map, fold, if◌then◌else◌, ⊤}

@@ -1,4 +1,4 @@
--- To be believed (docs/definitions.md).
+-- To be believed (definitions.md).
 -- The rules of each event as a record, one field a rule, in the order in which they are looked at.
 use Rattle.std.specs.Prelude.{ℕ, true, not, ◌&&◌, Option, Some, is_none, IsTrue}
 use Rattle.std.specs.Option.{option_map_or}

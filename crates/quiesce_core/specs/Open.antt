@@ -1,4 +1,4 @@
--- To be believed (docs/definitions.md).
+-- To be believed (definitions.md).
 -- The transactions of a state that have not ended.
 use Rattle.std.specs.Prelude.{ℕ, Bool, List, length, Option, Some, None, is_none, option_map, filter_map, if◌then◌else◌}
 use Rattle.std.specs.List.{range_with_len}

@@ -1,4 +1,4 @@
--- To be believed (docs/definitions.md).
+-- To be believed (definitions.md).
 -- Which ports reach a node, and whether links close a cycle (Kramer and Magee 1990: a node is passive together with
 -- the nodes whose transactions can lead to it).
 use Rattle.std.specs.Prelude.{◌≡◌, ℕ, zero, suc, ◌+◌, ◌<◌, ◌≤◌, Bool, true, false, not, ◌&&◌, ◌||◌, ◌==◌, length, Some, IsTrue}

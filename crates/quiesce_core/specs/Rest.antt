@@ -1,4 +1,4 @@
--- To be believed (docs/definitions.md).
+-- To be believed (definitions.md).
 -- How many events can still happen before what is open has ended, at most. Numbers are unbounded.
 use Rattle.std.specs.Prelude.{ℕ, zero, suc, ◌+◌, ◌-◌, ◌*◌, max, List, [], ◌∷◌, length, filter, sum_by, if◌then◌else◌}
 use Rattle.std.specs.List.{range_with_len}

@@ -1,4 +1,4 @@
--- To be believed (docs/definitions.md).
+-- To be believed (definitions.md).
 -- The numbered rules of the change machine: what has to hold for each event. An event may happen where each of its
 -- rules holds, and else it is denied by the first that fails.
 use Rattle.std.specs.Prelude.{ℕ, ◌+◌, Bool, true, false, not, ◌&&◌, ◌||◌, ◌==◌, nat_lt, nat_le, List, [], ◌∷◌, length, Option, Some, None, is_some, is_none, bytes_eq, if◌then◌else◌}

@@ -1,4 +1,4 @@
--- To be believed (docs/definitions.md).
+-- To be believed (definitions.md).
 -- Steps and runs of the change machine, who does an event, and the transactions of a run (Kramer and Magee 1990: an
 -- exchange between two nodes, of whose completion the initiator is aware).
 use Rattle.std.specs.Prelude.{◌≡◌, ℕ, Bool, true, false, not, ◌&&◌, ◌==◌, List, [], ◌∷◌, ◌++◌, Option, Some, None, is_none, option_map, fold, if◌then◌else◌}

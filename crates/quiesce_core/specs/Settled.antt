@@ -1,4 +1,4 @@
--- To be believed (docs/definitions.md).
+-- To be believed (definitions.md).
 -- When a node may be changed: settled by its state, and quiescent by all that can still happen (Kramer and Magee 1990).
 use Rattle.std.specs.Prelude.{◌≡◌, ℕ, Bool, true, false, List, ◌++◌, Option, Some, None, option_map, IsTrue}
 use Rattle.std.specs.List.{list_any}

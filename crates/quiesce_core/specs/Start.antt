@@ -1,4 +1,4 @@
--- To be believed (docs/definitions.md).
+-- To be believed (definitions.md).
 -- The state of a system that was started as a graph says: its nodes in slots 0, 1 and on, their ports numbered in
 -- that order, linked, open and idle.
 use Rattle.std.specs.Prelude.{ℕ, true, false, List, map, Option, None}

@@ -1,4 +1,4 @@
--- To be believed (docs/definitions.md).
+-- To be believed (definitions.md).
 -- A state of a system that is changed while it runs: a configuration, which the change alone alters, and the traffic
 -- in it, which the nodes alone alter. Nodes are named by their slots and ports by their numbers, through all nodes
 -- made. Look-ups are total: what was not made looks fresh, that is closed, idle, unlinked and with serial 0, and

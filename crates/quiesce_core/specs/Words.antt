@@ -1,4 +1,4 @@
--- To be believed (docs/definitions.md).
+-- To be believed (definitions.md).
 -- The words of a state: what each port and each slot shows of itself in one number, and what an event makes of them.
 use Rattle.std.specs.Prelude.{ℕ, IsTrue, true, false, Option, Some, None, is_none, if◌then◌else◌}
 use Rattle.std.specs.Option.{option_map_or}

@@ -1,4 +1,4 @@
--- To be believed (docs/definitions.md).
+-- To be believed (definitions.md).
 -- What a commit needs: lists of what it unlinks, removes, makes and links lead from a configuration to a graph, and
 -- the ports of the nodes that it touches, and those that reach them, are known to be drained (Kramer and Magee 1990).
 use Rattle.std.specs.Prelude.{◌≡◌, ◌⊎◌, ℕ, ◌+◌, ◌<◌, ◌≤◌, Bool, true, List, length, Some, None, Contains}

@@ -1,4 +1,4 @@
--- To be believed (docs/definitions.md).
+-- To be believed (definitions.md).
 -- Ports that have no root of their own any more.
 use Rattle.std.specs.Prelude.{ℕ, Bool}
 use Rattle.quiesce_word.specs.Words as words

@@ -1,4 +1,4 @@
--- To be believed (docs/definitions.md).
+-- To be believed (definitions.md).
 -- How a configuration lies in a graph: which of its links are links of the graph, and when it is a part of it.
 use Rattle.std.specs.Prelude.{◌≡◌, ℕ, Some, Contains}
 use Rattle.config_graph.specs.Cycles.{IsLinked}

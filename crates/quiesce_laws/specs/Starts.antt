@@ -1,4 +1,4 @@
--- To be believed (docs/definitions.md).
+-- To be believed (definitions.md).
 -- How a system comes to be as a graph says: its nodes are made, in their order, then each linked port is linked and
 -- then each port is opened, in the order of the ports. And how it goes on from there.
 use Rattle.std.specs.Prelude.{ℕ, List, ◌++◌, map, Option, None, option_map, fold, filter_map}

@@ -1,4 +1,4 @@
--- To be believed (docs/definitions.md).
+-- To be believed (definitions.md).
 -- What a change may do by the configuration, where some ports are known to be drained: the machine's rules, with the
 -- rule that a node is settled told by ports alone.
 use Rattle.std.specs.Prelude.{⊤, ℕ, Bool, true, false, not, List, [], ◌∷◌, length, filter, fold, Some, IsTrue}

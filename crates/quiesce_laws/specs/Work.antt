@@ -1,4 +1,4 @@
--- To be believed (docs/definitions.md).
+-- To be believed (definitions.md).
 -- What a commit has to do, by slots and ports: which ports are unlinked, which nodes removed, made and linked.
 use Rattle.std.specs.Prelude.{◌≡◌, ⊤, ℕ, ◌+◌, List, [], ◌∷◌, ◌++◌, map, length, Option}
 use Rattle.config_graph.specs.Kinds.{row}

@@ -1,4 +1,4 @@
--- To be believed (docs/definitions.md).
+-- To be believed (definitions.md).
 -- Events replayed from a state: which of them is denied, and what is settled after all.
 use Rattle.std.specs.Prelude.{◌≡◌, ◌↔◌, ◌+◌, ℕ, List, ◌∷◌, ◌++◌, Some, length, Contains}
 use Rattle.std.specs.List.Sorted.{IsStrictlyIncreasing}

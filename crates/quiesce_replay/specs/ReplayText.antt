@@ -1,4 +1,4 @@
--- To be believed (docs/definitions.md).
+-- To be believed (definitions.md).
 -- The text of a replay: how many events there were, the transactions that haven't ended, how many events can follow
 -- until they have, and the settled nodes.
 use Rattle.std.specs.Prelude.{◌≡◌, ◌-◌, ◌^◌, ℕ, Bool, List, [], ◌++◌, min, flat_map, codes, decimal, if◌then◌else◌}

@@ -1,4 +1,4 @@
--- To be believed (docs/definitions.md).
+-- To be believed (definitions.md).
 -- Tests of how far a port's transaction has come.
 use Rattle.std.specs.Prelude.{Bool, true, false}
 use Rattle.quiesce_word.specs.declared.phase.Phase.{Phase}

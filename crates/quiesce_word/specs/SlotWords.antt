@@ -1,4 +1,4 @@
--- To be believed (docs/definitions.md).
+-- To be believed (definitions.md).
 -- The word of a slot: the fields that it spells of the node that was made there, and at which bits. The word is 0 where
 -- none was.
 use Rattle.std.specs.Prelude.{◌≡◌, ℕ, ◌+◌, ◌^◌, ◌<◌, ◌≤◌, List, [], ◌∷◌, Option, Some, None, IfSome, is_some, option_map, option_and_then, slice_get, if◌then◌else◌}

@@ -1,4 +1,4 @@
--- To be believed (docs/definitions.md).
+-- To be believed (definitions.md).
 -- Numbers and integers as words write them: in decimal, without leading zeros.
 use Rattle.std.specs.Prelude.{ℕ, ℤ, pos, neg_ℤ, Bool, false, not, ◌&&◌, ◌||◌, ◌==◌, nat_le, if◌then◌else◌, List, [], ◌∷◌, length, drop, slice_index, Option, Some, None, option_map}
 use Rattle.std.specs.Option.{option_zip}

@@ -1,4 +1,4 @@
--- To be believed (docs/definitions.md).
+-- To be believed (definitions.md).
 -- What a line of a report says, by its words.
 use Rattle.std.specs.Prelude.{ℕ, ℤ, ◌==◌, if◌then◌else◌, List, [], ◌∷◌, ◌++◌, codes, length, bytes_eq, find, Option, Some, None, option_map}
 use Rattle.std.specs.Option.{option_zip}

@@ -1,4 +1,4 @@
--- To be believed (docs/definitions.md).
+-- To be believed (definitions.md).
 -- What the values of a report's lines can be.
 use Rattle.std.specs.Prelude.{◌≡◌, ◌<◌, ◌^◌, ◌==◌, ◌&&◌, ⊤, ℕ, Bool, true, not, List, [], ◌∷◌, length, IfSome}
 use Rattle.std.specs.List.{AllByRecursion}

@@ -1,4 +1,4 @@
--- To be believed (docs/definitions.md).
+-- To be believed (definitions.md).
 -- The graph that lines show: nodes and links are read from them as they come, and the lines show this graph where
 -- they are its text and it is sound.
 use Rattle.std.specs.Prelude.{ℕ, ◌+◌, ◌-◌, zero, suc, ◌==◌, Bool, true, false, not, ◌&&◌, nat_lt, if◌then◌else◌, List, [], ◌∷◌, ◌++◌, ◌||◌, bytes_eq, filter_map, flat_map, is_some, length, replicate, slice_index_or, take, Option, Some, None}

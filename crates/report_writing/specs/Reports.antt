@@ -1,4 +1,4 @@
--- To be believed (docs/definitions.md).
+-- To be believed (definitions.md).
 -- The text of a report: its history, the logs of its nodes, and how it ended. Version 2 is written; in version 1 a
 -- log tells no path.
 use Rattle.std.specs.Prelude.{◌≡◌, ◌==◌, ℕ, ℤ, List, [], ◌∷◌, ◌++◌, Option, Some, None, All, codes, decimal, find, flat_map, filter_map, filter, length}

@@ -1,4 +1,4 @@
--- To be believed (docs/definitions.md).
+-- To be believed (definitions.md).
 -- Banks, beside whatever else there is: accounts are reached from branches alone, branches from tellers alone, and a
 -- branch leads from an account to an account.
 use Rattle.std.specs.Prelude.{◌≡◌, ℕ, Bool, true, false, List, Some, All}

@@ -1,4 +1,4 @@
--- To be believed (docs/definitions.md).
+-- To be believed (definitions.md).
 -- What the statements of a script describe, and a graph that one of them describes where it stands; which kinds links
 -- join, and which nodes a line makes.
 use Rattle.std.specs.Prelude.{◌≡◌, ℕ, Bool, true, false, ◌==◌, List, Option, Some, Any, IfSome, option_map, slice_get, if◌then◌else◌}

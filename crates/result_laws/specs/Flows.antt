@@ -1,4 +1,4 @@
--- To be believed (docs/definitions.md).
+-- To be believed (definitions.md).
 -- Systems of sources, maps, buffers and sinks alone, in any wiring; and what a report tells of their items: those that
 -- sources have sent, and those that buffers and sinks hold. An item counts as much as it weighs.
 use Rattle.std.specs.Prelude.{◌≡◌, ℕ, ◌+◌, ◌%◌, ◌<◌, Bool, true, false, not, ◌==◌, List, [], ◌∷◌, Some, All, ⊤, if◌then◌else◌, sum_by}

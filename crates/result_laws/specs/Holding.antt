@@ -1,4 +1,4 @@
--- To be believed (docs/definitions.md).
+-- To be believed (definitions.md).
 -- Which places hold which forks, and systems in which places alone lead to forks.
 use Rattle.std.specs.Prelude.{ℕ, ◌<◌, Bool, true, false, not, ◌==◌, ◌&&◌, ◌||◌, List, [], ◌∷◌, All, if◌then◌else◌, sum_by}
 use Rattle.std.specs.List.{list_any}

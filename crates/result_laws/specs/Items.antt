@@ -1,4 +1,4 @@
--- To be believed (docs/definitions.md).
+-- To be believed (definitions.md).
 -- What a row system computes: the items of the last sink, each by the graph that stood when its transaction began.
 use Rattle.std.specs.Prelude.{◌≡◌, ◌≢◌, ℕ, ◌+◌, true, List, [], ◌∷◌, ◌++◌, length, Some, slice_get, Contains}
 use Rattle.config_graph.specs.Graph.{Graph}

@@ -1,4 +1,4 @@
--- To be believed (docs/definitions.md).
+-- To be believed (definitions.md).
 -- Statements of which each description is of one shape, and changes that keep or move the nodes of some kinds.
 use Rattle.std.specs.Prelude.{◌≡◌, ◌⊎◌, ⊤, ℕ, List, [], ◌∷◌, Some, All, Any}
 use Rattle.config_graph.specs.Graph.{Graph}

@@ -1,4 +1,4 @@
--- To be believed (docs/definitions.md).
+-- To be believed (definitions.md).
 -- Row systems: one source leads through all maps, one after the other, to the sink; and what becomes of a value on the
 -- way.
 use Rattle.std.specs.Prelude.{◌≡◌, ◌⊎◌, ℕ, ◌+◌, ◌%◌, ◌<◌, List, [], ◌∷◌, Some, length, slice_get, fold, All, Contains}

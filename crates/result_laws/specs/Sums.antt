@@ -1,4 +1,4 @@
--- To be believed (docs/definitions.md).
+-- To be believed (definitions.md).
 -- What a bank computes: what accounts were opened with stands in the accounts that are live at the end, or went with
 -- those that were removed.
 use Rattle.std.specs.Prelude.{ℕ, Bool, true, false, ◌==◌, List, [], ◌∷◌, None, if◌then◌else◌, sum_by}

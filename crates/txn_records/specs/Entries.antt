@@ -1,4 +1,4 @@
--- To be believed (docs/definitions.md).
+-- To be believed (definitions.md).
 -- What is done and seen by a change, in order, and the configuration that its events make.
 use Rattle.std.specs.Prelude.{List, filter_map, Option, Some, None}
 use Rattle.quiesce_laws.specs.Steps.{change_all}

@@ -1,4 +1,4 @@
--- To be believed (docs/definitions.md).
+-- To be believed (definitions.md).
 -- Records: lists of entries from the beginning on. Of which runs they are the records, and what a change may do
 -- by them.
 use Rattle.std.specs.Prelude.{◌≡◌, ⊤, ℕ, true, false, List, ◌++◌, All, filter_map, Option, Some, None, IsTrue}

@@ -1,4 +1,4 @@
--- To be believed (docs/definitions.md).
+-- To be believed (definitions.md).
 -- What the change learns of its record, that it is one of a run, and of the nodes whose seats it took in: of one, that
 -- its record made it so, and that it services nothing once its record removed it; of all, that their events and its
 -- record are one run.

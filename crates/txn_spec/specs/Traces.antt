@@ -1,4 +1,4 @@
--- To be believed (docs/definitions.md).
+-- To be believed (definitions.md).
 -- Traces, and what of them words and seats show. A trace is what was done and seen so far, in one order, and who has
 -- which seat. It is that of a run where each event may happen after those before it, each look loaded the word that
 -- its port had there, and each sight has the events that its node had done. The words of ports and slots are those of

@@ -1,4 +1,4 @@
--- To be believed (docs/definitions.md).
+-- To be believed (definitions.md).
 -- What seats know, and how it grows.
 use Rattle.std.specs.Prelude.{ℕ, ◌+◌, Bool, ◌==◌, List, [], ◌∷◌, ◌++◌, length, Some, None, drop, slice_index_or, if◌then◌else◌}
 use Rattle.std.specs.List.{list_any}

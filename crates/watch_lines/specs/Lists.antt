@@ -1,4 +1,4 @@
--- To be believed (docs/definitions.md).
+-- To be believed (definitions.md).
 -- Lists of published graphs. A number of commits is the length of such a list, and names its last graph.
 use Rattle.std.specs.Prelude.{◌≡◌, List, [], ◌++◌, fold}
 use Rattle.config_graph.specs.Graph.{Graph}

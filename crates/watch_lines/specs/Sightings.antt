@@ -1,4 +1,4 @@
--- To be believed (docs/definitions.md).
+-- To be believed (definitions.md).
 -- What an observer notes: a number of commits, and how many nodes and links the graph has that stands behind the last of
 -- them. Here these graphs are a list, in the order of their commits.
 use Rattle.std.specs.Prelude.{◌≡◌, ◌<◌, List, [], ◌∷◌, ◌++◌, All, AllPairs, length, slice_get, Some}
