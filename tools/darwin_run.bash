@@ -1,5 +1,5 @@
-# Completion of darwin_run's words for bash: `source tools/darwin_run.bash`. Commands come from the program's help, components from
-# the description that the words name, and else files.
+# Completion of darwin_run's words for bash: `source tools/darwin_run.bash`, or see tools/install. Commands come from the program's
+# help, components from the description that the words name, and else files.
 _darwin_run_components() {
   sed -n 's/.*\<component  *\([A-Za-z_][A-Za-z0-9_]*\).*/\1/p' "$1" 2>/dev/null
 }
@@ -7,9 +7,11 @@ _darwin_run_components() {
 _darwin_run() {
   local word=${COMP_WORDS[COMP_CWORD]} command=${COMP_WORDS[1]} file=${COMP_WORDS[2]}
   local IFS=$'\n'
+  [[ $command == apply ]] && file=${COMP_WORDS[3]}
   case $COMP_CWORD:$command in
     1:*) COMPREPLY=($(compgen -W "$("${COMP_WORDS[0]}" --help 2>/dev/null | awk '$1 == "darwin_run" { print $2 }')" -- "$word")) ;;
-    2:flat | 2:plan | 2:parts | 2:roll | 2:replay) COMPREPLY=($(compgen -f -X '!*.dar' -- "$word") $(compgen -d -S / -- "$word")) ;;
+    2:apply) COMPREPLY=() ;;
+    2:flat | 2:plan | 2:parts | 2:roll | 2:replay | 3:apply) COMPREPLY=($(compgen -f -X '!*.dar' -- "$word") $(compgen -d -S / -- "$word")) ;;
     3:flat) COMPREPLY=($(compgen -W "$(_darwin_run_components "$file")" -- "$word")) ;;
     *:flat | *:big) COMPREPLY=() ;;
     3:roll | 4:roll) COMPREPLY=() ;;
@@ -17,7 +19,7 @@ _darwin_run() {
     4:live) COMPREPLY=($(compgen -W $'1\n2\n4\n8' -- "$word")) ;;
     5:live) COMPREPLY=($(compgen -W --watch -- "$word")) ;;
     6:live) COMPREPLY=($(compgen -W $'1\n2\n3\n4' -- "$word")) ;;
-    *:plan | *:parts | *:roll) COMPREPLY=($(compgen -W "$(_darwin_run_components "$file")"$'\n--' -- "$word")) ;;
+    *:plan | *:parts | *:roll | *:apply) COMPREPLY=($(compgen -W "$(_darwin_run_components "$file")"$'\n--' -- "$word")) ;;
     *) COMPREPLY=($(compgen -f -- "$word")) ;;
   esac
 }

@@ -96,10 +96,15 @@ def save(name, text):
         raise Bad("%s can't be written: %s" % (name, error.strerror))
 
 
-def program():
-    """The program that the shell finds, else the one that is built beside the tools, else the plain statements of it."""
+def beside():
+    """The program that is built beside the tools, else the plain statements of it."""
     built = os.path.join(TOP, "crates", "darwin_run", "out", "darwin_run")
-    return shutil.which("darwin_run") or (built if os.access(built, os.X_OK) else os.path.join(TOP, "tests", "plain"))
+    return built if os.access(built, os.X_OK) else os.path.join(TOP, "tests", "plain")
+
+
+def program():
+    """The program that the shell finds, else the one beside the tools."""
+    return shutil.which("darwin_run") or beside()
 
 
 def options(document):

@@ -120,7 +120,7 @@ def try_suggest_moves(tries):
         between_files(tries, file, graph)
     # the program takes the clause, and then nothing is lost
     clause = tries.asking("suggest_moves", EXAMPLES + "fan.dar", "Fan", "4", "1", "2", "--", "Fan", "4", "1", "3").text.strip()
-    script = "use ../../examples/fan.dar\nstart Fan(4,1,2)\nrun 30\nchange to Fan(4,1,3) within 99 %s\nend\n"
+    script = "use examples/fan.dar\nstart Fan(4,1,2)\nrun 30\nchange to Fan(4,1,3) within 99 %s\nend\n"
     summaries = [tries.tool("report_summary", text=tries.report(script % words)).text for words in ("", clause)]
     tries.same("states that go nowhere, without the clause and with it", [True, False], ["NOWHERE" in summary for summary in summaries])
 

@@ -94,7 +94,7 @@ def try_places(tries):
 
 def try_statements(tries):
     """Where a description is refused for a statement of a script, the statement's line is shown, with a caret below its component."""
-    script = "use ../../examples/line.dar\n\nstart Line(2)\nrun 3\n# first\nchange to Line(3) within 5 moving b -> b\nchange to %s within 5\nrun 4\nchange to Line(2) within 5\nfinish within 9\nend\n"
+    script = "use examples/line.dar\n\nstart Line(2)\nrun 3\n# first\nchange to Line(3) within 5 moving b -> b\nchange to %s within 5\nrun 4\nchange to Line(2) within 5\nfinish within 9\nend\n"
     rows = [
         ("Line(3, 4)", "TopArgs 1 2", 7, "Line(3, 4)"),
         ("None", "NoTop None", 7, "None"),

@@ -9,7 +9,7 @@ from of_pictures import drawn
 from tries import EMPTY, EXAMPLES, LINE, SKIPPED, TABLE, Came
 
 # a change of a system in which nothing is under way
-REST = "use ../../examples/line.dar\nstart Line(2)\nchange to Line(3) within 0\nfinish within 99\nend\n"
+REST = "use examples/line.dar\nstart Line(2)\nchange to Line(3) within 0\nfinish within 99\nend\n"
 
 
 def try_summary(tries):

@@ -30,9 +30,9 @@ def try_least_wait(tries):
             waited = re.findall(r"  waited for (\d+) round", tries.tool("report_summary", text=report).text)
             tries.same("the summary's waits", ["2", "5", "2"], waited)
     came = tries.asking("least_wait", EXAMPLES + "l-events.txt")
-    tries.same("least_wait of no script", Came(2, "", "least_wait: script ../../examples/l-events.txt: Order 2\n"), came)
+    tries.same("least_wait of no script", Came(2, "", "least_wait: script examples/l-events.txt: Order 2\n"), came)
     with tempfile.NamedTemporaryFile("w", suffix=".txt") as file:
-        file.write("use ../../examples/line.dar\nstart Line(2)\nrun 2\nchange to Line(3)within 0\nend\n")
+        file.write("use examples/line.dar\nstart Line(2)\nrun 2\nchange to Line(3)within 0\nend\n")
         file.flush()
         tries.same("least_wait without blanks", Came(0, "line 4: change to Line(3) within 1, and 0 is too few\n", ""), tries.asking("least_wait", file.name))
 
@@ -86,7 +86,7 @@ def try_no_stages(tries, examples):
         tries.same("no file is left", ["mixed.dar"], os.listdir(folder))
 
 
-TYPED = """use ../../examples/line.dar
+TYPED = """use examples/line.dar
 start Line(2)
 run 2
 change to Line(3, 4) within 5
@@ -125,7 +125,7 @@ SHOWN = """  start Line(2)
   node t sink()
   without: change to Line(3) within 10 moving b -> b
   without: run 2
-use ../../examples/line.dar
+use examples/line.dar
 start Line(2)
   run 2 2
   finish 100 8
@@ -133,7 +133,7 @@ start Line(2)
   s source(3), slot 1: 3
   t sink(), slot 2: 1 2 3
 """
-REFUSED = """description ../../examples/line.dar: TopArgs 1 2
+REFUSED = """description examples/line.dar: TopArgs 1 2
 nowhere.dar can't be read: No such file or directory
 there is no .nothing: .help tells what there is
 """
@@ -144,10 +144,10 @@ def try_shell(tries):
     tries.same("a shell", Came(0, SHOWN, REFUSED), tries.asking("shell", text=TYPED))
     with tempfile.TemporaryDirectory() as folder:
         saved = os.path.join(folder, "s.txt")
-        came = tries.asking("shell", text="use ../../examples/line.dar\nstart Line(2)\n.save %s\n.save %s\n" % (saved, saved))
+        came = tries.asking("shell", text="use examples/line.dar\nstart Line(2)\n.save %s\n.save %s\n" % (saved, saved))
         tries.same("a shell that saves", "%s is there already\n" % saved, came.errors)
         came = tries.asking("shell", saved, text=".script\n.quit\nrun 1\n")
-        tries.same("a shell that begins with a script", "use ../../examples/line.dar\nstart Line(2)\n", came.text[came.text.index("use") :])
+        tries.same("a shell that begins with a script", "use examples/line.dar\nstart Line(2)\n", came.text[came.text.index("use") :])
 
 
 def try_endless(tries):

@@ -64,7 +64,7 @@ def try_bad_logs(tries):
     for text, refusal in rows:
         came = tries.tool("session_summary", text=text)
         tries.same("session_summary of %r" % text[:40], 2, came.status)
-        tries.has("its refusal", came.errors + came.text, [refusal])
+        tries.has("its refusal", came.errors + came.text, ["session_summary: " + refusal])
 
 
 TRIED = (try_sessions, try_bad_logs)

@@ -8,16 +8,16 @@ from typing import NamedTuple
 from program import TOP
 
 TOOLS = os.path.join(TOP, "tools")
-FOLDER = os.path.join(TOP, "crates", "darwin_run")
-EXAMPLES = "../../examples/"
+FOLDER = TOP
+EXAMPLES = "examples/"
 SECONDS, BYTES = 300, 1 << 20
 LINE = "component source(int n) { require out; }\ncomponent buffer(int cap) { provide in; require next; }\ncomponent sink { provide in; }\n"
 # a fork is taken from a table while meals are under way
-TABLE = "use ../../examples/table.dar\nstart Table(3,4,9)\nrun 5\nchange to Table(3,4,0) within 50\nfinish within 500\nend\n"
+TABLE = "use examples/table.dar\nstart Table(3,4,9)\nrun 5\nchange to Table(3,4,0) within 50\nfinish within 500\nend\n"
 # a system of no nodes, whose report has no logs
 EMPTY = "report 2\nstart None()\ncommit\nchange None(1)\ncommit\nfinish 9 0\nstop\nstatus 0\n"
 # a change behind one that is given up, and an end before all is done
-SKIPPED = "use ../../examples/line.dar\nstart Line(2)\nrun 2\nchange to Line(3) within 0\nchange to Line(4) within 9\nfinish within 2\nend\n"
+SKIPPED = "use examples/line.dar\nstart Line(2)\nrun 2\nchange to Line(3) within 0\nchange to Line(4) within 9\nfinish within 2\nend\n"
 
 
 class Came(NamedTuple):
