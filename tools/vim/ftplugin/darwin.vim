@@ -7,5 +7,5 @@ let b:did_ftplugin = 1
 
 setlocal commentstring=//\ %s comments=s1:/*,mb:*,ex:*/,://
 compiler darwin_run
-let &l:makeprg = "darwin_run flat %:S $*"
+let &l:makeprg = g:darwin_run . " flat %:S $*"
 let b:undo_ftplugin = "setlocal commentstring< comments< makeprg< errorformat<"

@@ -7,5 +7,5 @@ let b:did_ftplugin = 1
 
 setlocal commentstring=#\ %s comments=:#
 compiler darwin_run
-let &l:makeprg = "darwin_run step %:S"
+let &l:makeprg = g:darwin_run . " step %:S"
 let b:undo_ftplugin = "setlocal commentstring< comments< makeprg< errorformat<"
