@@ -80,10 +80,13 @@ class Browser:
 
     def open(self, file, behind=""):
         """Opens a file, and waits until it is there; gives how many seconds that took."""
-        self.events, begun = [], time.monotonic()
+        return self.visit("file://%s%s" % (file, behind))
+
+    def visit(self, address):
+        """The same by an address."""
         self.call("Page.navigate", url="about:blank")
         self.events, begun = [], time.monotonic()
-        self.call("Page.navigate", url="file://%s%s" % (file, behind))
+        self.call("Page.navigate", url=address)
         while self.ask("document.readyState") != "complete" or self.ask("location.href") == "about:blank":
             time.sleep(0.01)
         return time.monotonic() - begun

@@ -9,6 +9,7 @@ from typing import Any, Dict, List, Optional
 
 HERE = os.path.dirname(os.path.dirname(os.path.abspath(__file__)))
 PACKAGE = "tareslater"
+ENDS = (".py", "py.typed", ".html", ".css", ".js")
 WHEEL = "Wheel-Version: 1.0\nGenerator: wheel_of_sources\nRoot-Is-Purelib: true\nTag: py3-none-any\n"
 Settings = Optional[Dict[str, Any]]
 
@@ -33,8 +34,10 @@ def metadata() -> str:
 
 def sources() -> List[str]:
     """The files of the package, by their paths below this folder."""
-    names = sorted(os.listdir(os.path.join(HERE, PACKAGE)))
-    return ["%s/%s" % (PACKAGE, name) for name in names if name.endswith(".py") or name == "py.typed"]
+    found = []
+    for folder, _, names in os.walk(os.path.join(HERE, PACKAGE)):
+        found += [os.path.relpath(os.path.join(folder, name), HERE) for name in names if name.endswith(ENDS)]
+    return sorted(path.replace(os.sep, "/") for path in found)
 
 
 def write(folder: str, files: Dict[str, bytes]) -> str:

@@ -1,11 +1,11 @@
 """A change under way: what the manager asks for, done at the sites, up to its `commit`."""
 import asyncio
 import time
-from typing import Any, Dict, List, Mapping, NoReturn, Tuple, Type
+from typing import Any, Dict, List, Mapping, NamedTuple, NoReturn, Tuple, Type
 
 from .components import Component
 from .darwin import Graph, Key
-from .outcomes import Changed, GivenUp, ManagerDied, NotQuiescent, Refused
+from .outcomes import Changed, GivenUp, ManagerDied, NotQuiescent, Past, Refused
 from .session import ENDINGS, Session, Told
 from .sites import AnySite, Switch
 
@@ -185,14 +185,47 @@ class Change:
         sites = self.sites()
         for site in sites:
             await site.reopen([key for key in self.held if self.old.sites[key[0]] is site])
+        self.opened_at = time.monotonic()
         for site in sites:
             await site.undo()
 
+    # ---- what is said of it
+
+    @property
+    def phase(self) -> str:
+        """How far it is."""
+        if self.opened_at:
+            return "ending"
+        if self.ready_at:
+            return "handing over"
+        return "waiting" if self.closed_at else "making ready"
+
+    def names(self) -> List[str]:
+        """What it holds."""
+        return ["%s.%s" % key for key in self.held]
+
+    def seconds(self) -> Tuple[float, float]:
+        """For how long it has held that, and how long of this it waited."""
+        if not self.closed_at:
+            return 0.0, 0.0
+        held = (self.opened_at or time.monotonic()) - self.closed_at
+        return held, self.ready_at - self.closed_at if self.ready_at else held
+
     def changed(self, began: float) -> Changed:
-        """What is to be said of it."""
-        held = ["%s.%s" % key for key in self.held]
-        seconds = self.opened_at - self.closed_at, self.ready_at - self.closed_at, time.monotonic() - began
-        return Changed(held, *seconds, self.session.lines)
+        """What its caller is told, once it is made."""
+        return Changed(self.names(), *self.seconds(), time.monotonic() - began, self.session.lines)
+
+    def past(self, call: str, ended: str, said: str) -> Past:
+        """What is kept of it."""
+        return Past(call, ended, said, time.time(), self.names(), *self.seconds())
+
+
+class UnderWay(NamedTuple):
+    """A change that is being made."""
+
+    change: Change
+    call: str
+    within: float
 
 
 def lost(gone: Mapping[str, Type[Component]], moving: Mapping[str, str]) -> List[str]:

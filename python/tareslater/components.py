@@ -61,6 +61,11 @@ class End(NamedTuple):
     provision: str
     element: Optional[int]
 
+    @property
+    def service(self) -> str:
+        """The service, as `pick[2]` where it is an element."""
+        return self.provision if self.element is None else "%s[%d]" % (self.provision, self.element)
+
 
 class Target:
     """A service of a component of this process, to which a requirement leads."""
@@ -150,6 +155,15 @@ def must_be_beside(loop: asyncio.AbstractEventLoop, name: object) -> None:
         raise Misuse("%s.sync is called in the loop, which it would stop: `await %s(..)`" % (name, name))
 
 
+class Traffic(NamedTuple):
+    """What goes through a requirement."""
+
+    uses: int  # calls so far, or roots that were begun
+    under_way: int = 0  # roots, and how many wait at the gate
+    waiting: int = 0
+    is_open: Optional[bool] = None  # whether the gate is; None where there is none
+
+
 class Handle:
     """A requirement of a component that runs. `base` is its name in the class, which an element of an array shares with others."""
 
@@ -167,6 +181,11 @@ class Handle:
         """Whether it is bound to anything in the system that stands."""
         return self.target is not None
 
+    @property
+    def traffic(self) -> Traffic:
+        """What goes through it, for those who watch."""
+        raise NotImplementedError
+
     def where(self) -> Any:
         """Where it leads."""
         if self.target is None:
@@ -177,11 +196,20 @@ class Handle:
 class Calls(Handle):
     """A requirement that services call: `await self.cache(key)`, or in a thread `self.cache.sync(key)`."""
 
-    __slots__ = ()
+    __slots__ = ("by_loop", "by_threads")
+
+    def __init__(self, owner: "Component", base: str, key: str) -> None:
+        super().__init__(owner, base, key)
+        self.by_loop = self.by_threads = 0  # calls so far
+
+    @property
+    def traffic(self) -> Traffic:
+        return Traffic(self.by_loop + self.by_threads)
 
     async def __call__(self, *args: Any, **words: Any) -> Any:
         root = may_call(self.owner, self.base, self)
         target = self.where()
+        self.by_loop += 1
         if target.is_plain:
             root.must_be_open()
             return target.handler(*args, **words)
@@ -191,7 +219,10 @@ class Calls(Handle):
         """The same from a thread."""
         must_be_beside(self.owner.loop, self)
         root = may_call(self.owner, self.base, self)
-        return self.where().serve_from_thread(root, args, words)
+        target = self.where()
+        with self.owner._lock:
+            self.by_threads += 1
+        return target.serve_from_thread(root, args, words)
 
 
 class Block:
@@ -243,6 +274,11 @@ class Roots(Handle):
     def __init__(self, owner: "Component", base: str, key: str) -> None:
         super().__init__(owner, base, key)
         self.gate = Gate(self)
+
+    @property
+    def traffic(self) -> Traffic:
+        gate = self.gate
+        return Traffic(gate.begun, gate.count, len(gate.waiting), gate.is_open)
 
     def may_begin(self) -> None:
         """Refuses a root inside a root, and one in another loop."""

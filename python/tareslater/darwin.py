@@ -307,3 +307,8 @@ def words_of(call: str) -> List[str]:
     if not match:
         raise ValueError("%r is no call of a component, as `Shop(2)`" % call)
     return [match[1], *re.findall(r"-?\d+", match[2] or "")]
+
+
+def call_of(words: Sequence[str]) -> str:
+    """The call of which these are the words."""
+    return "%s(%s)" % (words[0], ", ".join(words[1:])) if len(words) > 1 else words[0]

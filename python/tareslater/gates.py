@@ -37,11 +37,12 @@ class Removed(RuntimeError):
 class Gate:
     """The gate of a requirement at which its owner begins roots. Any thread may use it; it is closed and unlinked at first."""
 
-    __slots__ = ("name", "lock", "count", "is_open", "is_linked", "removed", "on_idle", "waiting")
+    __slots__ = ("name", "lock", "count", "begun", "is_open", "is_linked", "removed", "on_idle", "waiting")
 
     def __init__(self, name: object) -> None:
         self.name, self.lock = name, threading.Lock()
         self.count = 0  # how many roots are under way
+        self.begun = 0  # and how many have begun, for those who watch
         self.is_open = self.is_linked = False
         self.removed: Optional[Removed] = None
         self.on_idle: Optional[Callable[[], object]] = None
@@ -52,6 +53,7 @@ class Gate:
         with self.lock:
             if self.is_open:
                 self.count += 1
+                self.begun += 1
             return self.is_open
 
     def leave(self) -> None:

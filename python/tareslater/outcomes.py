@@ -36,6 +36,18 @@ class Changed(NamedTuple):
     lines: List[str]  # the session with the manager; what was said to it begins with `> `
 
 
+class Past(NamedTuple):
+    """A change that has ended, for those who look back."""
+
+    call: str
+    ended: str  # `made`, or the name of what was raised
+    said: str  # and its words
+    at: float  # seconds since the epoch
+    held: List[str]
+    held_seconds: float
+    waited_seconds: float
+
+
 class Plan(NamedTuple):
     """What a change would do, by paths."""
 

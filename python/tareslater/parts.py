@@ -137,7 +137,7 @@ class Link(NamedTuple):
             return "%s.%s_%d" % (child, "out" if is_start else "in", self.number)
         if is_start:
             return "%s.%s" % (child, self.requirement)
-        return "%s.%s" % (child, self.end.provision if self.end.element is None else "%s[%d]" % (self.end.provision, self.end.element))
+        return "%s.%s" % (child, self.end.service)
 
 
 class Described:

@@ -23,7 +23,7 @@ from .components import Component, End, Target, in_loop, outside
 from .darwin import Instance, Key
 from .gates import Root
 from .session import GRACE, ended
-from .sites import THREADS, AnySite, Site, Switch
+from .sites import THREADS, AnySite, Seen, Site, Switch
 from .system import HERE, System
 
 HEAD = 8  # bytes of a message's length
@@ -312,6 +312,9 @@ class There(AnySite):
     async def engaged(self, paths: Sequence[str], keys: Iterable[Key]) -> List[str]:
         return list(await self.done("engaged", list(paths), list(keys)) or ())
 
+    async def seen(self) -> Seen:
+        return await self.done("seen") or Seen({}, {})
+
     async def halt(self, paths: Sequence[str], seconds: float) -> None:
         await self.done("halt", list(paths), seconds)
 
@@ -343,7 +346,7 @@ class Spread(System):
         self,
         text: str,
         classes: str,
-        manager: Sequence[str] = ("darwin_run",),
+        manager: Sequence[str] = (),
         *,
         place: Callable[[str, Instance], str],
         log: Optional[str] = None,

@@ -6,7 +6,7 @@ import logging
 from concurrent.futures import ThreadPoolExecutor
 from typing import Any, Callable, Dict, Iterable, List, Mapping, NamedTuple, Optional, Sequence, Set, Type
 
-from .components import Component, End, Roots, Target
+from .components import Component, End, Roots, Target, Traffic
 from .darwin import Instance, Key
 from .outcomes import NotQuiescent
 
@@ -22,6 +22,13 @@ class Switch(NamedTuple):
     moved: Dict[str, str]
     links: Dict[Key, Optional[End]]
     addresses: Dict[str, str]  # where the sites of components are, by their paths; for one process none is needed
+
+
+class Seen(NamedTuple):
+    """What goes on at a site: through each requirement, and how many services each component is in."""
+
+    traffic: Dict[Key, Traffic]
+    serving: Dict[str, int]
 
 
 class AnySite(abc.ABC):
@@ -76,6 +83,10 @@ class AnySite(abc.ABC):
     @abc.abstractmethod
     async def stop(self, seconds: float) -> None:
         """Ends all components, and with them what their tasks do."""
+
+    @abc.abstractmethod
+    async def seen(self) -> Seen:
+        """What goes on, for those who watch."""
 
     async def over(self, address: str) -> None:
         """Ends the roots of calls to a process that has gone."""
@@ -172,6 +183,11 @@ class Site(AnySite):
         roots = [self.roots(key) for key in keys]
         serving = [path for path in paths if self.components[path]._serving]
         return serving + [str(handle) for handle in roots if handle.gate.count or handle.gate.is_open]
+
+    async def seen(self) -> Seen:
+        components = self.components.items()
+        traffic = {(path, key): handle.traffic for path, component in components for key, handle in component._handles.items()}
+        return Seen(traffic, {path: component._serving for path, component in components})
 
     # ---- states
 

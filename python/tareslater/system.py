@@ -1,40 +1,43 @@
 """A system of one's own components: started, changed while it runs, and stopped."""
 import asyncio
+import collections
 import os
 import tempfile
 import time
-from typing import Any, Callable, Dict, List, Mapping, Optional, Sequence, Tuple, Type
+from typing import Any, Callable, Deque, Dict, List, Mapping, Optional, Sequence, Tuple, Type
 
-from .changes import ROUNDS, Change, Placed, lost
+from .changes import ROUNDS, Change, Placed, UnderWay, lost
 from .components import Component
-from .darwin import Graph, Instance, description, words_of
+from .darwin import Graph, Instance, call_of, description, words_of
 from .gates import RUNNING, Misuse
-from .outcomes import Changed, GivenUp, Plan, Refused, WouldLose
+from .manager import manager as manager_of
+from .outcomes import Changed, GivenUp, Past, Plan, Refused, WouldLose
 from .session import GRACE, Session, answer, started
 from .parts import Described, between
 from .sites import THREADS, AnySite, Site
 
 HERE = "here"
 GLANCE = 0.02  # so many seconds lie between two looks at whether a component still serves
+KEPT = 100  # so many of the last changes are remembered
 
 
 class System:
-    """`text` wires the components, in Darwin; `classes` are theirs. `manager` is the command of darwin_run. `log` names a file to which each
-    session with it is added; `threads` is how many services may wait in threads at once, `grace` how many seconds
+    """`text` wires the components, in Darwin; `classes` are theirs. `manager` is the command of darwin_run, which is looked for where none is
+    named. `log` names a file to which each session with it is added; `threads` is how many services may wait in threads at once, `grace` how many seconds
     the manager may be silent while gates are closed. `place` is for systems of several processes."""
 
     def __init__(
         self,
         text: str,
         classes: Sequence[Type[Component]],
-        manager: Sequence[str] = ("darwin_run",),
+        manager: Sequence[str] = (),
         *,
         log: Optional[str] = None,
         threads: int = THREADS,
         grace: float = GRACE,
         place: Optional[Callable[[str, Instance], str]] = None,
     ) -> None:
-        self.classes, self.manager = list(classes), list(manager)
+        self.classes, self.manager = list(classes), list(manager) or manager_of()
         self.text = description(text, self.classes)
         self.here = Site(self.classes, threads)
         self.sites: Dict[str, AnySite] = {HERE: self.here}
@@ -45,6 +48,8 @@ class System:
         self.file = ""
         self.parts = 0  # so many systems between two have been described
         self.changing: Optional[asyncio.Lock] = None  # held by a change; there is none before the start and after the end
+        self.under_way: Optional[UnderWay] = None
+        self.past: Deque[Past] = collections.deque(maxlen=KEPT)
 
     def __getitem__(self, path: str) -> Any:
         """A component of this process."""
@@ -148,9 +153,18 @@ class System:
 
     async def step(self, change: Change, words: List[str], within: float) -> Changed:
         """A change that was judged."""
-        began = time.monotonic()
-        await self.made(change)
-        await self.carried_out(change, words, within)
+        began, call = time.monotonic(), call_of(words)
+        self.under_way, ended, said = UnderWay(change, call, within), "made", ""
+        try:
+            await self.made(change)
+            await self.carried_out(change, words, within)
+        except BaseException as fault:
+            if self.placed is not change.new:  # else it was made all the same
+                ended, said = type(fault).__name__, str(fault)
+            raise
+        finally:
+            self.under_way = None
+            self.past.append(change.past(call, ended, said))
         await self.tidy()
         return change.changed(began)
 

@@ -184,6 +184,18 @@ class Course {
     return found;
   }
 
+  // Each link that ever stood, by the nodes that it joined.
+  links() {
+    const seen = new Set(), found = [];
+    for (let moment = 0; moment < this.length; moment++) {
+      const port = this.a[moment], target = this.b[moment], key = `${port} ${target}`;
+      if (this.verbs[moment] !== "link" || seen.has(key)) continue;
+      seen.add(key);
+      found.push({ port, target, from: this.owner[port], to: target });
+    }
+    return found;
+  }
+
   portName(port) {
     const node = this.nodes[this.owner[port]];
     return `${node.path}.${node.requires[port - node.first]}`;

@@ -1,12 +1,10 @@
 "use strict";
 // Puts the page together: one moment and one node are chosen, and all that is shown follows them and the address.
 
-const byId = (id) => document.getElementById(id);
-
 class Page {
   constructor(data) {
     this.course = new Course(data);
-    this.tree = new Tree(this.course);
+    this.tree = new Tree(this.course.nodes, this.course.links());
     this.graph = new Graph(this.course, this.tree, byId("graph"), (box, isFolded) => this.choose(box, isFolded));
     this.timeline = new Timeline(this.course, byId("line"), (moment) => this.go(moment));
     this.tables = new Tables(this.course, byId("table"));

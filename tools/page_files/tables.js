@@ -3,24 +3,6 @@
 
 const ABOUT = 200; // so many moments before and behind the one that is shown
 
-function cell(kind, ...inner) {
-  const made = document.createElement(kind);
-  made.append(...inner);
-  return made;
-}
-
-function link(words, to) {
-  const made = cell("a", words);
-  made.href = to;
-  return made;
-}
-
-function table(heads, rows) {
-  const made = cell("table", cell("thead", cell("tr", ...heads.map((head) => cell("th", head)))), cell("tbody"));
-  for (const cells of rows) made.lastChild.append(cell("tr", ...cells.map((inner) => cell("td", ...[inner].flat()))));
-  return made;
-}
-
 class Tables {
   constructor(course, place) {
     Object.assign(this, { course, place });

@@ -5,10 +5,6 @@ const NODE_VERBS = ["make", "remove", "freeze", "thaw"];
 const PORT_VERBS = ["link", "unlink", "close", "reopen", "drained", "open", "closed", "busy", "idle", "begin", "call", "take", "more", "ask", "hear", "give", "end", "miss"];
 const OF_RUNTIME = ["closed", "busy", "idle", "round", "go", "halt"];
 
-function plural(number, noun) {
-  return `${number.toLocaleString("en")} ${noun}${number === 1 ? "" : "s"}`;
-}
-
 // A moment as its line stands in the text.
 function lineOf(course, moment) {
   const verb = course.verbs[moment], { a, b, c } = course;

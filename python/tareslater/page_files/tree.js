@@ -35,16 +35,18 @@ class Box {
 }
 
 class Tree {
-  constructor(course) {
-    this.course = course;
+  // Nodes have a path and what is shown of them; links lead from a node to another, by their places in the list, and may tell more.
+  constructor(nodes, links) {
+    this.nodes = nodes;
     this.root = new Box("", "", null);
     this.root.isOpen = true;
     this.boxes = new Map();
     this.leaves = [];
     this.elements = this.countElements();
-    course.nodes.forEach((node, slot) => this.put(node.path, slot));
+    nodes.forEach((node, slot) => this.put(node.path, slot));
     for (const box of [this.root, ...this.boxes.values()]) box.inner = new Map([...box.inner].sort(([one], [other]) => inOrder(one, other)));
-    this.connect();
+    this.links = links.map((link) => ({ ...link, from: this.leaves[link.from], to: this.leaves[link.to] }));
+    for (const { from, to } of this.links) this.lift(from, to);
     this.openFew();
   }
 
@@ -56,7 +58,7 @@ class Tree {
   // How many elements each array has, by the path without its index.
   countElements() {
     const found = new Map();
-    for (const { path } of this.course.nodes) {
+    for (const { path } of this.nodes) {
       let key = "";
       for (const segment of this.segments(path)) {
         const at = segment.indexOf("[");
@@ -90,19 +92,7 @@ class Tree {
     return box.inner.get(key);
   }
 
-  // Each link that ever stood, and between which boxes right in one it leads.
-  connect() {
-    const seen = new Set(), { course } = this;
-    this.links = [];
-    for (let moment = 0; moment < course.length; moment++) {
-      const port = course.a[moment], target = course.b[moment], key = `${port} ${target}`;
-      if (course.verbs[moment] !== "link" || seen.has(key)) continue;
-      seen.add(key);
-      this.links.push({ port, target, from: this.leaves[course.owner[port]], to: this.leaves[target] });
-      this.lift(this.leaves[course.owner[port]], this.leaves[target]);
-    }
-  }
-
+  // Notes between which boxes right in one a link leads.
   lift(from, to) {
     const one = from.lineage(), other = to.lineage();
     let same = 0;
@@ -162,7 +152,7 @@ class Tree {
 
   widthOf(box) {
     if (box.isFrame) return Math.max(120, 30 + BOX.sign * shortened(box.name).length);
-    const second = longest(this.course, box);
+    const second = longest(this.nodes, box);
     return Math.min(BOX.most, Math.max(BOX.least, 20 + BOX.sign * Math.max(shortened(box.name).length + 5, shortened(second).length * 0.92)));
   }
 
@@ -182,8 +172,8 @@ function shortened(text) {
   return text.length > 28 ? `${text.slice(0, 16)}…${text.slice(-11)}` : text;
 }
 
-function longest(course, box) {
-  const shown = box.slots.map((slot) => course.nodes[slot].shown);
+function longest(nodes, box) {
+  const shown = box.slots.map((slot) => nodes[slot].shown);
   const widest = shown.reduce((one, other) => (other.length > one.length ? other : one), "");
   return box.slots.length > 1 ? `${widest} → ${widest}` : widest;
 }
