@@ -1,11 +1,12 @@
 #!/usr/bin/env python3
 """A shop that is changed five times under load, and what was lost: nothing, or it says what and ends with status 1.
 
-Usage: examples/shop/run.py [--program DARWIN_RUN] [--connections N] [--seconds S] [--log FILE]. The plain statements of
-tests/plain are the manager, as darwin_run has no `apply` yet; --program names another.
+Usage: examples/shop/run.py [--program DARWIN_RUN] [--connections N] [--seconds S] [--log FILE] [--board]. With --board it prints the address
+of a page that follows the shop. The manager is the program that is named, or the one that the package finds.
 """
 import argparse
 import asyncio
+import contextlib
 import json
 import os
 import sqlite3
@@ -19,17 +20,11 @@ sys.path[:0] = [HERE, os.path.join(TOP, "python")]
 import load
 import shop
 from tareslater import GivenUp, System
+from tareslater.board import Board
+from tareslater.manager import manager
 
-PLAIN = os.path.join(TOP, "tests", "plain")
 WITHIN = 5  # seconds
 BATCHES = {"stock": "stock", "mail": "mail"}
-
-
-def manager(program=None):
-    """The command of the manager."""
-    if program:
-        return [os.path.abspath(program)]
-    return [sys.executable, PLAIN]
 
 
 def wiring():
@@ -115,7 +110,18 @@ async def changes(system, seconds):
     show("5: post replaced", await system.change("Shop(5)", within=WITHIN))
 
 
-async def trial(connections, seconds, does=changes, command=None, start="Shop(1)", log=None):
+@contextlib.asynccontextmanager
+async def followed(system, is_wanted):
+    """A page that follows the system, where one is wanted."""
+    if not is_wanted:
+        yield
+        return
+    async with Board(system) as board:
+        print("follow it at %s" % board.address, flush=True)
+        yield
+
+
+async def trial(connections, seconds, does=changes, command=None, start="Shop(1)", log=None, board=False):
     """Runs the shop under load while `does` changes it. What was lost is told."""
     system = System(wiring(), shop.COMPONENTS, command or manager(), log=log, grace=60)
     with tempfile.TemporaryDirectory() as folder:
@@ -124,7 +130,8 @@ async def trial(connections, seconds, does=changes, command=None, start="Shop(1)
         try:
             open(shop.Post.file, "w").close()
             await system.start(start)
-            told = await under_load(system, connections, seconds, does)
+            async with followed(system, board):
+                told = await under_load(system, connections, seconds, does)
             parts = system["stock"], system["mail"], system.components.get("audit")
             await system.stop()
             faults = lost([tuple(order) for order in told["orders"]], *parts)
@@ -153,12 +160,13 @@ async def under_load(system, connections, seconds, does):
 
 def main():
     options = argparse.ArgumentParser(description=__doc__, formatter_class=argparse.RawDescriptionHelpFormatter)
-    options.add_argument("--program", help="the command that is built as crates/darwin_run/out/darwin_run")
+    options.add_argument("--program", type=os.path.abspath, help="the manager")
     options.add_argument("--connections", type=int, default=16)
     options.add_argument("--seconds", type=float, default=8)
     options.add_argument("--log", type=os.path.abspath, help="a file for the sessions, which tools/session_summary shows")
+    options.add_argument("--board", action="store_true", help="serve a page that follows the shop")
     given = options.parse_args()
-    faults = asyncio.run(trial(given.connections, given.seconds, command=manager(given.program), log=given.log))
+    faults = asyncio.run(trial(given.connections, given.seconds, command=manager(given.program), log=given.log, board=given.board))
     print("\n".join(faults) or "nothing was lost")
     sys.exit(bool(faults))
 

@@ -206,7 +206,7 @@ class Change:
 
     def seconds(self) -> Tuple[float, float]:
         """For how long it has held that, and how long of this it waited."""
-        if not self.closed_at:
+        if not self.held:
             return 0.0, 0.0
         held = (self.opened_at or time.monotonic()) - self.closed_at
         return held, self.ready_at - self.closed_at if self.ready_at else held

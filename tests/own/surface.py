@@ -35,7 +35,7 @@ async def try_plan(tries):
         tries.same("the change holds what the plan says", sorted(plan.held), sorted(made.held))
         tries.same("a plan of nothing", ([], [], [], [], [], []), tuple(await system.plan("Small(1)")))
         nothing = await system.change("Small(1)")
-        tries.same("a change of nothing", [], nothing.held)
+        tries.same("a change of nothing", ([], 0, 0), nothing[:3])
 
 
 async def try_misuses(tries):
