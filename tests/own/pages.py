@@ -2,13 +2,15 @@
 import os
 import re
 import shutil
+import signal
 import subprocess
 import sys
 import tempfile
 
-from program import TOP, blocks
+from program import TOP, blocks, write
 
 PAGE = os.path.join(TOP, "docs", "your-system.md")
+HELP = "#!/bin/sh\ncat <<END\nusage\n    %s\nEND\n"
 INSTALLED = "import tareslater, tareslater.remote; print(tareslater.__file__)"
 
 
@@ -17,14 +19,48 @@ def try_page(tries):
         found = blocks(file.read())
     program = next(lines for _, lines in found if lines[0] == "# ledger.py")
     shown = next(lines for _, lines in found if lines[0].startswith("$ "))
-    tries.same("the command of the page", "$ PYTHONPATH=python python3 ledger.py tests/plain", shown[0])
+    tries.same("the command of the page", "$ PYTHONPATH=python python3 ledger.py", shown[0])
     with tempfile.TemporaryDirectory() as folder:
-        name = os.path.join(folder, "ledger.py")
-        with open(name, "w") as file:
-            file.write("\n".join(program) + "\n")
-        environment = dict(os.environ, PYTHONPATH=os.path.join(TOP, "python"))
-        done = subprocess.run([sys.executable, name, *tries.manager], stdout=subprocess.PIPE, stderr=subprocess.PIPE, env=environment)
-    tries.same("what it writes", (shown[1:], ""), (done.stdout.decode().splitlines(), done.stderr.decode()))
+        write(folder, {"ledger.py": "\n".join(program) + "\n", "darwin_run": '#!/bin/sh\nexec %s "$@"\n' % " ".join(tries.manager)})
+        os.chmod(os.path.join(folder, "darwin_run"), 0o755)
+        environment = dict(os.environ, PYTHONPATH=os.path.join(TOP, "python"), PATH=os.pathsep.join([folder, os.environ["PATH"]]))
+        done = subprocess.run([sys.executable, "ledger.py"], cwd=folder, stdout=subprocess.PIPE, stderr=subprocess.PIPE, env=environment)
+        tries.same("what it writes", (shown[1:], ""), (done.stdout.decode().splitlines(), done.stderr.decode()))
+        command = [sys.executable, "-m", "tareslater", "board", "ledger:system", "Books"]
+        served = subprocess.Popen(command, cwd=folder, stdout=subprocess.PIPE, stderr=subprocess.PIPE, env=environment)
+        address = served.stdout.readline().decode()
+        tries.want("its board", re.fullmatch(r"http://127\.0\.0\.1:\d+/#[\w-]{32}\n", address), address)
+        served.send_signal(signal.SIGINT)
+        tries.same("the end of its board", (b"", b""), served.communicate())
+
+
+def try_choice(tries):
+    """The manager: what is named, darwin_run as the shell finds it, the built one, the plain statements; each if its help has `apply`."""
+    ask = "from tareslater import System, manager\nfor name in ('BUILT', 'PLAIN'): setattr(manager, name, manager.CLONE + '/' + name)\nprint(*System('', [], %s).manager)"
+    with tempfile.TemporaryDirectory() as folder:
+        package = os.path.join(folder, "python")
+        shutil.copytree(os.path.join(TOP, "python", "tareslater"), os.path.join(package, "tareslater"))
+        os.mkdir(os.path.join(folder, "bin"))
+        found, built, plain = (os.path.join(folder, name) for name in ("bin/darwin_run", "BUILT", "PLAIN"))
+        able, unable = HELP % "darwin_run apply N FILE", HELP % "darwin_run plan FILE"
+
+        def chosen(named="", **programs):
+            for name, text in programs.items():
+                path = {"found": found, "built": built, "plain": plain}[name]
+                with open(path, "w") as file:
+                    file.write(text)
+                os.chmod(path, 0o755)
+            environment = dict(os.environ, PYTHONPATH=package, PATH=os.path.dirname(found) + os.pathsep + "/usr/bin:/bin")
+            done = subprocess.run([sys.executable, "-c", ask % named], stdout=subprocess.PIPE, cwd=folder, env=environment)
+            return done.stdout.decode().strip()
+
+        tries.same("nothing is there", "darwin_run", chosen())
+        tries.same("the plain statements", sys.executable + " " + plain, chosen(plain="#!/usr/bin/env python3\n"))
+        tries.same("a built one without sessions", sys.executable + " " + plain, chosen(built=unable))
+        tries.same("a built one", built, chosen(built=able))
+        tries.same("one of the shell without sessions", built, chosen(found=unable))
+        tries.same("one of the shell", found, chosen(found=able))
+        tries.same("one that is named", "./mine -x", chosen("['./mine', '-x']"))
 
 
 def try_table(tries):
@@ -58,6 +94,7 @@ def try_types(tries):
 
 def tries(tries):
     try_page(tries)
+    try_choice(tries)
     try_table(tries)
     try_install(tries)
     if shutil.which("mypy"):
