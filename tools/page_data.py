@@ -3,6 +3,8 @@
 All three become one row of moments, each a word and up to three numbers, which change a graph one after the other: nodes count from 0 in
 the order in which they come, ports through all nodes. A moment that begins something, as a change, begins a section too.
 """
+import re
+
 import beside
 import playing
 import texts
@@ -14,6 +16,9 @@ SHOWN = 6
 # lines of a session: those that a history has too, and others, of the program and of what is said to it
 HISTORY = ("start", "change", "make", "link", "unlink", "remove", "close", "reopen", "drained", "pending", "open", "commit", "abandon")
 SESSION = ["wait NUMBER", "ready", "denied NUMBER NUMBER", "bad NUMBER", "closed PORT", "busy PORT", "idle PORT", "round", "go", "stop"]
+
+# a line of a log, behind the milliseconds since its session began
+LOGGED = re.compile(r"\d+\.\d{3} (.*)")
 
 
 def state_shown(numbers):
@@ -148,6 +153,17 @@ def of_session(lines, title):
         raise Bad("the session has no line but comments")
     data.note = "Lines stand in the order of the text. Of a transaction it is told that one or more were under way at a port (busy), or none (idle)."
     return data
+
+
+def logged(lines):
+    """The sessions that a log of the package `tareslater` keeps. What stands around them is left empty, so that lines keep their numbers."""
+    found = []
+    for number, line in enumerate(lines, 1):
+        match = LOGGED.fullmatch(line)
+        if not match and line.split(" ")[0] not in ("session", "end"):
+            raise texts.bad_line(number, line, "log")
+        found.append(match[1] if match else "")
+    return found
 
 
 def session_moment(data, words, first, port):
@@ -291,6 +307,8 @@ def read(lines, title):
         return of_report(texts.read_report(lines), title)
     if first == "start" or first == "#":
         return of_session(lines, title)
+    if first == "session":
+        return of_session(logged(lines), title)
     if first in ("node", "freeze", "unlink", "remove", "create", "link", "part", "done", "pending"):
         return of_plan(lines, title)
     if not lines:

@@ -132,6 +132,8 @@ def try_made(tries, pages):
     rolled = tries.run([tries.program, "roll", fan[0], "8", "0", *fan[1:], "--", "Fan", "2", "5", "2"]).text
     pages.make("roll", text=tries.run([tries.program, "flat", *fan]).text + rolled)
     pages.make("session", text=SESSION + GIVEN_UP)
+    pages.make("log", text=log_of(SESSION, GIVEN_UP))
+    tries.same("a log has what its sessions have", {**pages.data["session"], "title": "log"}, pages.data["log"])
     pages.make("hostile", text=HOSTILE)
     pages.make("empty", text=EMPTY)
     pages.make("mixed", text="freeze p\nremove p\ncreate p.x source(1)\ncreate t sink()\nlink p.x.out t.in\n")
@@ -148,6 +150,13 @@ def try_made(tries, pages):
         tries.want("the page of %s forbids what is outside" % name, "default-src 'none'" in text)
         tries.want("the page of %s is small" % name, len(text) < 20 << 20, len(text))
         tries.same("the page of %s has no element of a text" % name, 0, reader.elements.count("img"))
+
+
+def log_of(*sessions):
+    """A log of sessions, as the package `tareslater` keeps it."""
+    head = "session 2026-12-01T04:30:00 darwin_run apply 20 line.dar Line 2 -- Line 3\n"
+    lines = ["".join("%.3f %s\n" % (at * 1.5, line) for at, line in enumerate(session.splitlines())) for session in sessions]
+    return "".join(head + text + "end 0\n" for text in lines)
 
 
 def moments_of(data):
@@ -283,6 +292,9 @@ def try_refused(tries, pages):
         ("start L()\nrun 1 1\n", "line 2 is none of a session: run 1 1"),
         ("# nothing\n", "the session has no line but comments"),
         ("# a start is wanted\n\ncommit\n", "line 3 is none of a session: commit"),
+        ("session x\n1.000 start L()\nhello\nend 0\n", "line 3 is none of a log: hello"),
+        ("session x\n1.000 start L()\n2.000 close 4\nend 0\n", "line 3 is none of a session: close 4"),
+        ("session x\nend 1\n", "the session has no line but comments"),
         ("report 2\ncommit\nstatus 0\n", "line 2 stands before a start"),
         ("freeze a\nunlink b\nfrob c\n", "line 3 is none of a plan: frob c"),
         ("part 1\nfreeze a\npart 2\nfrob\n", "line 4 is none of a plan: frob"),
