@@ -14,6 +14,11 @@ SECONDS = 300  # of a machine that is busy
 LANES = """component Lane(int v) { inst c:Client(0); s:Server(0); t:Store(v); bind c.out -- s.ask; s.store -- t.put; s.other -- t.put; }
 component Lanes(int v) { array l[3]:Lane(v); forall i:0..2 inst l[i](v); inst r:Caller(0); t:Store(v); bind r.slowly -- t.write; }"""
 
+# how many numbers of links overlap a box
+ON_BOXES = """(() => { const of = (it) => it.getBoundingClientRect(), boxes = [...document.querySelectorAll('#graph .box:not(.frame) > .front')].map(of);
+return [...document.querySelectorAll('#graph .rate')].filter((it) => it.textContent && boxes.some((box) => { const own = of(it);
+  return own.left < box.right && box.left < own.right && own.top < box.bottom && box.top < own.bottom; })).length; })()"""
+
 
 class Hand:
     """A browser with a board."""
@@ -73,6 +78,7 @@ def try_following(hand, board, _):
     hand.same("boxes", ["c", "r", "s", "t"], hand.boxes())
     hand.until("requests a second on a link", "Number(document.querySelector('#graph .rate')?.textContent) > 0")
     hand.until("requests a second in the head", "/^4 components · [1-9][0-9.k]* requests a second · \\d+ requests? under way$/.test(document.querySelector('#about').innerText)")
+    hand.same("no number stands on a box", 0, hand.ask(ON_BOXES))
     hand.same("requirements", "c.out s.ask", " ".join(hand.texts("#requirements td")[:2]))
     hand.same("gates", ["open", ""], [hand.ask("board.cells.get(%r).lastChild.innerText" % name) for name in ("c.out", "r.loose")])
     hand.same("no change", "No change.", hand.text("#under-way"))

@@ -5,6 +5,7 @@ import json
 import os
 import random
 import re
+import shutil
 import sys
 
 import answers
@@ -150,6 +151,20 @@ def try_made(tries, pages):
         tries.want("the page of %s forbids what is outside" % name, "default-src 'none'" in text)
         tries.want("the page of %s is small" % name, len(text) < 20 << 20, len(text))
         tries.same("the page of %s has no element of a text" % name, 0, reader.elements.count("img"))
+    try_syntax(tries, pages)
+
+
+def try_syntax(tries, pages):
+    """The script of a page, which all pages have, is one; so it is known where there is no browser too, if there is a node."""
+    node = shutil.which("node")
+    if node is None:
+        return
+    with open(pages.files["grows"], encoding="utf-8") as made:
+        script = re.search(r"<script>\n(.*?)</script>", made.read(), re.S)[1]
+    file = os.path.join(pages.folder, "script.js")
+    with open(file, "w", encoding="utf-8") as out:
+        out.write(script)
+    tries.same("the script of pages", Came(0, "", ""), tries.run([node, "--check", file]))
 
 
 def log_of(*sessions):

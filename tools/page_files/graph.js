@@ -63,3 +63,4 @@ class Graph extends Drawing {
       path.setAttribute("class", classes.join(" "));
     }
   }
+}

@@ -3,6 +3,7 @@
 
 const RETRY = 1000; // milliseconds until it tries again
 const LATE = 3000; // so many without news are told
+const ALONG = [0.5, 0.4, 0.6, 0.3, 0.7, 0.2, 0.8, 0.1, 0.9]; // where along a link its number may stand, the best first
 const PHASES = {
   "making ready": "New components are opened and the manager is asked. Nothing is held yet.",
   waiting: "Gates are closed. What is under way there ends, and nothing more begins.",
@@ -34,6 +35,15 @@ function movesOf(text) {
   }));
 }
 
+// The room of a number at a point of a link.
+function rateBox({ x, y }) {
+  return { x: x - 15, y: y - 17, width: 30, height: 16 };
+}
+
+function meets(one, other) {
+  return one.x < other.x + other.width && other.x < one.x + one.width && one.y < other.y + other.height && other.y < one.y + one.height;
+}
+
 // The component of a requirement.
 function ownerOf(name) {
   return name.slice(0, name.lastIndexOf("."));
@@ -51,9 +61,12 @@ class Live extends Drawing {
 
   draw() {
     super.draw();
+    const taken = this.order.filter((box) => !box.isFrame || !box.isOpen);
     for (const edge of this.edges) {
-      const { x, y } = edge.path.getPointAtLength(edge.path.getTotalLength() / 2);
+      const length = edge.path.getTotalLength(), points = ALONG.map((part) => edge.path.getPointAtLength(part * length));
+      const { x, y } = points.find((point) => !taken.some((box) => meets(box, rateBox(point)))) || points[0];
       edge.rate = label("rate", x, y - 5, "");
+      taken.push(rateBox({ x, y }));
       this.layer.append(edge.rate);
     }
   }
