@@ -13,8 +13,6 @@ mod passive_rows;
 #[cfg(test)]
 mod plan_rows;
 #[cfg(test)]
-mod rule_rows;
-#[cfg(test)]
 mod shelf_rows;
 #[cfg(test)]
 mod systems;

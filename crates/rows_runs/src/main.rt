@@ -10,7 +10,7 @@ use running::run_row;
 use std::{fs, io};
 
 /// A file of rows for each subject.
-const SUBJECTS: [&str; 21] = [
+const SUBJECTS: [&str; 24] = [
     "banks.txt",
     "big.txt",
     "bindings.txt",
@@ -27,8 +27,11 @@ const SUBJECTS: [&str; 21] = [
     "parts.txt",
     "plan.txt",
     "replay.txt",
+    "reports.txt",
     "rounds.txt",
+    "rules.txt",
     "scripts.txt",
+    "statements.txt",
     "upgrade.txt",
     "values.txt",
     "words.txt",

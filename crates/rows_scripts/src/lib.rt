@@ -2,11 +2,7 @@
 #![tactic(auto)]
 
 #[cfg(test)]
-mod check_rows;
-#[cfg(test)]
 mod merge_rows;
-#[cfg(test)]
-mod parser_rows;
 #[cfg(test)]
 mod report_rows;
 #[cfg(test)]
