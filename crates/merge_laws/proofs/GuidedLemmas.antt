@@ -22,12 +22,16 @@ use Rattle.change_spec.specs.Members.{Member, by_node, of_history, event_of, eve
 use Rattle.change_spec.proofs.MemberLaws.{events_parts, lines_parts}
 use Rattle.merge_laws.specs.Guarded.{Left, all_left, amount, can_go, do_first, go, is_met, left, may_do, may_do_first, may_go, may_tell, told, told_state}
 use Rattle.merge_laws.specs.Guided.{Guided}
-use Rattle.merge_laws.proofs.ConfluenceLemmas as confluence
-use Rattle.merge_laws.proofs.GoingLemmas.{Sound, go_keeps, go_to, go_leaves_less, go_stays, go_swaps, may_if}
+use Rattle.merge_laws.specs.Ways.{first_event, members_of, of_line}
+use Rattle.merge_laws.proofs.GoingLemmas as going
+use Rattle.merge_laws.proofs.GoingLemmas.{may_if}
 
--- what is left leads to the end
-abbrev pub Finds : Left → Type 0
-Finds y = confluence.Ends Left may_go go left (λ (z : Left). Sound z.state) go_keeps go_leaves_less go_stays go_swaps y
+-- a way to the end, on which these members come
+pub record WayOf (y : Left) (z : List Member) : Type 0 where
+  pub cs : List ℕ
+  pub goes : can_go y cs ≡ true
+  pub ends : left (fold go y cs) ≡ 0
+  pub members : members_of y cs ≡ z
 
 none_left : (ls : List (List Event)) → ((n : ℕ) → get_or ls n [] ≡ []) → amount ls ≡ 0
 none_left [] h = refl
@@ -36,15 +40,26 @@ none_left (l ∷ ls) h =
     let is : amount (l ∷ ls) ≡ length l + amount ls = refl in
     omega (arith, first, is, none_left ls (λ n. h (suc n)))
 
-step_line : (s : State) (l : HistoryLine) (r : List HistoryLine) (ls : List (List Event)) → may_tell s r l ≡ true
-    → Finds (record { state = told_state s l; lines = r; logs = ls }) → Finds (record { state = s; lines = l ∷ r; logs = ls })
-step_line s l r ls may rest = confluence.onward (record { state = s; lines = l ∷ r; logs = ls }) 0 may rest
+step_line : (s : State) (l : HistoryLine) (r : List HistoryLine) (ls : List (List Event)) (z : List Member) → may_tell s r l ≡ true
+    → WayOf (record { state = told_state s l; lines = r; logs = ls }) z → WayOf (record { state = s; lines = l ∷ r; logs = ls }) (cons_option (of_line l) z)
+step_line s l r ls z may rest = record {
+  cs = 0 ∷ rest.cs;
+  goes = and_from (may_tell s r l) (can_go (record { state = told_state s l; lines = r; logs = ls }) rest.cs) may rest.goes;
+  ends = rest.ends;
+  members = ap (cons_option (of_line l)) rest.members;
+}
 
-step_event : (s : State) (n : ℕ) (e : Event) (es : List Event) (r : List HistoryLine) (ls : List (List Event)) → get_or ls n [] ≡ e ∷ es → may_do s r n e ≡ true
-    → Finds (record { state = effect s e; lines = r; logs = set ls n es }) → Finds (record { state = s; lines = r; logs = ls })
-step_event s n e es r ls is may rest =
-    confluence.onward (record { state = s; lines = r; logs = ls }) (suc n) (ap (may_do_first s r n) is ∙ may)
-    (subst Finds (sym (ap (do_first (record { state = s; lines = r; logs = ls }) n) is)) rest)
+step_event : (s : State) (n : ℕ) (e : Event) (es : List Event) (r : List HistoryLine) (ls : List (List Event)) (z : List Member) → get_or ls n [] ≡ e ∷ es → may_do s r n e ≡ true
+    → WayOf (record { state = effect s e; lines = r; logs = set ls n es }) z → WayOf (record { state = s; lines = r; logs = ls }) (by_node e ∷ z)
+step_event s n e es r ls z is may rest =
+    let y : Left = record { state = s; lines = r; logs = ls } in
+    let next : go y (suc n) ≡ record { state = effect s e; lines = r; logs = set ls n es } = ap (do_first y n) is in
+    record {
+      cs = suc n ∷ rest.cs;
+      goes = and_from (may_go y (suc n)) (can_go (go y (suc n)) rest.cs) (ap (may_do_first s r n) is ∙ may) (subst (λ t. can_go t rest.cs ≡ true) (sym next) rest.goes);
+      ends = subst (λ t. left (fold go t rest.cs) ≡ 0) (sym next) rest.ends;
+      members = (λ i. cons_option (first_event (is i)) (members_of (next i) rest.cs)) ∙ ap (λ k. by_node e ∷ k) rest.members;
+    }
 
 -- who does an event
 one_doer : (n k : ℕ) (o : Option ℕ) → o ≡ Some n → (k ≡ n → ⊥) → option_map_or (λ m. m == k) o false ≡ false
@@ -118,22 +133,23 @@ module _ (m : List Member) (history : List HistoryLine) (guided : Guided m histo
       → lines x ≡ without_roots c → l ∷ lines z ≡ j ∷ without_roots r
       → ((k : ℕ) → get_or ls k [] ≡ done_from (state_at x) k (events (of_history l ∷ z)))
       → (m ≡ (x ++ of_history j ∷ []) ++ z → history ≡ (c ++ j ∷ []) ++ r → lines (x ++ of_history j ∷ []) ≡ without_roots (c ++ j ∷ []) → lines z ≡ without_roots r
-      → ((k : ℕ) → get_or ls k [] ≡ done_from (state_at (x ++ of_history j ∷ [])) k (events z)) → Finds (record { state = state_at (x ++ of_history j ∷ []); lines = r; logs = ls }))
-      → Finds (record { state = state_at x; lines = j ∷ r; logs = ls })
+      → ((k : ℕ) → get_or ls k [] ≡ done_from (state_at (x ++ of_history j ∷ [])) k (events z)) → WayOf (record { state = state_at (x ++ of_history j ∷ []); lines = r; logs = ls }) z)
+      → WayOf (record { state = state_at x; lines = j ∷ r; logs = ls }) (of_history l ∷ z)
   line_next x z l j c r ls plain is has same left_same logs further =
       let one = heads_are l j (lines z) (without_roots r) left_same in
       let at : m ≡ x ++ of_history j ∷ z = is ∙ ap (λ k. x ++ of_history k ∷ z) one in
-      step_line (state_at x) j r ls (may_line x z j c r at has same)
-      (subst (λ s. Finds (record { state = s; lines = r; logs = ls })) (sym (told_along x j))
+      subst (WayOf (record { state = state_at x; lines = j ∷ r; logs = ls })) (ap (λ b. cons_option (cond b None (Some (of_history j))) z) plain ∙ ap (λ k. of_history k ∷ z) (sym one))
+      (step_line (state_at x) j r ls z (may_line x z j c r at has same)
+      (subst (λ s. WayOf (record { state = s; lines = r; logs = ls }) z) (sym (told_along x j))
       (further (pushed m x z (of_history j) at) (pushed history c r j has) (line_passed x c j plain same) (tails_are l j (lines z) (without_roots r) left_same)
-      (λ k. logs k ∙ ap (λ i. done_from (state_at x) k (events (of_history i ∷ z))) one ∙ logs_line (state_at x) j z k ∙ ap (λ s. done_from s k (events z)) (told_along x j))))
+      (λ k. logs k ∙ ap (λ i. done_from (state_at x) k (events (of_history i ∷ z))) one ∙ logs_line (state_at x) j z k ∙ ap (λ s. done_from s k (events z)) (told_along x j)))))
 
   -- the next event of the list is the next of the log of its doer
   event_next : (x z : List Member) (e : Event) (c r : List HistoryLine) (ls : List (List Event)) → m ≡ x ++ by_node e ∷ z → history ≡ c ++ r → lines x ≡ without_roots c
       → ((k : ℕ) → get_or ls k [] ≡ done_from (state_at x) k (e ∷ events z))
       → ((now : List (List Event)) → m ≡ (x ++ by_node e ∷ []) ++ z → lines (x ++ by_node e ∷ []) ≡ without_roots c
-      → ((k : ℕ) → get_or now k [] ≡ done_from (state_at (x ++ by_node e ∷ [])) k (events z)) → Finds (record { state = state_at (x ++ by_node e ∷ []); lines = r; logs = now }))
-      → Finds (record { state = state_at x; lines = r; logs = ls })
+      → ((k : ℕ) → get_or now k [] ≡ done_from (state_at (x ++ by_node e ∷ [])) k (events z)) → WayOf (record { state = state_at (x ++ by_node e ∷ []); lines = r; logs = now }) z)
+      → WayOf (record { state = state_at x; lines = r; logs = ls }) (by_node e ∷ z)
   event_next x z e c r ls is has same logs further =
       let s = state_at x in
       let at = here x z e (by_node e) is refl in
@@ -142,9 +158,9 @@ module _ (m : List Member) (history : List HistoryLine) (guided : Guided m histo
       let own : is_doer s d.0 e ≡ true = the_doer d.0 (doer s e) d.1 in
       let es = done_from (effect s e) d.0 (events z) in
       let first : get_or ls d.0 [] ≡ e ∷ es = logs d.0 ∙ ap (λ b. cond b (e ∷ es) es) own in
-      step_event s d.0 e es r ls first
+      step_event s d.0 e es r ls z first
       (may_if s r d.0 e (record { node = node; does = own; allowed = allowed s e at.legal; free = guided.free x z e c r is has same }))
-      (subst (λ t. Finds (record { state = t; lines = r; logs = set ls d.0 es })) (sym (event_along x e))
+      (subst (λ t. WayOf (record { state = t; lines = r; logs = set ls d.0 es }) z) (sym (event_along x e))
       (further (set ls d.0 es) (pushed m x z (by_node e) is) (event_passed x c e same)
       (λ k. ⊎_elim
       (λ (mine : k ≡ d.0). ap (λ i. get_or (set ls d.0 es) i []) mine ∙ get_or-set_same ls d.0 es [] (below_of ls d.0 e es first)
@@ -155,12 +171,12 @@ module _ (m : List Member) (history : List HistoryLine) (guided : Guided m histo
       (cases_eq k d.0))))
 
   ends_from : (fuel : ℕ) (x z : List Member) (c r : List HistoryLine) (ls : List (List Event)) → length z + length r ≤ fuel → m ≡ x ++ z → history ≡ c ++ r → lines x ≡ without_roots c
-      → lines z ≡ without_roots r → ((k : ℕ) → get_or ls k [] ≡ done_from (state_at x) k (events z)) → Finds (record { state = state_at x; lines = r; logs = ls })
-  ends_from fuel x [] c [] ls few is has same left_same logs = confluence.ended (record { state = state_at x; lines = []; logs = ls }) (omega (arith, none_left ls logs))
+      → lines z ≡ without_roots r → ((k : ℕ) → get_or ls k [] ≡ done_from (state_at x) k (events z)) → WayOf (record { state = state_at x; lines = r; logs = ls }) z
+  ends_from fuel x [] c [] ls few is has same left_same logs = record { cs = []; goes = refl; ends = omega (arith, none_left ls logs); members = refl }
   ends_from zero x (k ∷ z) c r ls few is has same left_same logs = absurd (omega (arith, few))
   ends_from zero x [] c (l ∷ r) ls few is has same left_same logs = absurd (omega (arith, few))
   ends_from (suc fuel) x z c (to.Root p k ∷ r) ls few is has same left_same logs =
-      step_line (state_at x) (to.Root p k) r ls (guided.rooted x z p k c r is has same)
+      step_line (state_at x) (to.Root p k) r ls z (guided.rooted x z p k c r is has same)
       (ends_from fuel x z (c ++ to.Root p k ∷ []) r ls (omega (arith, few)) is (pushed history c r (to.Root p k) has) (root_passed x c p k same) left_same logs)
   ends_from (suc fuel) x (by_node e ∷ z) c r ls few is has same left_same logs =
       event_next x z e c r ls is has same logs (λ logs_now at passed now. ends_from fuel (x ++ by_node e ∷ []) z c r logs_now (omega (arith, few)) at has passed left_same now)
@@ -169,13 +185,12 @@ module _ (m : List Member) (history : List HistoryLine) (guided : Guided m histo
   ends_from (suc fuel) x (of_history l ∷ z) c (j ∷ r) ls few is has same left_same logs =
       line_next x z l j c r ls refl is has same left_same logs (λ at on passed rest now. ends_from fuel (x ++ of_history j ∷ []) z (c ++ j ∷ []) r ls (omega (arith, few)) at on passed rest now)
 
-  pub leads_to_end : (ls : List (List Event)) → ((k : ℕ) → get_or ls k [] ≡ done_by k (events m)) → Finds (all_left history ls)
+  pub leads_to_end : (ls : List (List Event)) → ((k : ℕ) → get_or ls k [] ≡ done_by k (events m)) → WayOf (all_left history ls) m
   leads_to_end ls logs = ends_from (length m + length history) [] m [] history ls (omega arith) refl refl refl whole logs
 
 pub found : (m : List Member) (history : List HistoryLine) (logs : List (List Event)) (cs : List ℕ) → Guided m history → IsRun (events m) → lines m ≡ without_roots history
     → ((k : ℕ) → get_or logs k [] ≡ done_by k (events m)) → can_go (all_left history logs) cs ≡ true
     → ((c : ℕ) → may_go (fold go (all_left history logs) cs) c ≡ false) → left (fold go (all_left history logs) cs) ≡ 0
 found m history logs cs guided run whole has goes stuck =
-    confluence.greedy_ends Left may_go go left (λ (y : Left). Sound y.state) go_keeps go_leaves_less go_stays go_swaps cs (all_left history logs)
-    (leads_to_end m history guided run whole logs has)
-    (record { formed = runs_are_well_formed [] tt; consistent = runs_are_consistent [] tt }) (go_to cs (all_left history logs) goes) stuck
+    let way = leads_to_end m history guided run whole logs has in
+    going.found (all_left history logs) way.cs cs (runs_are_well_formed [] tt) (runs_are_consistent [] tt) way.goes way.ends goes stuck

@@ -5,6 +5,7 @@ mod GuidedLemmas
 mod SerialLemmas
 mod GuideLemmas
 mod MergeLemmas
+mod ExchangeLemmas
 mod OpenRootLemmas
 mod RootPortLemmas
 mod ApartLemmas

@@ -8,3 +8,4 @@ pub mod Reading
 pub mod Alone
 pub mod Guards
 pub mod Misleading
+pub mod Exchanged

@@ -23,6 +23,7 @@ pub use going::{
 };
 pub use lawful::{lawful_lists_are_merges, lawful_reports_are_found};
 pub use merging::{
-    going_decides_merges, merges_meet_the_guards, roots_are_of_ports_that_no_service_calls,
+    going_decides_merges, merges_are_one_up_to_exchanges, merges_meet_the_guards,
+    roots_are_of_ports_that_no_service_calls,
 };
 pub use needing::each_guard_is_needed;
