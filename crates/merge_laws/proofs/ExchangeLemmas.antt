@@ -71,9 +71,9 @@ record LeadsOn (s : Left) (cs ds : List ℕ) : Type 0 where
   goes : can_go s ds ≡ true
   end : fold go s ds ≡ fold go s cs
 
-leads_on : (s : Left) (cs ds : List ℕ) → Sound s.state → Swaps s cs ds → can_go s cs ≡ true → LeadsOn s cs ds
-leads_on _ _ _ h (as_is s cs) goes = record { goes = goes; end = refl }
-leads_on _ _ _ h (turned s c d cs m n other) goes =
+swapped_goes : (s : Left) (cs ds : List ℕ) → Sound s.state → Swaps s cs ds → can_go s cs ≡ true → LeadsOn s cs ds
+swapped_goes _ _ _ h (as_is s cs) goes = record { goes = goes; end = refl }
+swapped_goes _ _ _ h (turned s c d cs m n other) goes =
     let w = and_parts (may_go s c) (can_go (go s c) (d ∷ cs)) goes in
     let v = and_parts (may_go (go s c) d) (can_go (go (go s c) d) cs) w.1 in
     let turn = go_swaps s c d h m n other in
@@ -82,23 +82,23 @@ leads_on _ _ _ h (turned s c d cs m n other) goes =
           (and_from (may_go (go s d) c) (can_go (go (go s d) c) cs) (go_stays s d c h n m (other_way c d other)) (subst (λ t. can_go t cs ≡ true) turn v.1));
       end = ap (λ t. fold go t cs) (sym turn);
     }
-leads_on _ _ _ h (behind s c cs ds r) goes =
+swapped_goes _ _ _ h (behind s c cs ds r) goes =
     let w = and_parts (may_go s c) (can_go (go s c) cs) goes in
-    let l = leads_on (go s c) cs ds (go_keeps s c h w.0) r w.1 in
+    let l = swapped_goes (go s c) cs ds (go_keeps s c h w.0) r w.1 in
     record { goes = and_from (may_go s c) (can_go (go s c) ds) w.0 l.goes; end = l.end }
-leads_on _ _ _ h (both s cs ds es p q) goes =
-    let l = leads_on s cs ds h p goes in
-    let k = leads_on s ds es h q l.goes in
+swapped_goes _ _ _ h (both s cs ds es p q) goes =
+    let l = swapped_goes s cs ds h p goes in
+    let k = swapped_goes s ds es h q l.goes in
     record { goes = k.goes; end = k.end ∙ l.end }
 
 -- ---- members
 
 -- the next member of a chain stays so as another comes
-still_next : (s : Left) (c d : ℕ) → may_go s c ≡ true → c ≢ d → member_of (go s c) d ≡ member_of s d
-still_next s zero zero m other = absurd (other refl)
-still_next s zero (suc k) m other = ap (λ (x : Left). first_event (log_of x k)) (told_is s (tells_of s m))
-still_next s (suc n) zero m other = ap (λ (x : Left). first_of x.lines) (done_is s n (does_of s n m))
-still_next s (suc n) (suc k) m other =
+unmoved_next : (s : Left) (c d : ℕ) → may_go s c ≡ true → c ≢ d → member_of (go s c) d ≡ member_of s d
+unmoved_next s zero zero m other = absurd (other refl)
+unmoved_next s zero (suc k) m other = ap (λ (x : Left). first_event (log_of x k)) (told_is s (tells_of s m))
+unmoved_next s (suc n) zero m other = ap (λ (x : Left). first_of x.lines) (done_is s n (does_of s n m))
+unmoved_next s (suc n) (suc k) m other =
     let d = does_of s n m in
     ap (λ (x : Left). first_event (log_of x k)) (done_is s n d) ∙ ap first_event (get_or-set_other s.logs n k d.rest [] (λ e. other (ap suc (sym e))))
 
@@ -153,10 +153,10 @@ module _ (history : List HistoryLine) (logs : List (List Event)) (telling : IsTo
         let back = members_of (go (go here c) d) cs in
         let x = member_of here c in
         let y = member_of here d in
-        let l = leads_on here (c ∷ d ∷ cs) (d ∷ c ∷ cs) h (turned here c d cs m n other) goes in
-        let one : members_of here (c ∷ d ∷ cs) ≡ cons_option x (cons_option y back) = ap (λ o. cons_option x (cons_option o back)) (still_next here c d m other) in
+        let l = swapped_goes here (c ∷ d ∷ cs) (d ∷ c ∷ cs) h (turned here c d cs m n other) goes in
+        let one : members_of here (c ∷ d ∷ cs) ≡ cons_option x (cons_option y back) = ap (λ o. cons_option x (cons_option o back)) (unmoved_next here c d m other) in
         let two : members_of here (d ∷ c ∷ cs) ≡ cons_option y (cons_option x back) =
-        (λ i. cons_option y (cons_option (still_next here d c n (other_way c d other) i) (members_of (go_swaps here d c h n m (other_way c d other) i) cs))) in
+        (λ i. cons_option y (cons_option (unmoved_next here d c n (other_way c d other) i) (members_of (go_swaps here d c h n m (other_way c d other) i) cs))) in
         subst (λ v. Exchanged v (front ++ members_of here (d ∷ c ∷ cs))) (ap (λ v. front ++ v) (sym one))
         (subst (λ v. Exchanged (front ++ cons_option x (cons_option y back)) v) (ap (λ v. front ++ v) (sym two))
         (put_both front back x y (subst (λ v. IsMergeOf history logs (front ++ v)) one (whole (c ∷ d ∷ cs) goes ends))
@@ -184,7 +184,7 @@ module _ (history : List HistoryLine) (logs : List (List Event)) (telling : IsTo
       one_on None z = refl
       one_on (Some x) z = refl
   exchanges _ _ _ (both s cs ds es p q) ps so_far is h goes ends =
-      let l = leads_on s cs ds h p goes in
+      let l = swapped_goes s cs ds h p goes in
       further (members_of start ps ++ members_of s cs) (members_of start ps ++ members_of s ds) (members_of start ps ++ members_of s es) (exchanges s cs ds p ps so_far is h goes ends)
       (exchanges s ds es q ps so_far is h l.goes (ap left l.end ∙ ends))
 
