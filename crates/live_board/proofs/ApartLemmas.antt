@@ -56,6 +56,14 @@ module _ (c : Configuration) (gone : SourcesAreGone c) where
       (λ (other : is_in_slot n x ≡ false). from_there k (Some x.slot) xs last n h.1 (sym (ap (λ b. b || list_any (is_in_slot n) (xs ++ last ∷ [])) other) ∙ at))
       (cases_Bool (is_in_slot n x))
 
+  ends_so : (k : Kind) (from : Option ℕ) (xs : List LineSight) (last : LineSight) (n : ℕ) → IsMadeLine c k from (xs ++ last ∷ []) → first_slot xs last ≡ n → is_live c n ≡ true → last.slot ≡ n
+  ends_so k from [] last n h begins live = begins
+  ends_so k from (x ∷ xs) last n h begins live = absurd (none_took k x.slot xs last h.1 (ap (is_live c) begins ∙ live))
+
+  -- a live node is the last of its line
+  pub ends_live : (k : Kind) (past : List LineSight) (last : LineSight) (n : ℕ) → IsMadeLine c k None (past ++ last ∷ []) → list_any (is_in_slot n) (past ++ last ∷ []) ≡ true → is_live c n ≡ true → last.slot ≡ n
+  ends_live k past last n h at live = let f = from_there k None past last n h at in ends_so k f.from f.xs last n f.made f.begins live
+
   pub share_none : (k j : Kind) (past other : List LineSight) (last final : LineSight) (n : ℕ) → IsMadeLine c k None (past ++ last ∷ []) → IsMadeLine c j None (other ++ final ∷ [])
       → is_live c last.slot ≡ true → is_live c final.slot ≡ true → list_any (is_in_slot n) (past ++ last ∷ []) ≡ true → list_any (is_in_slot n) (other ++ final ∷ []) ≡ true → last.slot ≡ final.slot
   share_none k j past other last final n h g la lb at at_ =

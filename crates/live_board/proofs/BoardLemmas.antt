@@ -2,7 +2,7 @@
 use Rattle.std.proofs.Common.{◌≡◌, ◌∙◌, ℕ, ◌<◌, Bool, true, false, List, [], ◌++◌, length, map, Result, Ok, Err, sym, ap, subst}
 use Rattle.std.specs.Prelude.{All, IfOk, filter_map}
 use Rattle.std.specs.List.{range_with_len}
-use Rattle.std.proofs.lemmas.Bool.{false≢true}
+use Rattle.std.proofs.lemmas.Bool.{and_parts, false≢true}
 use Rattle.std.proofs.lemmas.List.Elements.{filter_map-append}
 use Rattle.atomic_table.specs.Seated.{TableId}
 use Rattle.change_board.specs.Collecting.{Collects, IsEndOf, first_undone}
@@ -18,8 +18,9 @@ use Rattle.txn_records.specs.declared.entry.Entry.{Entry}
 use Rattle.live_board.specs.Ended.{collected_logs}
 use Rattle.live_board.specs.Boards.{BoardSeen, FitsNodes, StandsLive, taken_in}
 use Rattle.live_board.specs.Collecting.{Gathers, all_logs}
-use Rattle.live_board.specs.Lengths.{IsLast}
+use Rattle.live_board.specs.Lengths.{IsLast, is_as_last, length_in}
 use Rattle.live_board.specs.Scanning.{IsScan}
+use Rattle.live_board.specs.Turning.{Ways}
 use Rattle.live_board.proofs.BoardLaws.{adds_no_entry, adds_seen, here, last_here}
 use Rattle.live_board.proofs.QuietLaws.{quiet_looks, quiet_sights}
 use Rattle.live_board.proofs.TakenLemmas.{taken_all}
@@ -31,15 +32,15 @@ false_true : {A : Type 0} → false ≡ true → A
 false_true is = absurd (false≢true is)
 
 module _ (v old : BoardSeen) (view : v ≡ old) (new : BoardSeen) (sources : new.room.sources ≡ v.room.sources) (lines : new.lines ≡ v.lines) (heirs : new.heirs ≡ v.heirs) where
-  pub adds_scan : (S : AnyNode → NodeState) (gates : TableId) (missed missed' : List ℕ) (begins : Bool) (s : Scan) → IsScan S gates v.entries new.entries missed missed' v.last new.last begins s → AddsScan StandsLive false old new begins s
-  adds_scan S gates missed missed' begins s i = record {
+  pub adds_scan : (S : AnyNode → NodeState) (gates : TableId) (before after : Ways) (begins : Bool) (s : Scan) → IsScan S gates v.entries new.entries before after v.last new.last begins s → AddsScan StandsLive false old new begins s
+  adds_scan S gates before after begins s i = record {
     sights = i.sights;
     found = i.found;
     adds = adds_seen v old view new sources lines heirs (scan_entries begins s.moved i.sights i.found) (quiet_scan begins s.moved i.sights i.found) i.known i.adds (λ r h. i.last_is);
     at_ports = λ r h. i.at_ports ∙ ap (λ q. all_ports (config_of q)) (sym (here v old view new r h));
     all_sighted = λ on r h. false_true on;
     done = λ on r h. false_true on;
-    at_rest = λ r h on. subst (λ q. is_seen_at_rest (config_of q) i.sights i.found ≡ true) (sym (here v old view new r h)) (i.at_rest on);
+    at_rest = λ r h on. subst (λ q. is_seen_at_rest (config_of q) i.sights i.found ≡ true) (sym (here v old view new r h)) (and_parts (is_seen_at_rest (config_of v.entries) i.sights i.found) (is_as_last (config_of v.entries) v.last (length_in i.sights)) (sym i.done ∙ on)).0;
     twice = λ off r h on. subst (λ q. IsSeenTwice q i.sights) (sym (here v old view new r h)) (i.twice (subst (λ q. IsLast q v.last) (here v old view new r h) (last_here v old view new r h)) on);
     ended = i.ended;
   }

@@ -3,6 +3,7 @@ use Rattle.std.proofs.Common.{◌≡◌, ◌∙◌, ℕ, zero, suc, ◌+◌, ◌
 use Rattle.std.specs.Prelude.{option_and_then, option_map}
 use Rattle.std.specs.Option.{option_map_or}
 use Rattle.std.specs.List.{list_any}
+use Rattle.std.proofs.Common.{true≢false}
 use Rattle.std.proofs.lemmas.Bool.{and_parts, both_ways, cases_Bool, cases_lt}
 use Rattle.std.proofs.lemmas.List.{append-nil, map-append}
 use Rattle.atomic_table.specs.Seated.{TableId}
@@ -78,11 +79,25 @@ module _ (c : Configuration) (f g : ℕ → Option (List Event)) (more_ : ShowsM
       by None is none_ = absurd (both_ways false refl none_)
       by (Some s) is there = ap (λ o. option_map_or moves.is_done o false) (within (suc n) n s is) ∙ there
 
+-- a node of which nothing was seen isn't seen as done
+pub unsighted : (c : Configuration) (f : ℕ → Option (List Event)) (n : ℕ) → f n ≡ None → is_seen_done c f n ≡ false
+unsighted c f n none_ = by (slot c n) (f n) none_
+  where
+    by : (o : Option Slot) (p : Option (List Event)) → p ≡ None
+        → option_map_or moves.is_done (option_and_then (λ (m : Slot). option_and_then (own c f f (λ i es at. at) (fold_seen_within c f n) m) p) o) false ≡ false
+    by None p is = refl
+    by (Some m) None is = refl
+    by (Some m) (Some es) is = absurd (cc)
+
 -- ---- one node more
 
 abbrev pub LinesAreApart : Configuration → Type 0
 LinesAreApart c = (k j : Kind) (past other : List LineSight) (last final : LineSight) (n : ℕ) → IsMadeLine c k None (past ++ last ∷ []) → IsMadeLine c j None (other ++ final ∷ [])
     → is_live c last.slot ≡ true → is_live c final.slot ≡ true → list_any (is_in_slot n) (past ++ last ∷ []) ≡ true → list_any (is_in_slot n) (other ++ final ∷ []) ≡ true → last.slot ≡ final.slot
+
+-- none took over from a live node
+abbrev pub LiveNodesAreLast : Configuration → Type 0
+LiveNodesAreLast c = (k : Kind) (past : List LineSight) (last : LineSight) (n : ℕ) → IsMadeLine c k None (past ++ last ∷ []) → list_any (is_in_slot n) (past ++ last ∷ []) ≡ true → is_live c n ≡ true → last.slot ≡ n
 
 module _ (S : AnyNode → NodeState) (gates : TableId) where
   -- more sights show no less
@@ -114,10 +129,11 @@ module _ (S : AnyNode → NodeState) (gates : TableId) (c : Configuration) (r r1
         (λ (below : i < n). h.seen is i below live)
         (λ (past : n ≤ i). let same : i ≡ n = omega (arith, few, past) in absurd (both_ways (is_live c i) (ap (is_live c) same ∙ gone) live))
         (cases_lt i n);
+    unseen = λ off. let u = h.unseen off in (u.0, (let below = u.1 in omega (arith, below)), u.2, u.3);
     each = no_node n now gone h.each;
   }
 
-  module _ (apart : LinesAreApart c) (live : is_live c n ≡ true) (done : Bool) (x : SeesNode c r1 r2 lengths lengths' n done) (looked : LookedAt S gates n now next done) where
+  module _ (apart : LinesAreApart c) (ends : LiveNodesAreLast c) (live : is_live c n ≡ true) (done : Bool) (x : SeesNode c r1 r2 lengths lengths' n done) (looked : LookedAt S gates n now next done) where
     fresh : (i : ℕ) (es : List Event) → seen_in x.sights i ≡ Some es → seen_in h.sights i ≡ None
     fresh i es at = by (seen_in h.sights i) refl
       where
@@ -135,6 +151,34 @@ module _ (S : AnyNode → NodeState) (gates : TableId) (c : Configuration) (r r1
     shows : ShowsMore (seen_in x.sights) (seen_in (h.sights ++ x.sights))
     shows i es at = seen_next h.sights x.sights i (fresh i es at) ∙ at
 
+    -- a node below, or this one, that wasn't sighted
+    still_unseen : (i : ℕ) → i < n → is_live c i ≡ true → seen_in h.sights i ≡ None → seen_in (h.sights ++ x.sights) i ≡ None
+    still_unseen i few alive none_ = seen_next h.sights x.sights i none_ ∙ by (seen_in x.sights i) refl
+      where
+        by : (o : Option (List Event)) → seen_in x.sights i ≡ o → seen_in x.sights i ≡ None
+        by None is = is
+        by (Some es) is =
+            let b = x.of_line i es is in
+            let here : i ≡ n = sym (ends b.kind b.past b.last i b.made b.among alive) ∙ b.is_last in
+            absurd (omega (arith, few, here))
+
+    own_unseen : done ≡ false → seen_in (h.sights ++ x.sights) n ≡ None
+    own_unseen off = by (seen_in h.sights n) refl
+      where
+        by : (o : Option (List Event)) → seen_in h.sights n ≡ o → seen_in (h.sights ++ x.sights) n ≡ None
+        by None is = seen_next h.sights x.sights n is ∙ ap (λ ss. seen_in ss n) (x.unseen off)
+        by (Some es) is =
+            let a = h.of_lines n es is in
+            let below = a.1 in
+            let same : a.0 ≡ n = sym a.3.is_last ∙ ends a.3.kind a.3.past a.3.last n a.3.made a.3.among live in
+            absurd (omega (arith, below, same))
+
+    one_unseen : (so_far && done) ≡ false → (i : ℕ) × (i < n + 1) × (is_live c i ≡ true) × (seen_in (h.sights ++ x.sights) i ≡ None)
+    one_unseen off = ⊎_elim
+        (λ (on : so_far ≡ true). (n, omega arith, live, own_unseen (ap (λ b. b && done) (sym on) ∙ off)))
+        (λ (not_all : so_far ≡ false). let u = h.unseen not_all in (u.0, (let below = u.1 in omega (arith, below)), u.2, still_unseen u.0 u.1 u.2 u.3))
+        (cases_Bool so_far)
+
     pub saw_one : SawNodes S gates c r r2 lengths' missed next (n + 1) (so_far && done)
     saw_one = record {
       sights = h.sights ++ x.sights;
@@ -149,6 +193,7 @@ module _ (S : AnyNode → NodeState) (gates : TableId) (c : Configuration) (r r1
           subst (λ j. is_seen_done c (seen_in (h.sights ++ x.sights)) j ≡ true) same
           (done_more c (seen_in x.sights) (seen_in (h.sights ++ x.sights)) shows n (x.seen (and_parts so_far done is).1)))
           (cases_lt i n);
+      unseen = one_unseen;
       each = saw_next S gates c (h.sights ++ x.sights) missed now next n done live
           (saw_more S gates c h.sights (h.sights ++ x.sights) missed (λ i. done_more c (seen_in h.sights) (seen_in (h.sights ++ x.sights)) (λ j es at. seen_first h.sights x.sights j es at) i) n now h.each)
           (λ on. done_more c (seen_in x.sights) (seen_in (h.sights ++ x.sights)) shows n (x.seen on)) looked;
@@ -166,6 +211,7 @@ saw_nothing S gates c r lengths missed h = record {
   lengths_are = h;
   of_lines = λ i es at. none_is_some es at;
   seen = λ on i few live. absurd (omega arith);
+  unseen = λ off. absurd (true≢false off);
   each = none_yet;
 }
 

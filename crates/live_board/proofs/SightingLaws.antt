@@ -2,6 +2,7 @@
 use Rattle.std.proofs.Common.{◌≡◌, ◌∙◌, ℕ, Bool, true, false, cond, List, [], ◌∷◌, ◌++◌, map, Option, Some, None, refl, sym, ap, subst}
 use Rattle.std.specs.Prelude.{◌==◌, ◌||◌, find, option_map}
 use Rattle.std.specs.List.{AllByRecursion, list_any}
+use Rattle.std.proofs.lemmas.Bool.{both_ways}
 use Rattle.base.proofs.PlaceLaws.{heads_are, tails_are}
 use Rattle.change_board.specs.Sights.{Sight, is_seen_done, seen_in, sight_entry}
 use Rattle.component_trait.specs.Moves as moves
@@ -76,7 +77,7 @@ module _ {A : Type 0} (v : A → NodeView) (l : A → LineSight) where
 -- a node that is done was sighted with its line
 pub saw : {A : Type 0} (v : A → NodeView) (l : A → LineSight) (told : (p : A) → (v p).log ≡ (l p).log) (ps : List A) (own : NodeView) (last : LineSight) (t : NodeState)
     (c : Configuration) (r r' : List Entry) (lengths lengths' : List (Option ℕ)) (done : Bool)
-    → own.log ≡ last.log
+    → done ≡ true → own.log ≡ last.log
     → map (λ p. seen_word (v p)) ps ++ seen_word own ∷ [] ≡ line_words t.kind None (map (λ p. line_place (l p)) ps ++ line_place last ∷ [])
     → line_state t.kind None (map (λ p. line_node (l p)) ps) (line_node last) ≡ Some t
     → AllByRecursion (IsMadeIn c) (map v ps ++ own ∷ []) → moves.is_done t ≡ true
@@ -86,7 +87,7 @@ pub saw : {A : Type 0} (v : A → NodeView) (l : A → LineSight) (told : (p : A
     → r' ≡ r ++ map sight_of (map v ps ++ own ∷ [])
     → ((before : List Sight) → AreLengths before lengths → AreLengths (before ++ (map (λ p. line_sight (l p)) ps ++ line_sight last ∷ [])) lengths')
     → SeesNode c r r' lengths lengths' last.slot done
-saw v l told ps own last t c r r' lengths lengths' done log line folds made is_done tell show grew long =
+saw v l told ps own last t c r r' lengths lengths' done on log line folds made is_done tell show grew long =
     let whole : IsMadeLine c t.kind None (map l ps ++ last ∷ []) =
     tell (map l ps ++ last ∷ []) (map v ps ++ own ∷ []) (words_are v l ps own ∙ line ∙ ap (line_words t.kind None) (sym (places_are v l ps last))) made in
     let same = sights_are v l ps last in
@@ -102,5 +103,6 @@ saw v l told ps own last t c r r' lengths lengths' done log line folds made is_d
         is_last = refl;
         among = seen_among (map l ps ++ last ∷ []) n es (ap (λ ss. seen_in ss n) same ∙ at);
       };
-      seen = λ on. subst (λ ss. is_seen_done c (seen_in ss) last.slot ≡ true) same (show (map l ps) whole (ap (λ ns. line_state t.kind None ns (line_node last)) (nodes_are v l ps) ∙ folds) is_done);
+      unseen = λ off. absurd (both_ways done off on);
+      seen = λ _. subst (λ ss. is_seen_done c (seen_in ss) last.slot ≡ true) same (show (map l ps) whole (ap (λ ns. line_state t.kind None ns (line_node last)) (nodes_are v l ps) ∙ folds) is_done);
     }

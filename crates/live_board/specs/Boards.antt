@@ -5,6 +5,7 @@ use Rattle.change_board.specs.Steps.{Room}
 use Rattle.live_board.specs.Behind.{IsShallow}
 use Rattle.live_board.specs.Heirs.{AreHeirs}
 use Rattle.live_board.specs.Lengths.{IsLast}
+use Rattle.live_board.specs.Turning.{Ways}
 use Rattle.live_board.specs.Ended.{collected_logs}
 use Rattle.quiesce_core.specs.State.{Configuration}
 use Rattle.quiesce_core.specs.declared.event.Event.{Event}
@@ -16,7 +17,7 @@ use Rattle.txn_records.specs.declared.entry.Entry.{Entry}
 
 -- the record of its change's seat; the nodes whose seats that took in for good; for what there is room; how many
 -- earlier nodes a line may have; which node took over the state of each; in which places, by slot, a removed node lies;
--- how often its door found each cell empty; and what it keeps of its last scan
+-- how often its door found each cell empty, and what its hand did; and what it keeps of its last scan
 pub record BoardSeen : Type 0 where
   pub entries : List Entry
   pub nodes : List NodeView
@@ -24,7 +25,7 @@ pub record BoardSeen : Type 0 where
   pub lines : ℕ
   pub heirs : List (Option ℕ)
   pub stored : List Bool
-  pub missed : List ℕ
+  pub ways : Ways
   pub last : Option (List (Option ℕ))
 
 -- What is kept of the nodes made: the heir of each that has one; and a node in a slot below `sources` may be taken over
@@ -44,11 +45,11 @@ pub record StandsLive (b : BoardSeen) (r : List Entry) : Type 0 where
   pub last : IsLast r b.last
 
 -- What an act of the change on a port leaves as it was: which nodes were taken in, which removed ones lie in their
--- places, and how often its door found each cell empty.
+-- places, and what its door and its hand found.
 pub record KeepsNodes (old new : BoardSeen) : Type 0 where
   pub nodes : new.nodes ≡ old.nodes
   pub stored : new.stored ≡ old.stored
-  pub missed : new.missed ≡ old.missed
+  pub ways : new.ways ≡ old.ways
 
 -- what was taken in, by slot; nothing counts before all were
 abbrev pub taken_in : BoardSeen → List (List Event)

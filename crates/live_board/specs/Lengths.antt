@@ -1,8 +1,9 @@
 -- What a board keeps of its last scan: how long the log of each sighted node was.
-use Rattle.std.specs.Prelude.{◌≡◌, ⊤, ℕ, ◌<◌, Bool, true, List, ◌++◌, length, slice_index_or, slice_set, Option, Some, None, is_none, option_map, if◌then◌else◌}
+use Rattle.std.specs.Prelude.{◌≡◌, ⊤, ℕ, ◌<◌, Bool, true, false, ◌==◌, List, ◌++◌, length, slice_index_or, slice_set, Option, Some, None, is_none, option_map, if◌then◌else◌}
 use Rattle.std.specs.List.{list_all}
-use Rattle.change_board.specs.Scans.{Found, all_ports, is_idle_if_live, ports_of, scan_entries}
+use Rattle.change_board.specs.Scans.{Found, all_ports, is_idle_if_live, live_nodes, ports_of, scan_entries}
 use Rattle.change_board.specs.Sights.{Sight, seen_in}
+use Rattle.quiesce_core.specs.State.{Configuration}
 use Rattle.txn_records.specs.Entries.{config_of}
 use Rattle.txn_records.specs.declared.entry.Entry.{Entry}
 
@@ -37,6 +38,12 @@ IsLast r (Some lengths) = EndsIdle r lengths
 abbrev pub noted : List (Option ℕ) → ℕ → ℕ → List (Option ℕ)
 noted lengths n count = if is_none (length_at lengths n) then slice_set lengths n (Some count) else lengths
 
--- both are there and the same
-abbrev pub AreAlike : Option ℕ → Option ℕ → Type 0
-AreAlike a b = (k : ℕ) × (a ≡ Some k) × (b ≡ Some k)
+-- whether both are there and the same
+abbrev pub is_alike : Option ℕ → Option ℕ → Bool
+is_alike (Some a) (Some b) = a == b
+is_alike _ _ = false
+
+-- whether there is a last scan, of which each live node has the length that is seen now
+abbrev pub is_as_last : Configuration → Option (List (Option ℕ)) → (ℕ → Option ℕ) → Bool
+is_as_last c None now = false
+is_as_last c (Some first) now = list_all (λ n. is_alike (length_at first n) (now n)) (live_nodes c)

@@ -1,5 +1,5 @@
 -- What a scan sees of nodes.
-use Rattle.std.specs.Prelude.{◌≡◌, ℕ, ◌<◌, Bool, true, List, [], ◌∷◌, ◌++◌, map, Option, Some, None}
+use Rattle.std.specs.Prelude.{◌≡◌, ℕ, ◌<◌, Bool, true, false, List, [], ◌∷◌, ◌++◌, map, Option, Some, None}
 use Rattle.std.specs.List.{list_any}
 use Rattle.atomic_table.specs.Seated.{TableId}
 use Rattle.change_board.specs.Sights.{Sight, is_seen_done, seen_in, sight_entry}
@@ -30,23 +30,25 @@ pub record IsOfLine (c : Configuration) (slot n : ℕ) : Type 0 where
   pub is_last : last.slot ≡ slot
   pub among : list_any (is_in_slot n) (past ++ last ∷ []) ≡ true
 
--- Of the node in this slot: where it is done it was sighted with its line, by which it is seen as done; and the lengths
--- of what was seen so far go on.
+-- Of the node in this slot: where it is done it was sighted with its line, by which it is seen as done, and else nothing
+-- was; and the lengths of what was seen so far go on.
 pub record SeesNode (c : Configuration) (r r' : List Entry) (lengths lengths' : List (Option ℕ)) (slot : ℕ) (done : Bool) : Type 0 where
   pub sights : List Sight
   pub adds : r' ≡ r ++ map sight_entry sights
   pub lengths_are : (before : List Sight) → AreLengths before lengths → AreLengths (before ++ sights) lengths'
   pub of_line : (n : ℕ) (es : List Event) → seen_in sights n ≡ Some es → IsOfLine c slot n
   pub seen : done ≡ true → is_seen_done c (seen_in sights) slot ≡ true
+  pub unseen : done ≡ false → sights ≡ []
 
 -- Of all nodes in slots below this: each sight is of the line of a live one; where all were done, each live one is seen
--- as done; and each live one that isn't seen so wasn't done, or the door found none there.
+-- as done, and else one wasn't sighted; and each live one that isn't seen as done wasn't so, or the door found none there.
 pub record SawNodes (S : AnyNode → NodeState) (gates : TableId) (c : Configuration) (r r' : List Entry) (lengths : List (Option ℕ)) (missed missed' : List ℕ) (slots : ℕ) (done : Bool) : Type 0 where
   pub sights : List Sight
   pub adds : r' ≡ r ++ map sight_entry sights
   pub lengths_are : AreLengths sights lengths
   pub of_lines : (n : ℕ) (es : List Event) → seen_in sights n ≡ Some es → (slot : ℕ) × (slot < slots) × (is_live c slot ≡ true) × IsOfLine c slot n
   pub seen : done ≡ true → (n : ℕ) → n < slots → is_live c n ≡ true → is_seen_done c (seen_in sights) n ≡ true
+  pub unseen : done ≡ false → (n : ℕ) × (n < slots) × (is_live c n ≡ true) × (seen_in sights n ≡ None)
   pub each : SawEach S gates c sights missed slots missed'
 
 -- the change's record goes on, as one of a run, at the same gates

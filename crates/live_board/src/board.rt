@@ -1,18 +1,18 @@
 //! The board over the gates and the hall.
 
-ghost use Rattle.std.specs.Prelude.{◌≡◌, ℕ, ◌+◌, ◌<◌, ◌≤◌, ◌∷◌, ◌++◌, [], List, false, true, length, slice_set, IfOk, IsTrue, OnErr, OnOk};
+ghost use Rattle.std.specs.Prelude.{◌≡◌, ℕ, ◌+◌, ◌<◌, ◌≤◌, ◌∷◌, ◌++◌, [], List, false, true, length, slice_set, IfOk, IsTrue, MatchOption, OnErr, OnOk};
 ghost use Rattle.change_board.specs.Collecting.{Collects};
 ghost use Rattle.change_board.specs.Looking.{AddsLook};
 ghost use Rattle.change_board.specs.Making.{Makes};
-ghost use Rattle.change_board.specs.Scans.{AddsScan, Found, scan_entries};
-ghost use Rattle.change_board.specs.Sights.{Sight};
+ghost use Rattle.change_board.specs.Scans.{AddsScan};
 ghost use Rattle.change_board.specs.Steps.{HasRoomToMake, less_one};
 ghost use Rattle.config_graph.specs.declared.TheConstants.{MAX_NODES};
 ghost use Rattle.live_board.specs.Boards.{KeepsNodes, StandsLive, taken_in};
 ghost use Rattle.live_board.specs.Keeping.{is_stored, without};
 ghost use Rattle.live_board.specs.Making.{AddsMake};
+ghost use Rattle.live_board.specs.Scanning.{IsScan};
 ghost use Rattle.live_board.specs.Standing as standing;
-ghost use Rattle.live_board.specs.Turning.{Reached};
+ghost use Rattle.live_board.specs.Turning.{ways};
 ghost use Rattle.quiesce_core.specs.declared.event.Event.TheVariants as event;
 ghost use Rattle.txn_gate.specs.Seats.{IsChangeSeatOf, change_in, collected_in, record_of, table_of_change};
 ghost use Rattle.txn_spec.specs.Views.{is_among, nothing_done};
@@ -73,6 +73,7 @@ impl<'g, J: Named, R: Wait + Copy, T: Turnstile> Model for LiveBoard<'g, J, R, T
     ghost use Rattle.std.specs.Prelude.{◌≡◌, option_map};
     ghost use Rattle.live_board.specs.Boards.{BoardSeen};
     ghost use Rattle.live_board.specs.Keeping.{AreKept, HaveRoom, stored};
+    ghost use Rattle.live_board.specs.Turning.{ways};
     ghost use Rattle.txn_gate.specs.Seats.{IsChangeSeatOf, collected_in, record_of};
 
     ghost Value = { BoardSeen };
@@ -84,7 +85,7 @@ impl<'g, J: Named, R: Wait + Copy, T: Turnstile> Model for LiveBoard<'g, J, R, T
       lines = b.lines;
       heirs = b.heirs.items;
       stored = stored b.kept.items;
-      missed = b.door;
+      ways = ways b.door b.hand;
       last = option_map (λ v. v.items) b.last;
     } };
 
@@ -108,7 +109,7 @@ impl<'g, J: Named, R: Wait + Copy, T: Turnstile> LiveBoard<'g, J, R, T> {
         requires named { J.gates ≡ gates.now.words.shared.table_id }
         requires fresh { (change_in seat ≡ nothing_done) × (collected_in seat ≡ []) × (seat.spare ≡ 0) }
         ensures record { ⟦<LiveBoard<'g, J, R, T> as Board>⟧.stands_for result [] }
-        ensures missed { result.missed ≡ door }
+        ensures ways { result.ways ≡ ways door hand }
     {
         LiveBoard {
             rt,
@@ -254,7 +255,7 @@ impl<'g, J: Named, R: Wait + Copy, T: Turnstile> Board for LiveBoard<'g, J, R, T
         self.gates.reserve(&mut self.seat, nodes)
     }
 
-    /// The node in slot `from` is taken from its place, if it lies there, or else from the hall.
+    /// The node in slot `from` is taken from its place, if it lies there, and only else from the hall.
     fn make(&mut self, node: Node, from: Option<u32>)
         requires may { (r : List Entry) × StandsLive self.old r
             × May r (event.Make (length (config_of r).slots) node from) }
@@ -263,6 +264,8 @@ impl<'g, J: Named, R: Wait + Copy, T: Turnstile> Board for LiveBoard<'g, J, R, T
         ensures sights { AddsMake self.old.entries self.new.entries node from }
         ensures room { self.new.room ≡ less_one self.old.room }
         ensures stored { self.new.stored ≡ without self.old.stored from }
+        ensures found { MatchOption from (self.new.ways ≡ self.old.ways)
+            (λ k. is_stored self.old.stored k ≡ true → self.new.ways ≡ self.old.ways) }
         ensures collected { self.new.nodes ≡ self.old.nodes }
     {
         let made = self.seat.made();
@@ -292,10 +295,8 @@ impl<'g, J: Named, R: Wait + Copy, T: Turnstile> Board for LiveBoard<'g, J, R, T
         ensures room { OnOk result (self.new.room ≡ self.old.room) }
         ensures err { OnErr result
             ((r : List Entry) → StandsLive self.old r → (self.new.entries ≡ r) × IsRecordCut r) }
-        ensures reached { IfOk result (λ s. (sights : List Sight) × (found : List Found)
-            × (self.new.entries ≡ self.old.entries ++ scan_entries begins s.moved sights found)
-            × Reached ⟦<AnyNode as Component>⟧.state J.gates (config_of self.old.entries) begins s.moved sights
-            self.old.missed self.new.missed) }
+        ensures scanned { IfOk result (IsScan ⟦<AnyNode as Component>⟧.state J.gates self.old.entries self.new.entries
+            self.old.ways self.new.ways self.old.last self.new.last begins) }
         ensures stored { self.new.stored ≡ self.old.stored }
     {
         if begins {

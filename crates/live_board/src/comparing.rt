@@ -1,8 +1,9 @@
 //! Whether two scans in a row saw the same.
 
-ghost use Rattle.std.specs.Prelude.{◌≡◌, ◌<◌, ◌≤◌, ℕ, [], true, List, Option, Some, IfOk, option_map};
-ghost use Rattle.live_board.specs.Lengths.{AreAlike, AreLengths, length_at};
-ghost use Rattle.quiesce_core.specs.State.{is_live};
+ghost use Rattle.std.specs.Prelude.{◌≡◌, [], IfOk, length, option_map};
+ghost use Rattle.std.specs.List.{list_all};
+ghost use Rattle.change_board.specs.Scans.{live_nodes};
+ghost use Rattle.live_board.specs.Lengths.{AreLengths, is_alike, is_as_last, length_at};
 ghost use Rattle.txn_gate.specs.Seats.{record_of};
 ghost use Rattle.txn_records.specs.Entries.{config_of};
 
@@ -12,7 +13,8 @@ use txn_gate::ChangeSeat;
 
 /// Of nothing that was seen, for so many slots.
 pub fn no_lengths(alloc: Global, slots: u32) -> Result<Vec<Option<usize>>, NoMemory>
-    ensures { IfOk result (λ v. AreLengths [] v.items) }
+    ensures lengths { IfOk result (λ v. AreLengths [] v.items) }
+    ensures count { IfOk result (λ v. length v.items ≡ slots) }
 {
     let lengths: Vec<Option<usize>> = vec![in alloc; None; slots as usize]?;
     Ok(lengths)
@@ -30,7 +32,7 @@ fn length_of(lengths: &Vec<Option<usize>>, slot: u32) -> Option<usize>
 }
 
 fn is_same(one: Option<usize>, other: Option<usize>) -> bool
-    ensures { result ≡ true → AreAlike one other }
+    ensures { result ≡ is_alike one other }
 {
     match one {
         Some(one) => match other {
@@ -42,16 +44,11 @@ fn is_same(one: Option<usize>, other: Option<usize>) -> bool
 }
 
 /// Whether of each live node there is a length in both, and the same.
-fn are_same(
-    seat: &ChangeSeat,
-    first: &Vec<Option<usize>>,
-    lengths: &Vec<Option<usize>>,
-    slots: u32,
-) -> bool
-    ensures { result ≡ true → (n : ℕ) → n < slots → is_live (config_of (record_of seat.now)) n ≡ true
-        → AreAlike (length_at first.now.items n) (length_at lengths.now.items n) }
+fn are_same(seat: &ChangeSeat, first: &Vec<Option<usize>>, lengths: &Vec<Option<usize>>) -> bool
+    ensures { result ≡ list_all (λ n. is_alike (length_at first.now.items n) (length_at lengths.now.items n))
+        (live_nodes (config_of (record_of seat.now))) }
 {
-    for slot in 0..slots {
+    for slot in 0..seat.made().nodes {
         if seat.is_live(slot) && !is_same(length_of(first, slot), length_of(lengths, slot)) {
             return false;
         }
@@ -64,14 +61,12 @@ pub fn is_as_before(
     seat: &ChangeSeat,
     last: &Option<Vec<Option<usize>>>,
     lengths: &Vec<Option<usize>>,
-    slots: u32,
 ) -> bool
-    ensures { result ≡ true → (first : List (Option ℕ)) × (option_map (λ v. v.items) last.now ≡ Some first)
-        × ((n : ℕ) → n < slots → is_live (config_of (record_of seat.now)) n ≡ true
-        → AreAlike (length_at first n) (length_at lengths.now.items n)) }
+    ensures { result ≡ is_as_last (config_of (record_of seat.now)) (option_map (λ v. v.items) last.now)
+        (length_at lengths.now.items) }
 {
     match last {
-        Some(first) => are_same(seat, first, lengths, slots),
+        Some(first) => are_same(seat, first, lengths),
         None => false,
     }
 }

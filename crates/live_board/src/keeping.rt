@@ -1,6 +1,6 @@
 //! What a board keeps: removed nodes, by slot, and memory for nodes to be made and their pasts.
 
-ghost use Rattle.std.specs.Prelude.{◌≡◌, ℕ, ◌+◌, ◌<◌, ◌≤◌, Some, true, IfOk, IfSome, OnOk, length, slice_set};
+ghost use Rattle.std.specs.Prelude.{◌≡◌, ℕ, ◌+◌, ◌<◌, ◌≤◌, Some, true, IfOk, IfSome, OnOk, is_some, length, slice_set};
 ghost use Rattle.config_graph.specs.declared.TheConstants.{MAX_NODES};
 ghost use Rattle.live_board.specs.Keeping.{AreKept, HaveRoom, is_stored, stored, without};
 ghost use Rattle.live_hall.specs.Houses.{FitsCell};
@@ -65,6 +65,7 @@ pub fn put_away<J: Named, R: Wait>(
 fn taken_out<J: Named>(kept: &mut Vec<Option<BoxedGuest>>, slot: u32) -> Option<BoxedGuest>
     requires { AreKept J.gates kept.old.items }
     ensures fits { IfSome result (FitsCell J.gates slot) }
+    ensures there { is_some result ≡ is_stored (stored kept.old.items) slot }
     ensures kept { AreKept J.gates kept.new.items }
     ensures stored { stored kept.new.items ≡ without (stored kept.old.items) (Some slot) }
 {
@@ -76,7 +77,7 @@ fn taken_out<J: Named>(kept: &mut Vec<Option<BoxedGuest>>, slot: u32) -> Option<
     }
 }
 
-/// The removed node of a slot: from its place, or else from the hall.
+/// The node of a slot: from its place where it lies there, and only else from the hall.
 pub fn take_back<J: Named, R: Wait>(
     rt: &R,
     kept: &mut Vec<Option<BoxedGuest>>,
@@ -88,6 +89,7 @@ pub fn take_back<J: Named, R: Wait>(
     ensures fits { FitsCell J.gates slot result }
     ensures kept { AreKept J.gates kept.new.items }
     ensures stored { stored kept.new.items ≡ without (stored kept.old.items) (Some slot) }
+    ensures door { is_stored (stored kept.old.items) slot ≡ true → door.new ≡ door.old }
 {
     match taken_out::<J>(kept, slot) {
         Some(guest) => guest,

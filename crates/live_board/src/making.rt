@@ -1,8 +1,8 @@
 //! Nodes are made at the gates.
 
-ghost use Rattle.std.specs.Prelude.{◌≡◌, ℕ, ◌<◌, ◌≤◌, None, Option, Some, length};
+ghost use Rattle.std.specs.Prelude.{◌≡◌, ℕ, ◌<◌, ◌≤◌, MatchOption, None, Option, Some, length, true};
 ghost use Rattle.live_board.specs.Behind.{IsShallow};
-ghost use Rattle.live_board.specs.Keeping.{AreKept, HaveRoom, stored, without};
+ghost use Rattle.live_board.specs.Keeping.{AreKept, HaveRoom, is_stored, stored, without};
 ghost use Rattle.live_board.specs.Making.{Made};
 ghost use Rattle.live_hall.specs.Houses.{FitsCell};
 ghost use Rattle.quiesce_core.specs.Legal.{CanMake};
@@ -88,6 +88,8 @@ pub fn make_guest<J: Named, R: Wait>(
         × (sources ≤ length (config_of (record_of seat.old)).slots) }
     ensures kept { AreKept J.gates kept.new.items }
     ensures stored { stored kept.new.items ≡ without (stored kept.old.items) from }
+    ensures door { MatchOption from (door.new ≡ door.old)
+        (λ k. is_stored (stored kept.old.items) k ≡ true → door.new ≡ door.old) }
     ensures room { (lines : ℕ) → HaveRoom blanks.old.items seat.old.spare lines
         → HaveRoom blanks.new.items seat.new.spare lines }
     ensures made { Made gates.now seat.old seat.new node.now from result }

@@ -2,6 +2,7 @@
 
 ghost use Rattle.std.specs.Prelude.{◌≡◌, IfOk, OnErr, option_map};
 ghost use Rattle.live_board.specs.Scanning.{IsScan};
+ghost use Rattle.live_board.specs.Turning.{ways};
 ghost use Rattle.txn_gate.specs.Seats.{IsChangeSeatOf, collected_in, record_of, table_of_change};
 
 use crate::comparing::{is_as_before, no_lengths};
@@ -44,7 +45,7 @@ pub fn scan<J: Named, R: Wait, T: Turnstile>(
     ensures nodes { collected_in seat.new ≡ collected_in seat.old }
     ensures spare { seat.new.spare ≡ seat.old.spare }
     ensures ok { IfOk result (λ s. IsScan ⟦<AnyNode as Component>⟧.state J.gates (record_of seat.old)
-        (record_of seat.new) door.old door.new (option_map (λ v. v.items) last.now)
+        (record_of seat.new) (ways door.old hand.old) (ways door.new hand.new) (option_map (λ v. v.items) last.now)
         (option_map (λ v. v.items) s.lengths) begins s.scan) }
     ensures err { OnErr result (record_of seat.new ≡ record_of seat.old) }
 {
@@ -55,7 +56,7 @@ pub fn scan<J: Named, R: Wait, T: Turnstile>(
     gates.mark(seat, begins, moved);
     let seen = see_nodes(gates, seat, door, &mut lengths, made.nodes);
     let ports = look_at_ports(gates, seat, made.ports);
-    let same = is_as_before(seat, last, &lengths, made.nodes);
+    let same = is_as_before(seat, last, &lengths);
     let scan = Scan {
         moved,
         done: seen & ports.idle & same,

@@ -50,6 +50,13 @@ pub fn lines_share_no_node()
         → list_any (is_in_slot n) (other ++ final ∷ []) ≡ true → last.slot ≡ final.slot }
 {}
 
+/// Who took over from a live node there is none, so in each line in which a live node stands it is the last.
+pub fn live_nodes_end_their_lines()
+    ensures ends { (r : List Entry) (k : Kind) (past : List LineSight) (last : LineSight) (n : ℕ)
+        → IsRecord r → IsMadeLine (config_of r) k None (past ++ last ∷ [])
+        → list_any (is_in_slot n) (past ++ last ∷ []) ≡ true → is_live (config_of r) n ≡ true → last.slot ≡ n }
+{}
+
 /// So among the sights of whole lines, one of each live node, the first sight of a node is that of its own line.
 pub fn first_sights_are_of_own_lines()
     ensures first { (r : List Entry) (lines : List WholeLine) → IsRecord r → AreOfLiveNodes (config_of r) lines

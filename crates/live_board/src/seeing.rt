@@ -12,7 +12,10 @@ ghost use Rattle.txn_gate.specs.Seats.{IsChangeSeatOf, record_of};
 ghost use Rattle.txn_records.specs.Entries.{config_of};
 ghost use Rattle.txn_records.specs.Records.{IsRecord};
 
-use crate::{done_nodes_are_seen_as_done, lines_share_no_node, seats_tell_of_their_line};
+use crate::{
+    done_nodes_are_seen_as_done, lines_share_no_node, live_nodes_end_their_lines,
+    seats_tell_of_their_line,
+};
 use component_trait::Component;
 use live_hall::{BoxedGuest, Door, Guest, Named};
 use node_host::Past;
@@ -126,6 +129,7 @@ pub fn see_nodes<J: Named, R: Wait>(
         (record_of seat.old) (record_of seat.new) lengths.new.items door.old door.new slots result }
 {
     lines_share_no_node();
+    live_nodes_end_their_lines();
     let mut done = true;
     for slot in 0..slots {
         if seat.is_live(slot) {

@@ -2,7 +2,7 @@
 
 ghost use Rattle.std.specs.Prelude.{◌≡◌, ◌≤◌, ◌<◌, IfOk};
 ghost use Rattle.config_graph.specs.declared.TheConstants.{MAX_NODES};
-ghost use Rattle.live_board.specs.Turning.{GaveTurn, GaveTurns};
+ghost use Rattle.live_board.specs.Turning.{GaveTurn, GaveTurns, ways};
 ghost use Rattle.live_board.specs.Turning as turning;
 ghost use Rattle.txn_gate.specs.Seats.{record_of};
 ghost use Rattle.txn_records.specs.Entries.{config_of};
@@ -33,7 +33,7 @@ fn give_turn<J: Named, R: Wait, T: Turnstile>(
 ) -> Result<bool, NoMemory>
     requires named { J.gates ≡ gates.now.words.shared.table_id }
     requires slot { slot < MAX_NODES }
-    ensures { IfOk result (GaveTurn J.gates begins slot door.old door.new) }
+    ensures { IfOk result (GaveTurn J.gates begins slot (ways door.old hand.old) (ways door.new hand.new)) }
 {
     let Some(mut guest) = door.take(slot) else {
         return Ok(false);
@@ -56,7 +56,8 @@ pub fn give_turns<J: Named, R: Wait, T: Turnstile>(
 ) -> Result<bool, NoMemory>
     requires named { J.gates ≡ gates.now.words.shared.table_id }
     requires few { slots ≤ MAX_NODES }
-    ensures { IfOk result (GaveTurns J.gates (config_of (record_of seat.now)) begins door.old slots door.new) }
+    ensures { IfOk result (GaveTurns J.gates (config_of (record_of seat.now)) begins (ways door.old hand.old) slots
+        (ways door.new hand.new)) }
 {
     let mut moved = false;
     for slot in 0..slots {

@@ -7,7 +7,7 @@ use Rattle.txn_spec.specs.declared.view.ChangeView.{ChangeView}
 use Rattle.txn_records.specs.Entries.{config_of}
 use Rattle.txn_records.specs.declared.entry.Entry.{Entry}
 use Rattle.txn_records.specs.declared.entry.Entry.TheVariants.{Scanned}
-use Rattle.live_board.specs.Turning.{GaveTurns}
+use Rattle.live_board.specs.Turning.{GaveTurns, ways}
 use Rattle.state_handover.specs.contracts.any_node.AnyNodeComponent.TheImpl.{ghosts}
 use Rattle.live_board.proofs.ScanLaws.{config_seen, few_now, scanned}
 use Rattle.live_board.proofs.scanning.scan.Goals as goal
@@ -40,8 +40,9 @@ returns-clause-ok g c =
       | else-ports w ↦ ap (option_map (λ (v : Vec (Option ℕ) Global). v.items)) w.lengths-is ∙ sym (ap (λ (b : Bool). cond b (Some lengths) None) w.if-ports.false)
     ] in
     let s : Scan = record { moved = c.in_ok-moved.moved; done = (seen && ports.idle) && c.is_as_before-same.result; ended = ports.ended } in
-    scanned ghosts.state g.J.Named.gates r (record_of c.mark.new.seat) (record_of c.see_nodes-seen.new.seat) (record_of c.look_at_ports-ports.new.seat) c.args.door.now c.give_turns.new.door c.see_nodes-seen.new.door c.args.begins s marked lengths c.made-made.result.nodes seen
-    (subst (λ (q : List Entry). GaveTurns g.J.Named.gates (config_of q) c.args.begins c.args.door.now c.made-made.result.nodes c.give_turns.new.door c.in_ok-moved.moved) learnt c.in_ok-moved.ensures) c.see_nodes-seen.ensures.seen
+    scanned ghosts.state g.J.Named.gates r (record_of c.mark.new.seat) (record_of c.see_nodes-seen.new.seat) (record_of c.look_at_ports-ports.new.seat) (ways c.args.door.now c.args.hand.now) (ways c.give_turns.new.door c.give_turns.new.hand) (ways c.see_nodes-seen.new.door c.give_turns.new.hand) c.args.begins s marked lengths c.made-made.result.nodes seen
+    (subst (λ (q : List Entry). GaveTurns g.J.Named.gates (config_of q) c.args.begins (ways c.args.door.now c.args.hand.now) c.made-made.result.nodes (ways c.give_turns.new.door c.give_turns.new.hand) c.in_ok-moved.moved) learnt c.in_ok-moved.ensures) c.see_nodes-seen.ensures.seen
+    refl (c.see_nodes-seen.ensures.count ∙ c.in_ok-lengths.ensures.count)
     c.made-made.result.ports ports.idle ports.ended c.look_at_ports-ports.ensures.seen
     (c.made-made.ensures.nodes ∙ ap (λ (q : List Entry). length (config_of q).slots) learnt) (c.made-made.ensures.ports ∙ ap (λ (q : List Entry). length (config_of q).gates) learnt)
     c.look_at_ports-ports.ensures.seat.known _ _ c.is_as_before-same.result refl refl c.is_as_before-same.ensures keeps

@@ -16,7 +16,7 @@ returns-then-done-clause-seen c =
     let x = g.node in
     saw (λ p. node_in p.seat) (λ p. record { slot = p.slot; first = p.first_port; arg = p.arg; log = p.log.items }) (λ p. p.told _ refl) x.past.items (node_in x.seat) _ _
     (config_of (record_of c.args.seat.now)) (record_of c.args.seat.now) (record_of c.sight.new.seat) c.args.lengths.now.items c.note_line.new.lengths.items c.done-done.result
-    (x.hosted.tells _ refl) g.line x.hosted.folds c.sight.ensures.sighted.made (sym (c.done-done.ensures ∙ ap (λ y. is_done (ghosts.state y.node.inner)) c.guest-shown.ensures) ∙ c.if-done.true)
+    c.if-done.true (x.hosted.tells _ refl) g.line x.hosted.folds c.sight.ensures.sighted.made (sym (c.done-done.ensures ∙ ap (λ y. is_done (ghosts.state y.node.inner)) c.guest-shown.ensures) ∙ c.if-done.true)
     (λ line seats. c.seats_tell_of_their_line.ensures.made (config_of (record_of c.args.seat.now)) _ line seats)
     (λ past. c.done_nodes_are_seen_as_done.ensures.done (record_of c.args.seat.now) _ past _ _ c.requires.known)
     (ap (λ (k : ChangeView). k.entries) c.sight.ensures.sighted.change)

@@ -41,7 +41,8 @@ loop-slot-preserved g c =
             seen = saw_as ghosts.state gates (config_of r) r (record_of w.see_node-seen.new.seat) (record_of c.if-is_live.seat) w.see_node-seen.new.lengths.items c.if-is_live.lengths.items c.args.door.now w.see_node-seen.new.door c.if-is_live.door (n + 1) (c.loop-slot.done && w.see_node-seen.result) c.if-is_live.done
                 (ap record_of w.seat-is) (ap (λ v. v.items) w.lengths-is) w.door-is w.done-is
                 (saw_one ghosts.state gates (config_of r) r (record_of c.loop-slot.seat) (record_of w.see_node-seen.new.seat) c.loop-slot.lengths.items w.see_node-seen.new.lengths.items c.args.door.now c.loop-slot.door w.see_node-seen.new.door n c.loop-slot.done i.seen
-                (λ k j past other last final m. c.lines_share_no_node.ensures.apart r k j past other last final m c.requires.known) live w.see_node-seen.result
+                (λ k j past other last final m. c.lines_share_no_node.ensures.apart r k j past other last final m c.requires.known)
+                (λ k past last m. c.live_nodes_end_their_lines.ensures.ends r k past last m c.requires.known) live w.see_node-seen.result
                 (subst (λ d. SeesNode d (record_of c.loop-slot.seat) (record_of w.see_node-seen.new.seat) c.loop-slot.lengths.items w.see_node-seen.new.lengths.items n w.see_node-seen.result) config e.seen) e.looked);
           }
       | else-is_live w ↦
