@@ -1,6 +1,6 @@
 //! A run that is watched.
 
-ghost use Rattle.std.specs.Prelude.{◌≡◌, ◌≤◌, ◌∷◌, ◌++◌, [], length, All, IfOk, OnOk, List as Items};
+ghost use Rattle.std.specs.Prelude.{◌≡◌, ◌≤◌, ◌∷◌, ◌++◌, [], length, is_some, nat_lt, All, IfOk, OnOk, List as Items};
 ghost use Rattle.config_graph.specs.Graph.{Graph as Shape};
 ghost use Rattle.watch_lines.specs.Sightings.{AreSightingsOf};
 ghost use Rattle.watch_view.specs.Hearing.{ArePublished, HasHeard};
@@ -67,14 +67,20 @@ impl<R: Threads + Wait + Copy> Drop for Watch<R> {
 impl<R: Threads + Wait + Copy> Listener for Watch<R> {
     ghost heard = { λ w graphs. HasHeard w graphs };
 
-    fn committed(&mut self, graph: &Graph) -> Result<(), NoMemory> {
+    fn committed(&mut self, graph: &Graph) -> Result<(), NoMemory>
+        requires { (graphs : Items Shape) × HasHeard self.old graphs }
+        ensures heard { OnOk result ((graphs : Items Shape)
+            → HasHeard self.old graphs → HasHeard self.new (graphs ++ graph.now ∷ [])) }
+        ensures published { is_some self.new.published ≡ is_some self.old.published }
+    {
         publish(&mut self.writer, graph)?;
         self.counts.add(graph)
     }
 }
 
 impl<R: Threads + Wait + Copy + Send> Watch<R> {
-    /// Begins with no commit. Each observer looks in a thread of its own, until this is ended or dropped.
+    /// Begins with no commit. Where there are observers each commit is published. Each of them looks in a thread of its own,
+    /// until this is ended or dropped.
     pub fn begin<'s, E>(
         scope: &Scope<'s, E>,
         rt: R,
@@ -84,7 +90,8 @@ impl<R: Threads + Wait + Copy + Send> Watch<R> {
     where
         R: 's,
         requires { observers.now.count ≤ 4 }
-        ensures { IfOk result (λ w. HasHeard w []) }
+        ensures heard { IfOk result (λ w. HasHeard w []) }
+        ensures published { IfOk result (λ w. is_some w.published ≡ nat_lt 0 observers.now.count) }
     {
         let counts = Counts::new(alloc)?;
         if observers.count == 0 {
@@ -129,8 +136,9 @@ fn publish<R: Wait + Copy>(
     graph: &Graph,
 ) -> Result<(), NoMemory>
     requires { (graphs : Items Shape) × ArePublished graphs writer.old }
-    ensures { OnOk result ((graphs : Items Shape)
+    ensures graphs { OnOk result ((graphs : Items Shape)
         → ArePublished graphs writer.old → ArePublished (graphs ++ graph.now ∷ []) writer.new) }
+    ensures kept { is_some writer.new ≡ is_some writer.old }
 {
     if let Some(writer) = writer {
         writer.commit(graph)?;
