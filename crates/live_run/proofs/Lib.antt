@@ -1,1 +1,2 @@
 mod LastLook
+mod SeenLines

@@ -5,8 +5,10 @@
 mod due;
 mod ending;
 mod running;
+mod telling;
 mod working;
 
 pub use live_board::Turnstile;
 pub use running::{Ran, run_on_threads};
+pub use telling::lines_tell_what_was_seen;
 pub use watch_view::Observers;
