@@ -18,7 +18,7 @@ use Rattle.txn_records.specs.Entries.{config_of}
 use Rattle.txn_records.specs.Records.{IsRecord, events}
 use Rattle.txn_records.specs.declared.entry.Entry.{Entry}
 use Rattle.txn_records.specs.declared.entry.Entry.TheVariants.{Scanned}
-use Rattle.live_board.specs.Lengths.{AreLengths, EndsIdle, IsLast, is_alike, is_as_last, length_at, length_in}
+use Rattle.live_board.specs.Lengths.{AreLengths, IsLast, is_alike, is_as_last, length_at, length_in}
 use Rattle.live_board.specs.Looking.{SawPorts}
 use Rattle.live_board.specs.Scanning.{IsScan}
 use Rattle.live_board.specs.Seeing.{SawNodes}

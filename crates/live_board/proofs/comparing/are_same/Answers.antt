@@ -1,4 +1,4 @@
-use Rattle.std.proofs.Common.{◌∙◌, ◌<◌, Option, arith, length, sym, ℕ}
+use Rattle.std.proofs.Common.{◌∙◌, ◌<◌, arith, length, sym}
 use Rattle.live_board.specs.Lengths.{is_alike, length_at}
 use Rattle.txn_gate.specs.Seats.{record_of}
 use Rattle.txn_records.specs.Entries.{config_of}
