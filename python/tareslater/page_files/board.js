@@ -3,7 +3,8 @@
 
 const RETRY = 1000; // milliseconds until it tries again
 const LATE = 3000; // so many without news are told
-const ALONG = [0.5, 0.4, 0.6, 0.3, 0.7, 0.2, 0.8, 0.1, 0.9]; // where along a link its number may stand, the best first
+const ALONG = [50, 45, 55, 40, 60, 35, 65, 30, 70, 25, 75, 20, 80, 15, 85, 10, 90].map((part) => part / 100);
+const ROOM = { width: 30, height: 15 }; // of the number of a link
 const PHASES = {
   "making ready": "New components are opened and the manager is asked. Nothing is held yet.",
   waiting: "Gates are closed. What is under way there ends, and nothing more begins.",
@@ -35,9 +36,13 @@ function movesOf(text) {
   }));
 }
 
-// The room of a number at a point of a link.
-function rateBox({ x, y }) {
-  return { x: x - 15, y: y - 17, width: 30, height: 16 };
+// Where the number of a link may stand: above it or below, the best first.
+function roomsAlong(path) {
+  const length = path.getTotalLength();
+  return ALONG.flatMap((part) => {
+    const { x, y } = path.getPointAtLength(part * length);
+    return [y - ROOM.height - 1, y + 2].map((top) => ({ x: x - ROOM.width / 2, y: top, ...ROOM }));
+  });
 }
 
 function meets(one, other) {
@@ -61,12 +66,12 @@ class Live extends Drawing {
 
   draw() {
     super.draw();
-    const taken = this.order.filter((box) => !box.isFrame || !box.isOpen);
+    const boxes = this.order.filter((box) => !box.isFrame || !box.isOpen), rooms = [];
     for (const edge of this.edges) {
-      const length = edge.path.getTotalLength(), points = ALONG.map((part) => edge.path.getPointAtLength(part * length));
-      const { x, y } = points.find((point) => !taken.some((box) => meets(box, rateBox(point)))) || points[0];
-      edge.rate = label("rate", x, y - 5, "");
-      taken.push(rateBox({ x, y }));
+      const found = roomsAlong(edge.path).filter((room) => !boxes.some((box) => meets(box, room)));
+      const room = found.find((one) => !rooms.some((other) => meets(one, other))) || found[0] || roomsAlong(edge.path)[0];
+      edge.rate = label("rate", room.x + ROOM.width / 2, room.y + 12, "");
+      rooms.push(room);
       this.layer.append(edge.rate);
     }
   }
