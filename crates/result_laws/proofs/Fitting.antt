@@ -6,7 +6,7 @@ use Rattle.std.specs.List.{AllByRecursion, count_by}
 use Rattle.std.proofs.lemmas.List.Elements.{All-contains}
 use Rattle.std.proofs.lemmas.Option.{none-some, same_Some}
 use Rattle.base.specs.Each.{Each}
-use Rattle.base.proofs.ContainsLaws.{Contains-filter, Contains-from_filter_map, Contains-here, Contains-there}
+use Rattle.base.proofs.ContainsLaws.{Contains-filter, Contains-from_filter_map}
 use Rattle.base.proofs.EachLaws.{each_at, each_weaker}
 use Rattle.base.proofs.MapLaws.{count_by-append}
 use Rattle.base.proofs.AllLaws.{all_contained}

@@ -71,3 +71,11 @@ pub mod Bounds
 pub mod Fitting
 pub mod Rolling
 pub mod PartTelling
+pub mod Mirroring
+pub mod MirrorMoves
+pub mod MirrorTurns
+pub mod MirrorRounds
+pub mod MirrorChanges
+pub mod OnceChanges
+pub mod OnceParts
+pub mod OnceRolls

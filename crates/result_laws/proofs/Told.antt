@@ -1,5 +1,5 @@
 -- What the last states of a report tell of a measure is what the nodes of its run have.
-use Rattle.std.proofs.Common.{◌≡◌, ◌∙◌, ℕ, ◌+◌, Bool, true, false, cond, List, [], ◌∷◌, length, map, filter, Option, Some, None, refl, sym, ap, subst, arith, ⊎_elim}
+use Rattle.std.proofs.Common.{◌≡◌, ◌∙◌, ℕ, ◌+◌, Bool, true, false, cond, List, [], ◌∷◌, length, filter, Option, Some, None, refl, sym, ap, subst, arith, ⊎_elim}
 use Rattle.std.proofs.lemmas.Map.Keys.{any_passes_from_place}
 use Rattle.std.specs.Prelude.{◌==◌, ◌||◌, Contains, filter_map, is_some, option_map, slice_get, sum_by, unwrap_or}
 use Rattle.std.specs.List.{cons_option, list_any, range_with_len}
@@ -7,8 +7,7 @@ use Rattle.std.specs.Option.{option_map_or}
 use Rattle.std.proofs.lemmas.Bool.{and_parts, both_ways, cases_Bool, eq-eqb, eqb-true, false_from_ne_true, ne_eqb}
 use Rattle.std.proofs.lemmas.List.Elements.{All-contains}
 use Rattle.std.proofs.lemmas.List.Folds.{list_any-append}
-use Rattle.std.proofs.lemmas.List.Sums.{sum_by-cons}
-use Rattle.base.proofs.ContainsLaws.{Contains-filter_map, Contains-here, Contains-there}
+use Rattle.base.proofs.ContainsLaws.{Contains-filter_map}
 use Rattle.base.proofs.FindLaws.{find_passes, is_some-find_from}
 use Rattle.base.proofs.OptionLaws.{Some-from_is_some}
 use Rattle.base.proofs.SumLaws.{sum_longer, sum_each, sum_mapped}

@@ -1,6 +1,6 @@
-//! What a roll keeps.
+//! What a roll keeps, and that it does no worse than the change at once.
 
-ghost use Rattle.std.specs.Prelude.{ℕ, ℤ, List, Option};
+ghost use Rattle.std.specs.Prelude.{◌≡◌, ℕ, ℤ, List, None, Option};
 ghost use Rattle.config_graph.specs.Graph.{Graph, IsGraph};
 ghost use Rattle.change_plan.specs.declared.plan_data.Move.{Move};
 ghost use Rattle.change_spec.specs.Serial.{world_after};
@@ -11,10 +11,11 @@ ghost use Rattle.change_parts.specs.Rolls.{IsRoll, roll_statements};
 ghost use Rattle.change_parts.specs.declared.part.Part.{Part};
 ghost use Rattle.result_laws.specs.Describing.{LinksAre};
 ghost use Rattle.result_laws.specs.Flows.{AreApart, same_side};
-ghost use Rattle.result_laws.specs.Rolling.{ItemsBalance};
+ghost use Rattle.result_laws.specs.Rolling.{ItemsBalance, at_once};
 
 use crate::items_are_kept_at_each_place;
 use change_parts::no_link_is_lost;
+use change_plan_laws::{commits_can_not_fail, commits_leave_the_new_graph, each_plan_may_commit};
 use change_round_laws::{a_sound_script_has_a_report, reports_of_rounds_are_lawful};
 
 /// Where a roll ends, given up or not, no item is lost: buffers and sinks hold what sources have sent by then, with what is
@@ -32,4 +33,19 @@ pub fn rolls_keep_items()
     reports_of_rounds_are_lawful();
     items_are_kept_at_each_place();
     no_link_is_lost();
+}
+
+/// Where the change at once is committed within so many rounds, behind the same start and run, each part is committed
+/// within as many: the roll gives none up. What a part waits for the whole waits for too, or an earlier part made it and
+/// it never began anything; and the nodes that no part has touched go on in the same way.
+pub fn rolls_commit_what_commits_at_once()
+    ensures all { (name : List ℕ) (args : List ℤ) (old : Graph) (k : ℕ) (new_name : List ℕ) (new_args : List ℤ) (within : ℕ)
+        (new : Graph) (moves : List Move) (ps : List Part) (given_up : Option ℕ) → IsGraph new → AreParts old new moves ps
+        → AreSound (roll_statements name args old k new_name new_args within ps)
+        → IsRoll (at_once name args old k new_name new_args within new moves) None
+        → IsRoll (roll_statements name args old k new_name new_args within ps) given_up → given_up ≡ None }
+{
+    each_plan_may_commit();
+    commits_can_not_fail();
+    commits_leave_the_new_graph();
 }
