@@ -79,3 +79,4 @@ pub mod MirrorChanges
 pub mod OnceChanges
 pub mod OnceParts
 pub mod OnceRolls
+pub mod WorkedPlaces

@@ -1,15 +1,16 @@
 -- The text of parts is cut again where a line begins with `part`, or where `done` or `pending` ends it: no line of a plan
 -- begins so.
-use Rattle.std.proofs.Common.{◌≡◌, ◌∙◌, ℕ, zero, suc, ◌+◌, ◌/◌, ◌%◌, ◌<◌, Bool, true, false, cond, not, List, [], ◌∷◌, ◌++◌, append_assoc, Option, Some, None, refl, sym, ap, arith}
-use Rattle.std.specs.Prelude.{◌==◌, ◌&&◌, ◌||◌, codes, decimal, flat_map, slice_get}
+use Rattle.std.proofs.Common.{◌≡◌, ◌∙◌, ℕ, zero, suc, ◌+◌, ◌/◌, ◌%◌, ◌^◌, ◌<◌, Bool, true, false, cond, not, List, [], ◌∷◌, ◌++◌, append_assoc, Option, Some, None, refl, sym, ap, arith}
+use Rattle.std.specs.Prelude.{◌==◌, ◌&&◌, ◌||◌, IfSome, codes, decimal, flat_map, slice_get}
 use Rattle.std.specs.Fmt.{digit_glyph, digits, digits_onto}
 use Rattle.std.specs.List.{list_all}
 use Rattle.std.specs.Option.{option_map_or}
-use Rattle.std.proofs.lemmas.Bool.{and_parts, both_ways, cond-true, lt-ltb, ne_eqb, not-true}
+use Rattle.std.proofs.lemmas.Bool.{and_parts, both_ways, cond-true, eq-eqb, lt-ltb, ne_eqb, not-true}
 use Rattle.std.proofs.lemmas.List.{append-nil, append_cancel_left}
-use Rattle.std.proofs.lemmas.List.Elements.{All-contains, All-head, All-tail}
+use Rattle.std.proofs.lemmas.List.Elements.{All-cons, All-contains, All-head, All-nil, All-tail}
 use Rattle.std.proofs.lemmas.List.Folds.{list_all-append}
 use Rattle.std.proofs.Math.Nat.{mod-lt}
+use Rattle.std.proofs.lemmas.Fmt.{decimal_injective}
 use Rattle.base.proofs.ContainsLaws.{Contains-at}
 use Rattle.config_graph.specs.Graph.{Graph}
 use Rattle.config_graph.specs.GraphText.{IsOneWord, end_text, graph_text, kind_text, provide_name, require_name}
@@ -19,7 +20,7 @@ use Rattle.config_graph.specs.declared.kind.Kind.TheVariants.{Philosopher, Place
 use Rattle.config_graph.specs.declared.node.Link.{Link}
 use Rattle.config_graph.specs.declared.node.Node.{Node}
 use Rattle.config_graph.specs.declared.node.Port.{Port}
-use Rattle.config_graph.proofs.TextLaws.{Free, provide_name_line, require_name_line}
+use Rattle.config_graph.proofs.TextLaws.{Free, provide_name_line, require_name_line, split_first}
 use Rattle.change_plan.specs.PlanText.{at_node, create_line, link_line, plan_text, port_text, provision_text, step_line, unlink_line}
 use Rattle.change_plan.specs.declared.plan_data.Plan.{Plan}
 use Rattle.change_parts.specs.declared.part.Part.{Part}
@@ -217,8 +218,8 @@ part_split : (number : ℕ) (t rest ys : List ℕ) → (part_line number ++ t ++
 part_split number t rest ys = append_assoc (part_line number ++ t) rest ys ∙ append_assoc (part_line number) t (rest ++ ys)
 
 same_plans : (number : ℕ) (a b : Graph) (ps qs : List Part) (xs ys : List ℕ) → HaveWordPaths a ps → HaveWordPaths b qs → EndsParts xs → EndsParts ys
-    → parts_text_from number a ps ++ xs ≡ parts_text_from number b qs ++ ys → plan_texts a ps ≡ plan_texts b qs
-same_plans number a b [] [] xs ys u v end_x end_y same = refl
+    → parts_text_from number a ps ++ xs ≡ parts_text_from number b qs ++ ys → (plan_texts a ps ≡ plan_texts b qs) × (xs ≡ ys)
+same_plans number a b [] [] xs ys u v end_x end_y same = (refl, same)
 same_plans number a b [] (q ∷ qs) xs ys u v end_x end_y same =
     absurd (end_x.no_part number (plan_text b q.next q.plan ++ (parts_text_from (suc number) q.next qs ++ ys)) (same ∙ part_split number (plan_text b q.next q.plan) (parts_text_from (suc number) q.next qs) ys))
 same_plans number a b (p ∷ ps) [] xs ys u v end_x end_y same =
@@ -236,7 +237,7 @@ same_plans number a b (p ∷ ps) (q ∷ qs) xs ys u v end_x end_y same =
     ∙ ap (front true) behind
     ∙ front_is true two_ right (plan_plain b q.next q.plan v.0 (words_of q.next qs v.1)) (parts_halt (suc number) q.next qs ys end_y.stops_there) in
     let later = same_plans (suc number) p.next q.next ps qs xs ys u.1 v.1 end_x end_y (append_cancel_left two_ left right (ap (λ t. t ++ left) (sym first) ∙ behind)) in
-    λ i. first i ∷ later i
+    (λ i. first i ∷ later.0 i, later.1)
 
 nothing_ends : EndsParts []
 unfolding halts
@@ -253,9 +254,36 @@ end_ends None left = record { stops_there = refl; no_part = λ number more_ h. a
 end_ends (Some n) left = record { stops_there = refl; no_part = λ number more_ h. absurd (omega (arith, ap second h)) }
 
 pub part_texts_tell : (a b : Graph) (ps qs : List Part) → HaveWordPaths a ps → HaveWordPaths b qs → parts_text_from 1 a ps ≡ parts_text_from 1 b qs → plan_texts a ps ≡ plan_texts b qs
-part_texts_tell a b ps qs u v same = same_plans 1 a b ps qs [] [] u v nothing_ends nothing_ends (append-nil (parts_text_from 1 a ps) ∙ same ∙ sym (append-nil (parts_text_from 1 b qs)))
+part_texts_tell a b ps qs u v same = (same_plans 1 a b ps qs [] [] u v nothing_ends nothing_ends (append-nil (parts_text_from 1 a ps) ∙ same ∙ sym (append-nil (parts_text_from 1 b qs)))).0
 
-pub rolls_tell : (a b : Graph) (ps qs : List Part) (given_up given_up' : Option ℕ) (left left' : Graph) → HaveWordPaths a ps → HaveWordPaths b qs → roll_text a ps given_up left ≡ roll_text b qs given_up' left' → plan_texts a ps ≡ plan_texts b qs
-rolls_tell a b ps qs given_up given_up' left left' u v same =
-    same_plans 1 a b ps qs (end_line given_up ++ graph_text left) (end_line given_up' ++ graph_text left') u v (end_ends given_up left) (end_ends given_up' left')
-    (sym (append_assoc (parts_text_from 1 a ps) (end_line given_up) (graph_text left)) ∙ same ∙ append_assoc (parts_text_from 1 b qs) (end_line given_up') (graph_text left'))
+-- ---- how a roll ended
+
+free_if : (xs : List ℕ) → within_line xs ≡ true → Free 10 xs
+free_if [] h = All-nil (λ b. ¬ (b ≡ 10))
+free_if (x ∷ xs) h =
+    let w = and_parts (not (x == 10)) (within_line xs) h in
+    All-cons (λ b. ¬ (b ≡ 10)) x xs (λ same. both_ways (x == 10) (not-true (x == 10) w.0) (eq-eqb x 10 same)) (free_if xs w.1)
+
+same_end : (o p : Option ℕ) (x y : List ℕ) → IfSome o (λ n. n < 2 ^ 64) → IfSome p (λ n. n < 2 ^ 64) → end_line o ++ x ≡ end_line p ++ y → (o ≡ p) × (x ≡ y)
+unfolding second
+same_end None None x y low low' same = (refl, append_cancel_left (codes "done\n") x y same)
+same_end None (Some n) x y low low' same = absurd (omega (arith, ap second same))
+same_end (Some n) None x y low low' same = absurd (omega (arith, ap second same))
+same_end (Some n) (Some m) x y low low' same =
+    let left : (codes "pending " ++ decimal n ++ codes "\n") ++ x ≡ codes "pending " ++ (decimal n ++ 10 ∷ x) = append_assoc (codes "pending " ++ decimal n) (codes "\n") x ∙ append_assoc (codes "pending ") (decimal n) (10 ∷ x) in
+    let right : (codes "pending " ++ decimal m ++ codes "\n") ++ y ≡ codes "pending " ++ (decimal m ++ 10 ∷ y) = append_assoc (codes "pending " ++ decimal m) (codes "\n") y ∙ append_assoc (codes "pending ") (decimal m) (10 ∷ y) in
+    let behind = append_cancel_left (codes "pending ") (decimal n ++ 10 ∷ x) (decimal m ++ 10 ∷ y) (sym left ∙ same ∙ right) in
+    let parts = split_first 10 (decimal n) (decimal m) x y (free_if (decimal n) (number_within n)) (free_if (decimal m) (number_within m)) behind in
+    (ap Some (decimal_injective n m low low' parts.0), parts.1)
+
+module _ (a b : Graph) (ps qs : List Part) (given_up other : Option ℕ) (left right : Graph) (u : HaveWordPaths a ps) (v : HaveWordPaths b qs) (same : roll_text a ps given_up left ≡ roll_text b qs other right) where
+  told : (plan_texts a ps ≡ plan_texts b qs) × (end_line given_up ++ graph_text left ≡ end_line other ++ graph_text right)
+  told =
+      same_plans 1 a b ps qs (end_line given_up ++ graph_text left) (end_line other ++ graph_text right) u v (end_ends given_up left) (end_ends other right)
+      (sym (append_assoc (parts_text_from 1 a ps) (end_line given_up) (graph_text left)) ∙ same ∙ append_assoc (parts_text_from 1 b qs) (end_line other) (graph_text right))
+
+  pub rolls_tell : plan_texts a ps ≡ plan_texts b qs
+  rolls_tell = told.0
+
+  pub ends_tell : IfSome given_up (λ n. n < 2 ^ 64) → IfSome other (λ n. n < 2 ^ 64) → (given_up ≡ other) × (graph_text left ≡ graph_text right)
+  ends_tell low low' = same_end given_up other (graph_text left) (graph_text right) low low' told.1

@@ -6,11 +6,12 @@ ghost use Rattle.change_spec.specs.Lawful.{Lawful};
 ghost use Rattle.change_spec.specs.Statements.{Statement};
 ghost use Rattle.change_spec.specs.Members.{events};
 ghost use Rattle.config_graph.specs.declared.kind.Kind.TheVariants.{Fork};
-ghost use Rattle.quiesce_core.specs.Runs.{state_after};
+ghost use Rattle.quiesce_core.specs.Runs.{IsRun, state_after};
 ghost use Rattle.quiesce_core.specs.State.{slot, target};
 ghost use Rattle.quiesce_core.specs.declared.event.Event.{Event};
 ghost use Rattle.quiesce_core.specs.declared.state.Slot.{Slot};
 ghost use Rattle.result_laws.specs.Holding.{AreTables, NoneSpent, forks_not_free, forks_serve_places, holds};
+ghost use Rattle.result_laws.specs.WorkedPlaces.{counted, given, taken, with_fork};
 ghost use Rattle.result_laws.specs.WorkedFlows.{mixed, report, with_philosopher_at_fork, with_teller_at_sink};
 ghost use Rattle.result_laws.specs.UnderWay.{of_nodes, spent, stock, under_way};
 ghost use Rattle.result_laws.specs.Flows.{AddsNothing, AreApart, AreFlows, IsOfFlows, KeepsWeight, held, one, only, same_side, sent};
@@ -101,4 +102,15 @@ pub fn flows_are_told_from_others()
     ensures items { (held one (report (3 ∷ [])) ≡ 3) × (sent one (report (3 ∷ [])) ≡ 3) }
     ensures short { (xs : List ℕ) → held one (report xs) ≡ sent one (report xs) → length xs ≡ 1 }
     ensures another { (x : ℕ) → held (only 3) (report (x ∷ [])) ≡ sent (only 3) (report (x ∷ [])) → x ≡ 3 }
+{}
+
+/// And at places of small runs. A place that has heard that its fork was given holds it, by the port that leads there and
+/// no other; before that it doesn't. An item that a sink took in is under way until its source has heard of it.
+pub fn places_are_told_from_others()
+    ensures fork { IsRun with_fork × (holds with_fork 0 ≡ true) }
+    ensures others { (holds given 0 ≡ false) × (holds with_fork 1 ≡ false) }
+    ensures item { IsRun counted × (of_nodes (stock one) taken ≡ 1) × (of_nodes (spent one) taken ≡ 0)
+        × (under_way one taken ≡ 1) }
+    ensures counted { (of_nodes (stock one) counted ≡ 1) × (of_nodes (spent one) counted ≡ 1)
+        × (under_way one counted ≡ 0) }
 {}

@@ -17,7 +17,7 @@ pub use come_laws::{
 };
 pub use flow_laws::{
     flows_are_told_from_others, forks_are_held_once, items_are_kept, items_are_kept_at_each_place,
-    weighed_items_are_kept,
+    places_are_told_from_others, weighed_items_are_kept,
 };
 pub use laws::{
     consistent_reports_keep_what_runs_keep, runs_keep_items_and_forks,
@@ -29,6 +29,6 @@ pub use row_laws::{
 };
 pub use script_laws::scripts_are_told_from_others;
 pub use telling_laws::{
-    checks_of_runs_are_consistent, numbers_of_runs_fit, texts_tell_parts,
+    checks_of_runs_are_consistent, last_states_fit, numbers_of_runs_fit, texts_tell_parts,
     texts_tell_the_reports_of_runs,
 };

@@ -1,10 +1,16 @@
 //! Texts tell reports and parts.
 
-ghost use Rattle.std.specs.Prelude.{◌≡◌, ◌≤◌, ℕ, Bool, List, Ok, Option, Some, length};
+ghost use Rattle.std.specs.Prelude.{◌≡◌, ◌≤◌, ◌<◌, ◌^◌, ℕ, Bool, IfSome, List, Ok, Option, Some, length};
 ghost use Rattle.cfg_io.specs.Shelf.{Files};
+ghost use Rattle.std.specs.List.{AllByRecursion};
+ghost use Rattle.change_spec.specs.Lawful.{Lawful};
+ghost use Rattle.change_spec.specs.Statements.{Statement};
 ghost use Rattle.config_graph.specs.Graph.{Graph};
+ghost use Rattle.config_graph.specs.Sound.{Sound};
 ghost use Rattle.change_parts.specs.declared.part.Part.{Part};
 ghost use Rattle.report_writing.specs.Reports.{report_text};
+ghost use Rattle.report_types.specs.declared.report.NodeLog.{NodeLog};
+ghost use Rattle.report_types.specs.declared.report.Report.{Report};
 ghost use Rattle.report_texts.specs.ReportTexts.{IsReport};
 ghost use Rattle.report_texts.specs.Stages.{reading};
 ghost use Rattle.report_texts.specs.declared.version.Version.TheVariants as versions;
@@ -17,11 +23,22 @@ ghost use Rattle.command_spec.specs.Known.{AsksOf};
 ghost use Rattle.command_spec.specs.Outcomes.{Ends, Judged, NothingRefusesLines, ReadFrom, WasRunBy};
 ghost use Rattle.command_spec.specs.Runs.{Run, Runs};
 ghost use Rattle.command_spec.specs.Schedules.{Schedule};
-ghost use Rattle.command_spec.specs.Telling.{NumbersFit, StillHolds};
-ghost use Rattle.result_laws.specs.PartTelling.{HaveWordPaths, plan_texts};
+ghost use Rattle.command_spec.specs.Telling.{CountFits, NumbersFit, StateFits, StillHolds};
+ghost use Rattle.result_laws.specs.PartTelling.{HasWordPaths, HaveWordPaths, plan_texts};
 
 use change_spec::a_moved_state_is_the_last_one;
 use command_spec::{a_check_of_what_was_run_is_consistent, runs_tell_their_reports};
+
+/// Each last state of a lawful report is of numbers below 2^64: a source's count, a buffer's items, an account's amount. So
+/// all of its numbers are, where those of its `run` lines are. No rule bounds these, and a text's reader does.
+pub fn last_states_fit()
+    ensures states { (statements : List Statement) (report : Report) → Lawful statements report
+        → AllByRecursion (λ (log : NodeLog). StateFits log.last) report.logs }
+    ensures all { (statements : List Statement) (report : Report) → Lawful statements report
+        → AllByRecursion CountFits report.history → NumbersFit report }
+{
+    a_moved_state_is_the_last_one();
+}
 
 /// The numbers that no rule of a report bounds are below 2^64 in the report of each run. A port's serials end at
 /// 16,777,215, and a run has 4,096 ports at most, so no more transactions end; a count is one more at most. What an account
@@ -66,11 +83,21 @@ pub fn checks_of_runs_are_consistent()
 }
 
 /// The text of parts, and that of a roll, tells the text of each part's plan, in their order: no line of a plan begins with
-/// `part`, `pending` or `done`. What a plan's text tells are its steps (`texts_tell_plans` of change_plan).
+/// `part`, `pending` or `done`. What a plan's text tells are its steps (`texts_tell_plans` of change_plan). That of a roll
+/// tells too which part it gave up, if any, and the graph that it left.
 pub fn texts_tell_parts()
     ensures parts { (a b : Graph) (ps qs : List Part) → HaveWordPaths a ps → HaveWordPaths b qs
         → parts_text a ps ≡ parts_text b qs → plan_texts a ps ≡ plan_texts b qs }
     ensures rolls { (a b : Graph) (ps qs : List Part) (given_up other : Option ℕ) (left right : Graph)
         → HaveWordPaths a ps → HaveWordPaths b qs
         → roll_text a ps given_up left ≡ roll_text b qs other right → plan_texts a ps ≡ plan_texts b qs }
+    ensures ends { (a b : Graph) (ps qs : List Part) (given_up other : Option ℕ) (left right : Graph)
+        → HaveWordPaths a ps → HaveWordPaths b qs
+        → IfSome given_up (λ n. n < 2 ^ 64) → IfSome other (λ n. n < 2 ^ 64)
+        → roll_text a ps given_up left ≡ roll_text b qs other right → given_up ≡ other }
+    ensures graphs { (a b : Graph) (ps qs : List Part) (given_up other : Option ℕ) (left right : Graph)
+        → HaveWordPaths a ps → HaveWordPaths b qs
+        → IfSome given_up (λ n. n < 2 ^ 64) → IfSome other (λ n. n < 2 ^ 64)
+        → Sound left → Sound right → HasWordPaths left → HasWordPaths right
+        → roll_text a ps given_up left ≡ roll_text b qs other right → left ≡ right }
 {}
