@@ -46,13 +46,10 @@ kept_slot c (Make k node from) n h = ap (λ b. cond b (Some (record { node = nod
 kept_slot c (Remove m) n h = ap (λ b. cond b (option_map (λ (k : Slot). record k { live = false }) (slot c n)) (slot c n)) h
 kept_slot c _ n h = refl
 
-closed_so : (b x : Bool) (g : Gate) → (cond b (record g { closed = x }) g).target ≡ g.target
-closed_so true x g = refl
-closed_so false x g = refl
-
-closed_owner : (b x : Bool) (g : Gate) → (cond b (record g { closed = x }) g).owner ≡ g.owner
-closed_owner true x g = refl
-closed_owner false x g = refl
+-- a flag that is set leaves the target and the owner
+gate_turned : (b x : Bool) (g : Gate) → ((cond b (record g { closed = x }) g).target ≡ g.target) × ((cond b (record g { closed = x }) g).owner ≡ g.owner)
+gate_turned true x g = (refl, refl)
+gate_turned false x g = (refl, refl)
 
 leads_owner : (b : Bool) (t : Option Target) (g : Gate) → (cond b (record g { target = t }) g).owner ≡ g.owner
 leads_owner true t g = refl
@@ -63,8 +60,8 @@ not_new c k p low = false_from_ne_true (nat_le (length c.gates) p && nat_lt p (l
     let high = leb-true (length c.gates) p (and_parts (nat_le (length c.gates) p) (nat_lt p (length c.gates + k)) h).0 in absurd (omega (arith, low, high)))
 
 kept_target : (c : Configuration) (e : Event) (p : ℕ) → p < length c.gates → touched c e (owner c p) ≡ false → (gate_next c p e).target ≡ target c p
-kept_target c (Close q) p low h = closed_so (q == p) true (gate c p)
-kept_target c (Reopen q) p low h = closed_so (q == p) false (gate c p)
+kept_target c (Close q) p low h = (gate_turned (q == p) true (gate c p)).0
+kept_target c (Reopen q) p low h = (gate_turned (q == p) false (gate c p)).0
 kept_target c (Link q m x) p low h =
     rw (ne_eqb q p (λ same. both_ways (owner c p == owner c q) h (eq-eqb (owner c p) (owner c q) (ap (owner c) (sym same))))) refl
 kept_target c (Unlink q) p low h =
@@ -73,8 +70,8 @@ kept_target c (Make k node from) p low h = rw (not_new c (length (row node.kind)
 kept_target c _ p low h = refl
 
 kept_owner : (c : Configuration) (e : Event) (p : ℕ) → p < length c.gates → (gate_next c p e).owner ≡ owner c p
-kept_owner c (Close q) p low = closed_owner (q == p) true (gate c p)
-kept_owner c (Reopen q) p low = closed_owner (q == p) false (gate c p)
+kept_owner c (Close q) p low = (gate_turned (q == p) true (gate c p)).1
+kept_owner c (Reopen q) p low = (gate_turned (q == p) false (gate c p)).1
 kept_owner c (Link q m x) p low = leads_owner (q == p) (Some (record { node = m; provide = x })) (gate c p)
 kept_owner c (Unlink q) p low = leads_owner (q == p) None (gate c p)
 kept_owner c (Make k node from) p low = rw (not_new c (length (row node.kind).requires_) p low) refl
@@ -82,8 +79,8 @@ kept_owner c _ p low = refl
 
 -- a port that wasn't made before leads nowhere
 new_unlinked : (s : State) (e : Event) → Legal s e → (p : ℕ) → length s.config.gates ≤ p → (gate_next s.config p e).target ≡ None
-new_unlinked s (Close q) l p past = closed_so (q == p) true (gate s.config p) ∙ ap (λ (g : Gate). g.target) (get_or_past s.config.gates p fresh_gate past)
-new_unlinked s (Reopen q) l p past = closed_so (q == p) false (gate s.config p) ∙ ap (λ (g : Gate). g.target) (get_or_past s.config.gates p fresh_gate past)
+new_unlinked s (Close q) l p past = (gate_turned (q == p) true (gate s.config p)).0 ∙ ap (λ (g : Gate). g.target) (get_or_past s.config.gates p fresh_gate past)
+new_unlinked s (Reopen q) l p past = (gate_turned (q == p) false (gate s.config p)).0 ∙ ap (λ (g : Gate). g.target) (get_or_past s.config.gates p fresh_gate past)
 new_unlinked s (Link q m x) l p past =
     let low = ltb-true q (length s.config.gates) (and_parts (nat_lt q (length s.config.gates)) (is_live s.config (owner s.config q)) l.live).0 in
     rw (ne_eqb q p (λ same. absurd (omega (arith, low, past, same)))) (ap (λ (g : Gate). g.target) (get_or_past s.config.gates p fresh_gate past))
@@ -108,8 +105,8 @@ kept_service s _ n h = absurd (both_ways false refl h)
 
 -- ---- what the hints and states of a world are behind an event of the change
 
-elsewhere : {A : Type 0} (xs : List A) (x d : A) (n : ℕ) → (n ≡ length xs → ⊥) → slice_index_or (xs ++ x ∷ []) n d ≡ slice_index_or xs n d
-elsewhere xs x d n other = ⊎_elim
+appended_elsewhere : {A : Type 0} (xs : List A) (x d : A) (n : ℕ) → (n ≡ length xs → ⊥) → slice_index_or (xs ++ x ∷ []) n d ≡ slice_index_or xs n d
+appended_elsewhere xs x d n other = ⊎_elim
     (λ (low : n < length xs). get_or_append_left xs (x ∷ []) d n low)
     (λ (past : length xs ≤ n).
     let long = length-append xs (x ∷ []) in
@@ -132,9 +129,9 @@ kept_of w (Make k node from) reached n h =
     let fits = (hinted_where_reached w reached).fits in
     let folds : length w.folds ≡ length c.slots = holds.1.made ∙ ap (λ (s : State). length s.config.slots) (sym holds.0) in
     record {
-      state = elsewhere w.folds (opened w node from) None n (not_last c n (length w.folds) folds h);
+      state = appended_elsewhere w.folds (opened w node from) None n (not_last c n (length w.folds) folds h);
       box = fresh_behind w.inboxes [] 1 n;
-      waits = elsewhere w.waiting (replicate (length (row node.kind).requires_) None) [] n (not_last c n (length w.waiting) fits.rows h);
+      waits = appended_elsewhere w.waiting (replicate (length (row node.kind).requires_) None) [] n (not_last c n (length w.waiting) fits.rows h);
     }
 kept_of w _ reached n h = record { state = refl; box = refl; waits = refl }
 

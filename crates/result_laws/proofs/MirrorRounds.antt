@@ -1,9 +1,9 @@
 -- Turns and rounds in which no node begins keep worlds alike.
-use Rattle.std.proofs.Common.{◌≡◌, ◌∙◌, ℕ, zero, suc, ◌+◌, ◌<◌, ◌≤◌, Bool, true, false, cond, List, [], ◌∷◌, length, Option, Some, None, refl, sym, ap, subst, ⊎_elim, arith, get_or-set_other, length-set}
+use Rattle.std.proofs.Common.{◌≡◌, ◌∙◌, ℕ, zero, suc, ◌+◌, ◌<◌, ◌≤◌, Bool, true, false, cond, List, [], ◌∷◌, length, Option, Some, None, refl, sym, ap, subst, ⊎_elim, arith, get_or-set_other, length-set, not}
 use Rattle.std.specs.Prelude.{◌==◌, ◌||◌, drop, filter, find, fold, is_none, option_and_then, option_map, slice_index_or}
 use Rattle.std.specs.List.{enumerate_from, list_any, range_with_len}
 use Rattle.std.specs.Option.{option_map_or}
-use Rattle.std.proofs.lemmas.Bool.{and_parts, both_ways, cases_Bool, cases_lt, eqb-true, false_from_ne_true, or_parts}
+use Rattle.std.proofs.lemmas.Bool.{and_parts, both_ways, cases_Bool, cases_lt, eqb-true, false_from_ne_true, or_parts, not-true}
 use Rattle.std.proofs.lemmas.List.{get_or_past}
 use Rattle.std.proofs.lemmas.Option.{same_Some, slice_get_within}
 use Rattle.base.proofs.OptionLaws.{map_or_true}
@@ -13,7 +13,7 @@ use Rattle.config_graph.specs.declared.node.Target.{Target}
 use Rattle.component_trait.specs.States.{NodeState}
 use Rattle.quiesce_word.specs.Phases.{is_answered, is_asked, is_idle, is_in_more}
 use Rattle.quiesce_word.specs.declared.phase.Phase.{Phase}
-use Rattle.quiesce_word.proofs.PhaseLaws.{idle_is}
+use Rattle.quiesce_word.proofs.PhaseLaws.{asked_busy, idle_is}
 use Rattle.quiesce_core.specs.State.{Configuration, State, exchange, fresh_exchange, is_live, owner, ports_of, service, slot, target}
 use Rattle.quiesce_core.specs.declared.event.Event.{Event}
 use Rattle.quiesce_core.specs.declared.event.Event.TheVariants as event
@@ -35,7 +35,7 @@ use Rattle.node_turn_laws.proofs.LookLaws.{Avoids, ends_avoid, passes, serves_av
 use Rattle.node_turn_laws.proofs.ReachedLaws.{holds_where_reached, turn_goes_on}
 use Rattle.node_turn_laws.proofs.TurnLaws.{looking_keeps, posts_keep, turns_do}
 use Rattle.result_laws.proofs.MirrorMoves.{SameAt, same_looks, same_move}
-use Rattle.result_laws.proofs.MirrorTurns.{Does, HasRows, IsDoneBy, IsFine, Posted, apart_goes_on, asked_busy_so, event_alike, hint_waits, post_alike, posts_alike, request_alike, requests_one, waits_for_one}
+use Rattle.result_laws.proofs.MirrorTurns.{Does, HasRows, IsDoneBy, IsFine, Posted, apart_goes_on, event_alike, hint_waits, post_alike, posts_alike, request_alike, requests_one, waits_for_one}
 use Rattle.result_laws.proofs.Mirroring.{Alike, Apart, Mirrors, mirrors_back, set_alike}
 
 -- ---- no turn without begins begins
@@ -55,30 +55,31 @@ or_else_avoids : (f : Event → Bool) (o p : Option Event) → passes f o ≡ fa
 or_else_avoids f None p a c = c
 or_else_avoids f (Some e) p a c = a
 
-move_begins_none : (s : State) (n : ℕ) (t : NodeState) (box : List ℕ) → passes is_begin (move_of s n t box false) ≡ false
-move_begins_none s n t box =
-    or_else_avoids is_begin (ends s n t) (or_else (serves s n t) (or_else (cond (is_none (service s n)) (takes s n box) None) None)) (ends_avoid is_begin no_begin s n t)
+-- whether an event, if there is one, is no Begin
+abbrev is_further : Option Event → Bool
+is_further o = not (passes is_begin o)
+
+move_is_further : (s : State) (n : ℕ) (t : NodeState) (box : List ℕ) → is_further (move_of s n t box false) ≡ true
+move_is_further s n t box = ap not
+    (or_else_avoids is_begin (ends s n t) (or_else (serves s n t) (or_else (cond (is_none (service s n)) (takes s n box) None) None)) (ends_avoid is_begin no_begin s n t)
     (or_else_avoids is_begin (serves s n t) (or_else (cond (is_none (service s n)) (takes s n box) None) None) (serves_avoid is_begin no_begin s n t)
-    (or_else_avoids is_begin (cond (is_none (service s n)) (takes s n box) None) None (either (is_none (service s n))) refl))
+    (or_else_avoids is_begin (cond (is_none (service s n)) (takes s n box) None) None (taken (is_none (service s n)) box) refl)))
   where
     front : (p : ℕ) (b : Bool) → passes is_begin (cond b (Some (event.Take p (exchange s p).serial (exchange s p).value)) None) ≡ false
     front p true = refl
     front p false = refl
 
-    taken : (xs : List ℕ) → passes is_begin (takes s n xs) ≡ false
-    taken [] = refl
-    taken (p ∷ xs) = front p (is_for s n p)
+    taken : (b : Bool) (xs : List ℕ) → passes is_begin (cond b (takes s n xs) None) ≡ false
+    taken false xs = refl
+    taken true [] = refl
+    taken true (p ∷ xs) = front p (is_for s n p)
 
-    either : (b : Bool) → passes is_begin (cond b (takes s n box) None) ≡ false
-    either true = taken box
-    either false = refl
-
-turn_begins_none : (w : World) (n : ℕ) → passes is_begin (turn w n false).event ≡ false
-turn_begins_none w n = by (post_waiting w n) (state_of (post_waiting w n) n)
+turn_is_further : (w : World) (n : ℕ) → is_further (turn w n false).event ≡ true
+turn_is_further w n = by (post_waiting w n) (state_of (post_waiting w n) n)
   where
-    by : (v : World) (o : Option NodeState) → passes is_begin (option_map_or (turn_in v n false) o (record { event = None; world = v })).event ≡ false
+    by : (v : World) (o : Option NodeState) → is_further (option_map_or (turn_in v n false) o (record { event = None; world = v })).event ≡ true
     by v None = refl
-    by v (Some t) = move_begins_none v.machine n t (inbox v n)
+    by v (Some t) = move_is_further v.machine n t (inbox v n)
 
 -- the event of a turn, where nodes may not begin
 pub turn_does : (w : World) (n : ℕ) (e : Event) → IsReached w → is_live w.machine.config n ≡ true → (turn w n false).event ≡ Some e → Does w n e
@@ -93,7 +94,7 @@ turn_does w n e reached live is =
         traffic = traffic_where_reached w reached;
         legal = legal w.machine e t.allowed;
         of_node = t.of_node;
-        begins_none = sym (ap (passes is_begin) is) ∙ turn_begins_none w n;
+        begins_none = not-true (is_begin e) (sym (ap is_further is) ∙ turn_is_further w n);
         own = t.own;
       };
       low = omega (arith, folds, made);
@@ -187,7 +188,7 @@ module _ (away : ℕ → Bool) (a b : World) (m : Mirrors away a b) (n : ℕ) (n
   asked_alike p asked =
       let s = a.machine in
       let well = well_where_reached a m.reached_here in
-      let busy = asked_busy_so (exchange s p).phase asked in
+      let busy = asked_busy (exchange s p).phase asked in
       ⊎_elim
       (λ (low : p < length s.config.gates).
       let o = well.sound.ports p low in
@@ -329,7 +330,7 @@ module _ (away : ℕ → Bool) (u w : World) (alike : Alike away u w) (reached :
       let h = hint_waits w reached n made.0 made.1 r m is in
       let low = h.0 in
       let p = made.0.first_port + r in
-      both_ways (is_idle (exchange s p).phase) (asked_busy_so (exchange s p).phase h.1.asked)
+      both_ways (is_idle (exchange s p).phase) (asked_busy (exchange s p).phase h.1.asked)
       (apart.own n p is_away (record { node = made.0; made = made.1; from = omega arith; below = omega (arith, low) }))
 
   posts_none : (i : ℕ) (xs : List (Option ℕ)) → ((r m : ℕ) → slice_index_or xs r None ≡ Some m → ⊥) → fold (post_one n) w (enumerate_from i xs) ≡ w
@@ -356,7 +357,7 @@ module _ (away : ℕ → Bool) (u w : World) (alike : Alike away u w) (reached :
   none_for p = false_from_ne_true (is_for s n p) (λ h.
       let both = and_parts (is_asked (exchange s p).phase) (option_map_or (λ (t : Target). t.node == n) (target s.config p) false) h in
       let t = map_or_true (λ (x : Target). x.node == n) (target s.config p) both.1 in
-      both_ways (is_idle (exchange s p).phase) (asked_busy_so (exchange s p).phase both.0)
+      both_ways (is_idle (exchange s p).phase) (asked_busy (exchange s p).phase both.0)
       (apart.reaching n p is_away (direct {p = p} {x = t.0.provide} (t.1 ∙ ap (λ i. Some (record { node = i; provide = t.0.provide })) (eqb-true t.0.node n t.2)))))
 
   takes_none : (box : List ℕ) → takes s n box ≡ None
@@ -492,14 +493,14 @@ turns_in_row away c d i (suc k) r q h =
     (turns_in_row away c d (i + 1) k (turn_if (is_live c i) r i) (turn_if (is_live d i) q i) (one_turn away c d r q i h)))
 
 -- no node is live behind the last that was made
-none_behind : (c : Configuration) (i k : ℕ) → length c.slots ≤ i → filter (is_live c) (range_with_len i k) ≡ []
-none_behind c i zero past = refl
-none_behind c i (suc k) past =
+dead_behind : (c : Configuration) (i k : ℕ) → length c.slots ≤ i → filter (is_live c) (range_with_len i k) ≡ []
+dead_behind c i zero past = refl
+dead_behind c i (suc k) past =
     let dead : is_live c i ≡ false = false_from_ne_true (is_live c i) (λ h. let made = live_made c i h in absurd (omega (arith, made, past))) in
-    ap (λ b. cond b (i ∷ filter (is_live c) (range_with_len (i + 1) k)) (filter (is_live c) (range_with_len (i + 1) k))) dead ∙ none_behind c (i + 1) k (omega (arith, past))
+    ap (λ b. cond b (i ∷ filter (is_live c) (range_with_len (i + 1) k)) (filter (is_live c) (range_with_len (i + 1) k))) dead ∙ dead_behind c (i + 1) k (omega (arith, past))
 
 more_slots : (c : Configuration) (i m n : ℕ) → i + m ≡ length c.slots → filter (is_live c) (range_with_len i (m + n)) ≡ filter (is_live c) (range_with_len i m)
-more_slots c i zero n sum = ap (λ k. filter (is_live c) (range_with_len i k)) (omega arith) ∙ none_behind c i n (omega (arith, sum))
+more_slots c i zero n sum = ap (λ k. filter (is_live c) (range_with_len i k)) (omega arith) ∙ dead_behind c i n (omega (arith, sum))
 more_slots c i (suc m) n sum =
     let size : suc m + n ≡ suc (m + n) = omega arith in
     ap (λ k. filter (is_live c) (range_with_len i k)) size

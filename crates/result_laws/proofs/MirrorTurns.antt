@@ -14,7 +14,7 @@ use Rattle.component_trait.specs.Fold.{fold_next}
 use Rattle.quiesce_word.specs.Phases.{is_asked, is_idle, is_in_more}
 use Rattle.quiesce_word.specs.declared.phase.Phase.{Phase}
 use Rattle.quiesce_word.specs.declared.phase.Phase.TheVariants as phase
-use Rattle.quiesce_word.proofs.PhaseLaws.{serving_busy}
+use Rattle.quiesce_word.proofs.PhaseLaws.{asked_busy, serving_busy}
 use Rattle.quiesce_core.specs.Alters.{exchange_next, service_by, service_next}
 use Rattle.quiesce_core.specs.Doers.{is_of_change}
 use Rattle.quiesce_core.specs.Effect.{effect}
@@ -200,8 +200,8 @@ posts_alike away n ca cb i (Some m ∷ xs) fine no_ a b h =
     })
 
 -- whether it is this node's
-abbrev is_at : ℕ → Option ℕ → Bool
-is_at m o = option_map_or (λ k. k == m) o false
+abbrev names_node : ℕ → Option ℕ → Bool
+names_node m o = option_map_or (λ k. k == m) o false
 
 -- the request of a hint that waits
 pub record WaitsAt (w : World) (p m : ℕ) : Type 0 where
@@ -221,7 +221,7 @@ hint_waits w reached n k there r m is = ⊎_elim
     let low : r < length (row k.node.kind).requires_ = omega (arith, in_row, long) in
     let at = place_of w h.fits (well_where_reached w reached).sound n r k there low in
     let kept : kept_back w p ≡ Some m = kept_there w n r p at ∙ is in
-    let one : ◌≡◌ {A = ℕ} (cond (is_at m (kept_back w p)) 1 0) 1 = ap {B = ℕ} (λ o. cond (is_at m o) 1 0) kept ∙ ap {B = ℕ} (λ b. cond b 1 0) (eq-eqb m m refl) in
+    let one : ◌≡◌ {A = ℕ} (cond (names_node m (kept_back w p)) 1 0) 1 = ap {B = ℕ} (λ o. cond (names_node m o) 1 0) kept ∙ ap {B = ℕ} (λ b. cond b 1 0) (eq-eqb m m refl) in
     let waiting = some_hint (waits_for w.machine m p) (hints_for w m p) (h.hints m p) (omega (arith, one)) in
     let both = and_parts (waits w.machine p) (leads_to c m p) waiting in
     let t = map_or_true (λ (x : Target). x.node == m) (target c p) both.1 in (
@@ -230,9 +230,6 @@ hint_waits w reached n k there r m is = ⊎_elim
     ))
     (λ (past : length (waiting_of w n) ≤ r). absurd (none-some m (sym (get_or_past (waiting_of w n) r None past) ∙ is)))
     (cases_lt r (length (waiting_of w n)))
-
-pub asked_busy_so : (f : Phase) → is_asked f ≡ true → is_idle f ≡ false
-asked_busy_so f h = serving_busy f (ap (λ b. b || is_in_more f) h)
 
 -- it is for a node that was made, and isn't away
 pub record IsForOne (away : ℕ → Bool) (w : World) (m : ℕ) : Type 0 where
@@ -246,7 +243,7 @@ waits_for_one away w reached apart n k there r m is =
     let h = (hint_waits w reached n k there r m is).1 in
     record {
       to = ⊎_elim
-          (λ (yes_ : away m ≡ true). absurd (both_ways (is_idle (exchange w.machine p).phase) (asked_busy_so (exchange w.machine p).phase h.asked)
+          (λ (yes_ : away m ≡ true). absurd (both_ways (is_idle (exchange w.machine p).phase) (asked_busy (exchange w.machine p).phase h.asked)
           (apart.reaching m p yes_ (direct {p = p} {x = h.to.provide} (h.leads ∙ ap (λ i. Some (record { node = i; provide = h.to.provide })) h.is_node)))))
           (λ (no_ : away m ≡ false). no_)
           (cases_Bool (away m));

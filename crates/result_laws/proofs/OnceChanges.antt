@@ -3,7 +3,7 @@
 use Rattle.std.proofs.Common.{◌≡◌, ◌∙◌, ℕ, ℤ, zero, suc, ◌+◌, ◌<◌, ◌≤◌, inl, Bool, true, false, cond, List, [], ◌∷◌, ◌++◌, append_assoc, length, map, not, None, refl, sym, ap, subst, ⊎_elim, arith}
 use Rattle.std.specs.Prelude.{◌==◌, ◌||◌}
 use Rattle.std.specs.List.{list_any}
-use Rattle.std.proofs.lemmas.Bool.{both_ways, cases_lt, eq-eqb, eqb-true, or_cases, or_left, or_right}
+use Rattle.std.proofs.lemmas.Bool.{both_ways, cases_lt, eq-eqb, eqb-true, not-false, or_cases, or_left, or_right}
 use Rattle.std.proofs.lemmas.List.{append-nil, nil_from_length}
 use Rattle.std.proofs.lemmas.List.Folds.{list_any-append}
 use Rattle.base.specs.Each.{EachAfter}
@@ -45,33 +45,30 @@ use Rattle.result_laws.proofs.MirrorRounds.{rounds_mirror}
 
 -- ---- events of the change, in the second of two worlds
 
-event_events : (w : World) (e : Event) → (with_event w e).events ≡ w.events ++ e ∷ []
-event_events w (event.Make n node from) = refl
-event_events w _ = refl
+event_on : (w : World) (e : Event) (before : List Event) → before ≡ w.events → before ++ e ∷ [] ≡ (with_event w e).events
+event_on w (event.Make n node from) before are = ap (λ xs. xs ++ event.Make n node from ∷ []) are
+event_on w e before are = ap (λ xs. xs ++ e ∷ []) are ∙ by w e
+  where
+    by : (w : World) (e : Event) → w.events ++ e ∷ [] ≡ (with_event w e).events
+    by w (event.Make n node from) = refl
+    by w _ = refl
 
-pub changes_events : (w : World) (es : List Event) → (after_changes w es).events ≡ w.events ++ es
-changes_events w [] = sym (append-nil w.events)
-changes_events w (e ∷ es) = changes_events (with_event w e) es ∙ ap (λ xs. xs ++ es) (event_events w e) ∙ append_assoc w.events (e ∷ []) es
+pub changes_on : (w : World) (es before : List Event) → before ≡ w.events → before ++ es ≡ (after_changes w es).events
+changes_on w [] before are = append-nil before ∙ are
+changes_on w (e ∷ es) before are = sym (append_assoc before (e ∷ []) es) ∙ changes_on (with_event w e) es (before ++ e ∷ []) (event_on w e before are)
 
 abbrev is_other : Event → Bool
 is_other e = not (is_of_change e)
-
-of_change : (e : Event) → is_other e ≡ false → is_of_change e ≡ true
-of_change e h = by (is_of_change e) h
-  where
-    by : (b : Bool) → not b ≡ false → b ≡ true
-    by true g = refl
-    by false g = absurd (both_ways true g refl)
 
 mirrored_along : (a b : World) (before es : List Event) → IsReached b → before ≡ b.events → EachAfter StepAt before es → list_any is_other es ≡ false → Mirrored a b → Mirrored a (after_changes b es)
 mirrored_along a b before [] reached are steps change m = m
 mirrored_along a b before (e ∷ es) reached are steps change m =
     let own = either (is_other e) (list_any is_other es) change in
-    let kind = of_change e own.0 in
+    let kind = not-false (is_of_change e) own.0 in
     let may : denial b.machine e ≡ None =
     ap (λ s. denial s e) ((holds_where_reached b reached).0 ∙ ap state_after (sym are)) ∙ steps.0.allowed in
     let v = with_event b e in
-    mirrored_along a v (before ++ e ∷ []) es (IsReached.by_change b e reached kind may) (ap (λ xs. xs ++ e ∷ []) are ∙ sym (event_events b e)) steps.1 own.1 (change_mirrored a b e kind may m)
+    mirrored_along a v (before ++ e ∷ []) es (IsReached.by_change b e reached kind may) (event_on b e before are) steps.1 own.1 (change_mirrored a b e kind may m)
   where
     either : (x y : Bool) → (x || y) ≡ false → (x ≡ false) × (y ≡ false)
     either true y h = absurd (both_ways true h refl)
@@ -130,7 +127,7 @@ module _ (h : List HistoryLine) (w : World) (m : List Member) (course : Course h
   waits_reached = shut_course.reached
 
   pub waits_run : IsRun (w.events ++ map event.Close c.closed)
-  waits_run = subst IsRun (changes_events w (map event.Close c.closed)) (holds_where_reached (after_changes w (map event.Close c.closed)) waits_reached).1.run
+  waits_run = subst IsRun (sym (changes_on w (map event.Close c.closed) w.events refl)) (holds_where_reached (after_changes w (map event.Close c.closed)) waits_reached).1.run
 
   pub waits_same : SameLinks w.machine.config (after_changes w (map event.Close c.closed)).machine.config
   waits_same = shut_same h w m course c.closed live
@@ -199,11 +196,7 @@ module _ (h : List HistoryLine) (w : World) (m : List Member) (course : Course h
           list_any-append is_pending (drained_lines seen) tail ∙ or_right (list_any is_pending (drained_lines seen)) (list_any is_pending tail) refl
 
   pub none_left_then : list_any is_pending lines ≡ false → is_none_left (after_changes w (map event.Close c.closed)) c.closed c.rounds ≡ true
-  none_left_then calm = by (is_none_left (after_changes w (map event.Close c.closed)) c.closed c.rounds) (sym lines_pending ∙ calm)
-    where
-      by : (b : Bool) → not b ≡ false → b ≡ true
-      by true e = refl
-      by false e = absurd (both_ways true e refl)
+  none_left_then calm = not-false (is_none_left (after_changes w (map event.Close c.closed)) c.closed c.rounds) (sym lines_pending ∙ calm)
 
   -- where the ports are drained after so many rounds that it may wait for, it is committed no later
   module _ (j : ℕ) (low : j ≤ within) (none_ : is_none_left (after_changes w (map event.Close c.closed)) c.closed j ≡ true) where
@@ -247,5 +240,5 @@ module _ (h : List HistoryLine) (w : World) (m : List Member) (course : Course h
       let u = after_rounds false (after_changes w (map event.Close c.closed)) c.rounds in
       let es = commit_events c.old g c.plan u.machine.config in
       let is = world_then none_ in
-      let run : IsRun (u.events ++ es) = subst IsRun (ap (λ (x : World). x.events) is ∙ changes_events u es) (holds_where_reached v reached).1.run in
+      let run : IsRun (u.events ++ es) = subst IsRun (ap (λ (x : World). x.events) is ∙ sym (changes_on u es u.events refl)) (holds_where_reached v reached).1.run in
       subst (Mirrored a) (sym is) (changes_mirrored a u es (rounds_reached c.rounds) run (commit_of_change c.old g c.plan u.machine.config) m)

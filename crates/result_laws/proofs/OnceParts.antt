@@ -1,11 +1,14 @@
 -- The parts of a change, one after the other, in the rounds in which the whole change would be made at once: what a part
 -- freezes the whole freezes, or an earlier part made it; so it is drained by the round at which the whole is.
-use Rattle.std.proofs.Common.{◌≡◌, ◌∙◌, ℕ, ℤ, ◌+◌, ◌-◌, ◌<◌, ◌≤◌, inl, inr, true, false, List, [], ◌∷◌, ◌++◌, append_assoc, length, map, Some, refl, sym, ap, subst, ⊎_elim, arith}
-use Rattle.std.specs.Prelude.{◌||◌, AllPairs, Contains, is_some, slice_get}
+use Rattle.std.proofs.Common.{◌≡◌, ◌∙◌, ℕ, ℤ, ◌+◌, ◌-◌, ◌<◌, ◌≤◌, inl, inr, true, false, List, [], ◌∷◌, ◌++◌, append_assoc, length, map, Some, refl, sym, ap, subst, ⊎_elim, arith, zero, suc, ◌⊎◌, None, Option}
+use Rattle.std.specs.Prelude.{◌||◌, AllPairs, Contains, is_some, slice_get, All}
 use Rattle.std.specs.List.{list_any}
 use Rattle.std.proofs.lemmas.Bool.{and_from, and_parts, cases_Bool, or_left}
-use Rattle.std.proofs.lemmas.Option.{same_Some, slice_get_within}
-use Rattle.base.proofs.ContainsLaws.{any_if, any_of}
+use Rattle.std.proofs.lemmas.Option.{same_Some, slice_get_within, none-some}
+use Rattle.config_graph.specs.declared.node.Node.{Node}
+use Rattle.change_parts.specs.Freezing.{IsFrozenAt}
+use Rattle.change_parts.specs.Ties.{IsCreated}
+use Rattle.base.proofs.ContainsLaws.{any_if, any_of, Contains-at}
 use Rattle.base.proofs.PlaceLaws.{heads_are, slice_get-there, tails_are}
 use Rattle.config_graph.specs.Cycles.{IsLinked, graph_wiring}
 use Rattle.config_graph.specs.Graph.{Graph, IsGraph}
@@ -19,11 +22,13 @@ use Rattle.change_plan.specs.declared.plan_data.Move.{Move}
 use Rattle.change_plan_laws.specs.Commit.{is_one_of, ports_to_close, stands_in}
 use Rattle.change_plan_laws.proofs.StandingLaws.{in_if_stands, stands_if_in}
 use Rattle.change_parts.specs.Groups.{IsBefore}
-use Rattle.change_parts.specs.Parts.{ArePartsFrom, then_}
+use Rattle.change_parts.specs.Parts.{ArePartsFrom, then_, AreParts, IsPart, stage_after}
 use Rattle.change_parts.specs.Stages.{IsAfter}
 use Rattle.change_parts.specs.declared.part.Part.{Part}
-use Rattle.change_parts.proofs.FreezeLemmas.{frozen_by_whole}
-use Rattle.change_parts.proofs.PartLaws.{next_stage}
+use Rattle.change_parts.proofs.PartLaws.{frozen_before, next_stage}
+use Rattle.change_parts.proofs.StageLaws.{first_stage, in_left}
+use Rattle.change_plan.specs.Applying.{IsAtOneOf}
+use Rattle.change_plan.proofs.StepLaws.{listed_gone}
 use Rattle.quiesce_laws.specs.Drained.{is_drained}
 use Rattle.quiesce_laws.specs.Lists.{In}
 use Rattle.quiesce_laws.proofs.MemberLaws.{selected}
@@ -58,20 +63,18 @@ use Rattle.result_laws.proofs.OnceChanges.{committed, drained_if, no_more, none_
 -- ---- what a plan freezes stands in its graph
 
 module _ (c : Configuration) (g : Graph) (is_graph : IsGraphOf c g) (h : Graph) where
-  touched_below : (i : ℕ) → IsTouched g h i → i < length g.nodes
-  touched_below i (inl gone) = slice_get_within g.nodes i gone.node gone.here
-  touched_below i (inr new_) = slice_get_within g.nodes i new_.stays.node new_.stays.here
+  -- what begins a link, and what is frozen, is there
+  linked_node : (i r j x : ℕ) → IsLinked g i r j x → (n : Node) × (slice_get g.nodes i ≡ Some n)
+  linked_node i r j x l = let w = (is_graph.links_are i r j x).0 l in (w.from, w.from_there)
 
-  begins : (i r j x : ℕ) → IsLinked g i r j x → i < length g.nodes
-  begins i r j x l = let w = (is_graph.links_are i r j x).0 l in slice_get_within g.nodes i w.from w.from_there
+  reaching_node : (n : ℕ) (p : Port) → Reach (graph_wiring g) n p → (m : Node) × (slice_get g.nodes p.node ≡ Some m)
+  reaching_node n p (direct {x = x} linked) = linked_node p.node p.require n x linked
+  reaching_node n q (through {p = p} {m = m} {x = x} before depends linked) = linked_node q.node q.require m x linked
 
-  reach_below : (n : ℕ) (p : Port) → Reach (graph_wiring g) n p → p.node < length g.nodes
-  reach_below n p (direct {x = x} linked) = begins p.node p.require n x linked
-  reach_below n q (through {p = p} {m = m} {x = x} before depends linked) = begins q.node q.require m x linked
-
-  frozen_below : (i : ℕ) → Frozen g h i → i < length g.nodes
-  frozen_below i (inl touched) = touched_below i touched
-  frozen_below i (inr (n, r, touched, reach)) = reach_below n (record { node = i; require = r }) reach
+  frozen_node : (i : ℕ) → Frozen g h i → (n : Node) × (slice_get g.nodes i ≡ Some n)
+  frozen_node i (inl (inl gone)) = (gone.node, gone.here)
+  frozen_node i (inl (inr new_)) = (new_.stays.node, new_.stays.here)
+  frozen_node i (inr (n, r, touched, reach)) = reaching_node n (record { node = i; require = r }) reach
 
   -- a live node at one of the places that are frozen
   pub record StandsFrozen (n : ℕ) : Type 0 where
@@ -83,8 +86,72 @@ module _ (c : Configuration) (g : Graph) (is_graph : IsGraphOf c g) (h : Graph) 
   stands_frozen places frozen n is =
       let w = any_of (λ i. stands_in g i c n) places is in
       let f = frozen w.0 w.1 in
-      let node = slice_get-there g.nodes w.0 (frozen_below w.0 f) in
+      let node = frozen_node w.0 f in
       record { place = w.0; frozen = f; stands = stands_if_in c g is_graph.paths_rise is_graph.nodes_are n w.0 node.0 node.1 w.2 }
+
+-- ---- what a part freezes and creates, by the whole change
+
+-- what leads from a graph to the next freezes is frozen by the whole change, or is new
+abbrev pub IsFrozenByWhole : Graph → Graph → Graph → Graph → Type 0
+IsFrozenByWhole old new stage next_ = (i : ℕ) (n : Node) → slice_get stage.nodes i ≡ Some n → Frozen stage next_ i → IsFrozenAt old new n ⊎ IsCreated old new n
+
+module _ (old new : Graph) (old_graph : IsGraph old) (new_graph : IsGraph new) (moves : List Move) where
+  -- what a part creates is new
+  created_new : (done taken : List (List ℕ)) (stage : Graph) (p : Part) → IsAfter old new moves done old stage → IsAfter old new moves (done ++ taken) old p.next → IsPart old new moves taken stage p → (n : Node)
+      → IsAtOneOf p.next p.plan.create n → IsCreated old new n
+  created_new done taken stage p stage_is next_is part n at =
+      elim ((next_is.nodes_are n).0 (Contains-at p.next.nodes at.0 n at.2)) [
+        | inl was ↦ absurd (listed_gone p.next stage p.plan.create part.plan_is.steps.create n at
+            ((stage_is.nodes_are n).1 (inl (was.0, λ gone. was.1 (in_left old new old_graph new_graph moves done taken n gone.0, gone.1)))))
+        | inr made ↦ made.1
+      ]
+
+  pub parts_create_new : (done groups : List (List ℕ)) (stage : Graph) (ps : List Part) → ArePartsFrom old new moves stage groups ps → AllPairs IsBefore (done ++ groups) → IsAfter old new moves done old stage
+      → (j : ℕ) (p : Part) (n : Node) → slice_get ps j ≡ Some p → IsAtOneOf p.next p.plan.create n → IsCreated old new n
+  parts_create_new done groups stage [] parts rise stage_is j p n there at = absurd (none-some p there)
+  parts_create_new done _ stage _ (then_ {taken = taken} {left = left} {p = q} {ps = qs} part rest) rise stage_is zero p n there at =
+      let next_is = next_stage old new old_graph new_graph moves done taken left stage q rise stage_is part in
+      created_new done taken stage q stage_is next_is part n (subst (λ (x : Part). IsAtOneOf x.next x.plan.create n) (sym (same_Some q p there)) at)
+  parts_create_new done _ stage _ (then_ {taken = taken} {left = left} {p = q} {ps = qs} part rest) rise stage_is (suc j) p n there at =
+      parts_create_new (done ++ taken) left q.next qs rest (subst (AllPairs IsBefore) (sym (append_assoc done taken left)) rise) (next_stage old new old_graph new_graph moves done taken left stage q rise stage_is part) j p n there at
+
+  -- each part's place among all of them
+  pub record IsAlong (whole : List Part) (k : ℕ) (stage : Graph) (ps : List Part) : Type 0 where
+    pub parts : (d : ℕ) → slice_get whole (k + d) ≡ slice_get ps d
+    pub stages : (d : ℕ) → stage_after old whole (k + d) ≡ stage_after stage ps d
+
+  pub along_all : (whole : List Part) → IsAlong whole 0 old whole
+  along_all whole = record {
+    parts = λ d. ap (slice_get whole) (from_0 d);
+    stages = λ d. ap (stage_after old whole) (from_0 d);
+  }
+    where
+      from_0 : (d : ℕ) → 0 + d ≡ d
+      from_0 d = omega arith
+
+  pub along_next : (whole : List Part) (k : ℕ) (stage : Graph) (p : Part) (ps : List Part) → IsAlong whole k stage (p ∷ ps) → IsAlong whole (suc k) p.next ps
+  unfolding stage_after
+  along_next whole k stage p ps h = record {
+    parts = λ d. ap (slice_get whole) (later d) ∙ h.parts (suc d);
+    stages = λ d. ap (stage_after old whole) (later d) ∙ h.stages (suc d);
+  }
+    where
+      later : (d : ℕ) → suc k + d ≡ k + suc d
+      later d = omega arith
+
+  stage_now : (whole : List Part) (k : ℕ) (stage : Graph) (ps : List Part) → IsAlong whole k stage ps → stage_after old whole k ≡ stage
+  unfolding stage_after
+  stage_now whole k stage ps h = let sum : k ≡ k + 0 = omega arith in ap (stage_after old whole) sum ∙ h.stages 0
+
+  pub part_by_whole : (whole : List Part) (parts : AreParts old new moves whole) → All (λ (x : Part). IsGraph x.next) whole → (k : ℕ) (stage : Graph) (p : Part) (ps : List Part) → IsAlong whole k stage (p ∷ ps)
+      → IsPlanOf stage p.next p.moves p.plan → IsFrozenByWhole old new stage p.next
+  part_by_whole whole parts graphs k stage p ps h plan i n at frozen =
+      let sum : k ≡ k + 0 = omega arith in
+      let there : slice_get whole k ≡ Some p = ap (slice_get whole) sum ∙ h.parts 0 in
+      elim (frozen_before old new old_graph new_graph moves whole parts graphs k p i n there ((plan.steps.freeze i).1 frozen) (ap (λ (g : Graph). slice_get g.nodes i) (stage_now whole k stage (p ∷ ps) h) ∙ at)) [
+        | inl here ↦ inl here
+        | inr made ↦ inr (parts_create_new [] parts.groups old whole parts.parts parts.are_groups.rise (first_stage old new old_graph new_graph moves) made.0 made.2.0 n made.2.1 made.2.2)
+      ]
 
 -- ---- one part, beside the change at once
 
@@ -125,7 +192,7 @@ module _ (old new : Graph) (old_graph : IsGraph old) (new_graph : IsGraph new) (
       let listed : In (ports_to_close old once.plan c) p = frozen_listed old once.plan c p (omega (arith, within_, below)) own in
       once_drained p (subst (λ ps. In ps p) (sym (once.closed_are ∙ ap (λ g. ports_to_close g once.plan c) same_old)) listed)
 
-  module _ (done taken : List (List ℕ)) (stage : Graph) (q : Part) (stage_is : IsAfter old new moves done old stage) (next_is : IsAfter old new moves (done ++ taken) old q.next) (stage_graph : IsGraph stage) (q_graph : IsGraph q.next)
+  module _ (stage : Graph) (q : Part) (by_whole : IsFrozenByWhole old new stage q.next)
       (h : List HistoryLine) (w : World) (m : List Member) (course : Course h w m) (graph : IsGraphOf w.machine.config stage) (lines : List HistoryLine) (v : World)
       (c : ChangesTo w name args q.next within q.moves lines v) (t : ℕ) (low : t ≤ once.rounds) (mirrored : Mirrored (after_rounds false (after_changes w0 (map event.Close once.closed)) t) w) where
     -- the world in which it waits, and the rounds until the whole is drained
@@ -183,9 +250,9 @@ module _ (old new : Graph) (old_graph : IsGraph old) (new_graph : IsGraph new) (
         let in_old : Contains old.nodes k.node = (graph0.nodes_are k.node).1 (n, record { made = k; there = slots_0; live = f.stands.live; is_node = refl }) in
         let at_stage : slice_get stage.nodes f.place ≡ Some k.node = ap (λ (g : Graph). slice_get g.nodes f.place) (sym same_stage) ∙ f.stands.stands in
         let frozen_stage : Frozen stage q.next f.place = subst (λ g. Frozen g q.next f.place) same_stage f.frozen in
-        let whole : is_drained x.machine p ≡ true = elim (frozen_by_whole old new old_graph new_graph moves done taken stage q.next stage_is next_is stage_graph q_graph f.place k.node at_stage frozen_stage) [
+        let whole : is_drained x.machine p ≡ true = elim (by_whole f.place k.node at_stage frozen_stage) [
           | inl here ↦ whole_drains n here.0 p k slots_0 f.stands.live here.1 here.2 port_0
-          | inr made ↦ absurd (made.1.gone in_old)
+          | inr made ↦ absurd (made.gone in_old)
         ] in
         subst (λ (z : Exchange). (is_idle z.phase || is_some z.within) ≡ true) (alike.exchanges p)
         (and_parts (gate cx p).closed (is_idle (exchange x.machine p).phase || is_some (exchange x.machine p).within) whole).1)
@@ -232,28 +299,28 @@ module _ (old new : Graph) (old_graph : IsGraph old) (new_graph : IsGraph new) (
   said qs = map (λ (x : Played). x.statement) qs
 
   module _ (each_may : EachMayCommit) (by_config : CommitsByConfiguration) (leaves : CommitsLeaveGraphs) (commits_run : CommitsRun) (statements : List Statement) where
-    pub all_committed : (done groups : List (List ℕ)) (stage : Graph) (ps : List Part) → ArePartsFrom old new moves stage groups ps → AllPairs IsBefore (done ++ groups) → IsAfter old new moves done old stage
-        → (before : List Statement) (h : List HistoryLine) (w : World) (m : List Member) (made : Made) → statements ≡ before ++ map part_change ps → Course h w m → Fits before h stage made → GoOnSoundly (map part_change ps) stage made
+    pub all_committed : (whole : List Part) (parts : AreParts old new moves whole) → All (λ (x : Part). IsGraph x.next) whole → (groups : List (List ℕ)) (stage : Graph) (ps : List Part) (k : ℕ)
+        → IsAlong old new old_graph new_graph moves whole k stage ps → ArePartsFrom old new moves stage groups ps → (before : List Statement) (h : List HistoryLine) (w : World) (m : List Member) (made : Made) → statements ≡ before ++ map part_change ps → Course h w m → Fits before h stage made → GoOnSoundly (map part_change ps) stage made
         → list_any is_pending h ≡ false → (qs : List Played) → said qs ≡ map part_change ps → PlayedAfter h w qs → (t : ℕ) → t ≤ once.rounds
         → Mirrored (after_rounds false (after_changes w0 (map event.Close once.closed)) t) w → list_any is_pending (lines_played qs) ≡ false
-    all_committed done groups stage [] parts rise stage_is before h w m made are course fits says none_ [] same played t low mirrored = refl
-    all_committed done groups stage [] parts rise stage_is before h w m made are course fits says none_ (x ∷ qs) same played t low mirrored = absurd (cc same)
-    all_committed done groups stage (p ∷ ps) parts rise stage_is before h w m made are course fits says none_ [] same played t low mirrored = absurd (cc same)
-    all_committed done _ stage _ (then_ {taken = taken} {left = left} {p = p} {ps = ps} part rest) rise stage_is before h w m made are course fits says none_ (x ∷ qs) same played t low mirrored =
+    all_committed whole whole_parts graphs groups stage [] k along parts before h w m made are course fits says none_ [] same played t low mirrored = refl
+    all_committed whole whole_parts graphs groups stage [] k along parts before h w m made are course fits says none_ (x ∷ qs) same played t low mirrored = absurd (cc same)
+    all_committed whole whole_parts graphs groups stage (p ∷ ps) k along parts before h w m made are course fits says none_ [] same played t low mirrored = absurd (cc same)
+    all_committed whole whole_parts graphs _ stage _ k along (then_ {taken = taken} {left = left} {p = p} {ps = ps} part rest) before h w m made are course fits says none_ (x ∷ qs) same played t low mirrored =
         let is : x.statement ≡ part_change p = heads_are x.statement (part_change p) (said qs) (map part_change ps) same in
         let plays : Plays h w (part_change p) x.lines x.world = subst (λ s. Plays h w s x.lines x.world) is played.0 in
         let c = plays.1 none_ in
-        let next_is = next_stage old new old_graph new_graph moves done taken left stage p rise stage_is part in
+        let by_whole = part_by_whole old new old_graph new_graph moves whole whole_parts graphs k stage p ps along part.plan_is in
         let here = plays_by commits_run by_config before (part_change p) h x.lines (map part_change ps) w x.world m stage made course fits says plays in
         let next = onward each_may by_config leaves statements before (part_change p) h x.lines (map part_change ps) stage made are here.right (course_changes h w m course) fits says in
         let graph = (fits.stands none_).graph in
         let graph_w : IsGraphOf w.machine.config stage = subst (λ d. IsGraphOf d stage) (sym (course_config h w m course)) graph in
-        let one = part_committed done taken stage p stage_is next_is fits.sound.is_graph says.graph.is_graph h w m course graph_w x.lines x.world c t low mirrored in
+        let one = part_committed stage p by_whole h w m course graph_w x.lines x.world c t low mirrored in
         let fits_next : Fits (before ++ part_change p ∷ []) (h ++ x.lines) p.next next.made = subst (λ g. Fits (before ++ part_change p ∷ []) (h ++ x.lines) g next.made) next.named next.fits in
         let below : GoOnSoundly (map part_change ps) p.next next.made = subst (λ g. GoOnSoundly (map part_change ps) g next.made) next.named next.below in
         no_pending_both x.lines (lines_played qs) one
-        (all_committed (done ++ taken) left p.next ps rest (subst (AllPairs IsBefore) (sym (append_assoc done taken left)) rise) next_is (before ++ part_change p ∷ []) (h ++ x.lines) x.world here.members next.made
+        (all_committed whole whole_parts graphs left p.next ps (suc k) (along_next old new old_graph new_graph moves whole k stage p ps along) rest (before ++ part_change p ∷ []) (h ++ x.lines) x.world here.members next.made
         (are ∙ sym (append_assoc before (part_change p ∷ []) (map part_change ps))) here.course fits_next below (no_pending_both h x.lines none_ one)
         qs (tails_are x.statement (part_change p) (said qs) (map part_change ps) same) played.1 (t + c.rounds)
-        (part_soon done taken stage p stage_is next_is fits.sound.is_graph says.graph.is_graph h w m course graph_w x.lines x.world c t low mirrored)
-        (part_mirrored done taken stage p stage_is next_is fits.sound.is_graph says.graph.is_graph h w m course graph_w x.lines x.world c t low mirrored here.course.reached))
+        (part_soon stage p by_whole h w m course graph_w x.lines x.world c t low mirrored)
+        (part_mirrored stage p by_whole h w m course graph_w x.lines x.world c t low mirrored here.course.reached))

@@ -1,19 +1,19 @@
 -- A roll gives no part up where the change at once isn't given up.
-use Rattle.std.proofs.Common.{◌≡◌, ◌∙◌, ℕ, ℤ, ◌+◌, true, false, cond, List, [], ◌∷◌, ◌++◌, map, Option, Some, None, refl, sym, ap, subst, arith}
-use Rattle.std.specs.Prelude.{AllPairs}
+use Rattle.std.proofs.Common.{◌≡◌, ◌∙◌, ℕ, ℤ, Bool, ◌+◌, true, false, cond, List, [], ◌∷◌, ◌++◌, map, Option, Some, None, refl, sym, ap, subst, arith}
+use Rattle.std.specs.Prelude.{AllPairs, All}
 use Rattle.std.specs.List.{list_any}
 use Rattle.std.proofs.lemmas.Bool.{or_parts}
-use Rattle.std.proofs.lemmas.List.Elements.{All-nil}
+use Rattle.std.proofs.lemmas.List.Elements.{All-cons, All-nil}
 use Rattle.std.proofs.lemmas.List.Folds.{list_any-append}
 use Rattle.std.proofs.lemmas.Option.{none-some}
 use Rattle.base.specs.Each.{Each}
 use Rattle.base.proofs.PlaceLaws.{heads_are, tails_are}
 use Rattle.config_graph.specs.Graph.{Graph, IsGraph}
+use Rattle.config_graph.specs.declared.node.Made.{Made}
 use Rattle.change_plan.specs.declared.plan_data.Move.{Move}
 use Rattle.change_parts.specs.Parts.{AreParts}
 use Rattle.change_parts.specs.Rolls.{IsRoll, given_up_from, given_up_in, roll_statements}
 use Rattle.change_parts.specs.declared.part.Part.{Part}
-use Rattle.change_parts.proofs.StageLaws.{first_stage}
 use Rattle.quiesce_core.specs.Runs.{IsRun, Steps}
 use Rattle.quiesce_core.specs.Start.{started}
 use Rattle.quiesce_core.specs.State.{empty}
@@ -30,7 +30,7 @@ use Rattle.change_spec.proofs.SerialLaws.{one_course}
 use Rattle.node_turn_laws.specs.Reached.{IsReached}
 use Rattle.node_turn_laws.specs.World.{nowhere}
 use Rattle.change_round_laws.specs.Courses.{Course}
-use Rattle.change_round_laws.specs.SoundStatements.{AreSound, StartsSoundly}
+use Rattle.change_round_laws.specs.SoundStatements.{AreSound, GoOnSoundly, StartsSoundly}
 use Rattle.change_round_laws.proofs.CommitGraphLaws.{CommitsByConfiguration, CommitsLeaveGraphs, EachMayCommit, Fits, begun, few_nodes, few_ports, onward}
 use Rattle.change_round_laws.proofs.CourseLaws.{course_config}
 use Rattle.change_round_laws.proofs.PlayLaws.{CommitsRun, plays_by, starts_by}
@@ -40,18 +40,18 @@ use Rattle.result_laws.specs.Rolling.{at_once}
 use Rattle.result_laws.proofs.MirrorChanges.{mirrored_back}
 use Rattle.result_laws.proofs.Mirroring.{mirrors_itself}
 use Rattle.result_laws.proofs.OnceChanges.{waits_mirrored}
-use Rattle.result_laws.proofs.OnceParts.{all_committed}
+use Rattle.result_laws.proofs.OnceParts.{all_committed, along_all}
 
-none_given_up : (number : ℕ) (ps : List Played) → list_any is_pending (lines_played ps) ≡ false → given_up_from number ps ≡ None
-none_given_up number [] h = refl
-none_given_up number (p ∷ ps) h =
+none_given_up : (ps : List Played) → list_any is_pending (lines_played ps) ≡ false → (number : ℕ) → given_up_from number ps ≡ None
+none_given_up [] h number = refl
+none_given_up (p ∷ ps) h number =
     let parts = or_parts (list_any is_pending p.lines) (list_any is_pending (lines_played ps)) (sym (list_any-append is_pending p.lines (lines_played ps)) ∙ h) in
-    ap (λ b. cond b (Some number) (given_up_from (number + 1) ps)) parts.0 ∙ none_given_up (number + 1) ps parts.1
+    ap (λ b. cond b (Some number) (given_up_from (number + 1) ps)) parts.0 ∙ none_given_up ps parts.1 (number + 1)
 
 calm_if : (z : Played) → given_up_from 1 (z ∷ []) ≡ None → list_any is_pending z.lines ≡ false
 calm_if z h = by (list_any is_pending z.lines) refl h
   where
-    by : (b : Rattle.std.specs.Prelude.Bool) → list_any is_pending z.lines ≡ b → ◌≡◌ {A = Option ℕ} (cond b (Some 1) None) None → list_any is_pending z.lines ≡ false
+    by : (b : Bool) → list_any is_pending z.lines ≡ b → ◌≡◌ {A = Option ℕ} (cond b (Some 1) None) None → list_any is_pending z.lines ≡ false
     by true e g = absurd (none-some 1 (sym g))
     by false e g = e
 
@@ -72,15 +72,19 @@ module _ (each_may : EachMayCommit) (by_config : CommitsByConfiguration) (leaves
   abbrev whole : Statement
   whole = change new_name new_args new within moves
 
+  parts_graphs : (xs : List Part) (g : Graph) (made : Made) → GoOnSoundly (map part_change xs) g made → All (λ (x : Part). IsGraph x.next) xs
+  parts_graphs [] g made says = All-nil (λ (x : Part). IsGraph x.next)
+  parts_graphs (x ∷ xs) g made says = All-cons (λ (x : Part). IsGraph x.next) x xs says.graph.is_graph (parts_graphs xs x.next _ says.below)
+
   -- the start and the run, from which both go on
   record Begun (x y : Played) : Type 0 where
     members : List Member
     course : Course (x.lines ++ y.lines) y.world members
     graph : Graph
     is_old : graph ≡ old
-    made : Rattle.config_graph.specs.declared.node.Made.Made
+    made : Made
     fits : Fits (first ∷ second ∷ []) (x.lines ++ y.lines) graph made
-    below : Rattle.change_round_laws.specs.SoundStatements.GoOnSoundly (map part_change ps) graph made
+    below : GoOnSoundly (map part_change ps) graph made
     calm : list_any is_pending (x.lines ++ y.lines) ≡ false
 
   began : (x y : Played) → Plays [] nowhere first x.lines x.world → Plays x.lines x.world second y.lines y.world → Begun x y
@@ -118,13 +122,13 @@ module _ (each_may : EachMayCommit) (by_config : CommitsByConfiguration) (leaves
       let says : StartsSoundly old (second ∷ map part_change ps) = sound in
       let old_graph = says.graph.is_graph in
       let fits = subst (λ g. Fits (first ∷ second ∷ []) h g b.made) b.is_old b.fits in
-      let below = subst (λ g. Rattle.change_round_laws.specs.SoundStatements.GoOnSoundly (map part_change ps) g b.made) b.is_old b.below in
+      let below = subst (λ g. GoOnSoundly (map part_change ps) g b.made) b.is_old b.below in
       let graph : IsGraphOf y.world.machine.config old = subst (λ d. IsGraphOf d old) (sym (course_config h y.world b.members b.course)) (fits.stands b.calm).graph in
       let once = plays_z.1 b.calm in
       let reached = b.course.reached in
       let mirrored = waits_mirrored h y.world b.members b.course new_name new_args new within moves z.lines z.world once y.world (record { away = λ n. false; mirrors = mirrors_itself y.world reached }) in
       all_committed old new old_graph new_graph moves new_name new_args within h y.world b.members b.course graph z.lines z.world once calm each_may by_config leaves commits_run
-      (roll_statements name args old k new_name new_args within ps) [] parts.groups old ps parts.parts parts.are_groups.rise (first_stage old new old_graph new_graph moves)
+      (roll_statements name args old k new_name new_args within ps) ps parts (parts_graphs ps old b.made below) parts.groups old ps 0 (along_all old new old_graph new_graph moves ps) parts.parts
       (first ∷ second ∷ []) h y.world b.members b.made refl b.course fits below b.calm qs same played 0 (omega arith)
       (mirrored_back y.world (Rattle.change_spec.specs.Serial.after_changes y.world (map Rattle.quiesce_core.specs.declared.event.Event.TheVariants.Close once.closed)) mirrored)
 
@@ -151,9 +155,9 @@ module _ (each_may : EachMayCommit) (by_config : CommitsByConfiguration) (leaves
           let same_y : y' ≡ y = heads_are y' y [] [] (tails_are x' x (y' ∷ []) (y ∷ []) both) in
           let later : PlayedAfter (x.lines ++ y.lines) y.world qs =
           subst (λ (u : Played). PlayedAfter (x.lines ++ u.lines) u.world qs) same_y (subst (λ (u : Played). PlayedAfter (u.lines ++ y'.lines) y'.world qs) same_x p'.1.1) in
-          none_given_up 1 qs
+          none_given_up qs
           (parts_commit x y z qs (subst (λ s. Plays [] nowhere s x.lines x.world) is_x p.0) (subst (λ s. Plays x.lines x.world s y.lines y.world) is_y p.1.0)
-          (subst (λ s. Plays (x.lines ++ y.lines) y.world s z.lines z.world) is_z p.1.1.0) (calm_if z calm) e3' later)
+          (subst (λ s. Plays (x.lines ++ y.lines) y.world s z.lines z.world) is_z p.1.1.0) (calm_if z calm) e3' later) 1
       by [] e each calm qs e' each' = absurd (cc e)
       by (x ∷ []) e each calm qs e' each' = absurd (cc (tails_are (said x) first [] (second ∷ whole ∷ []) e))
       by (x ∷ y ∷ []) e each calm qs e' each' = absurd (cc (tails_are (said y) second [] (whole ∷ []) (tails_are (said x) first (said y ∷ []) (second ∷ whole ∷ []) e)))
