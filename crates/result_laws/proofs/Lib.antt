@@ -80,3 +80,4 @@ pub mod OnceChanges
 pub mod OnceParts
 pub mod OnceRolls
 pub mod WorkedPlaces
+pub mod OnceThere

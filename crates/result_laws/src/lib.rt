@@ -23,7 +23,9 @@ pub use laws::{
     consistent_reports_keep_what_runs_keep, runs_keep_items_and_forks,
     runs_of_banks_keep_their_sums, runs_of_rows_have_their_items,
 };
-pub use roll_laws::{rolls_commit_what_commits_at_once, rolls_keep_items};
+pub use roll_laws::{
+    changes_at_once_are_there, rolls_commit_what_commits_at_once, rolls_keep_items,
+};
 pub use row_laws::{
     rows_are_told_from_others, rows_have_their_items, sources_are_never_answered_0,
 };

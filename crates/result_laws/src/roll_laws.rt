@@ -1,11 +1,16 @@
 //! What a roll keeps, and that it does no worse than the change at once.
 
-ghost use Rattle.std.specs.Prelude.{◌≡◌, ℕ, ℤ, List, None, Option};
+ghost use Rattle.std.specs.Prelude.{◌≡◌, ◌≤◌, ℕ, ℤ, List, None, Option, take};
 ghost use Rattle.config_graph.specs.Graph.{Graph, IsGraph};
+ghost use Rattle.config_graph.specs.Sound.{Sound};
+ghost use Rattle.change_plan.specs.Refusals.{CanPlan};
+ghost use Rattle.change_plan.specs.Room.{HasRoomFor};
 ghost use Rattle.change_plan.specs.declared.plan_data.Move.{Move};
+ghost use Rattle.change_spec.specs.Scripts.{nothing_made};
 ghost use Rattle.change_spec.specs.Serial.{world_after};
 ghost use Rattle.change_spec.specs.Statements.{Statement};
-ghost use Rattle.change_round_laws.specs.SoundStatements.{AreSound};
+ghost use Rattle.change_round_laws.specs.SoundStatements.{AreSound, made_of_graph};
+ghost use Rattle.quiesce_core.specs.Rest.{rest};
 ghost use Rattle.change_parts.specs.Parts.{AreParts};
 ghost use Rattle.change_parts.specs.Rolls.{IsRoll, roll_statements};
 ghost use Rattle.change_parts.specs.declared.part.Part.{Part};
@@ -16,7 +21,9 @@ ghost use Rattle.result_laws.specs.Rolling.{ItemsBalance, at_once};
 use crate::items_are_kept_at_each_place;
 use change_parts::no_link_is_lost;
 use change_plan_laws::{commits_can_not_fail, commits_leave_the_new_graph, each_plan_may_commit};
-use change_round_laws::{a_sound_script_has_a_report, reports_of_rounds_are_lawful};
+use change_round_laws::{
+    a_sound_script_has_a_report, changes_in_a_row_drain_together, reports_of_rounds_are_lawful,
+};
 
 /// Where a roll ends, given up or not, no item is lost: buffers and sinks hold what sources have sent by then, with what is
 /// under way. Its stages link kinds as the two graphs do between which it leads.
@@ -48,4 +55,24 @@ pub fn rolls_commit_what_commits_at_once()
     each_plan_may_commit();
     commits_can_not_fail();
     commits_leave_the_new_graph();
+}
+
+/// Such a change is there behind each start and run, given up or not, and it is committed where no more events are left
+/// behind the run than it may wait for rounds. So the premise above is met by each sound change that may wait for long.
+pub fn changes_at_once_are_there()
+    ensures sound { (name : List ℕ) (args : List ℤ) (old : Graph) (k : ℕ) (new_name : List ℕ) (new_args : List ℤ) (within : ℕ)
+        (new : Graph) (moves : List Move) → Sound old → HasRoomFor nothing_made old → IsGraph new → Sound new
+        → CanPlan old new moves (made_of_graph old)
+        → AreSound (at_once name args old k new_name new_args within new moves) }
+    ensures there { (name : List ℕ) (args : List ℤ) (old : Graph) (k : ℕ) (new_name : List ℕ) (new_args : List ℤ) (within : ℕ)
+        (new : Graph) (moves : List Move) → AreSound (at_once name args old k new_name new_args within new moves)
+        → (given_up : Option ℕ) × IsRoll (at_once name args old k new_name new_args within new moves) given_up }
+    ensures committed { (name : List ℕ) (args : List ℤ) (old : Graph) (k : ℕ) (new_name : List ℕ) (new_args : List ℤ)
+        (within : ℕ) (new : Graph) (moves : List Move) (given_up : Option ℕ)
+        → AreSound (at_once name args old k new_name new_args within new moves)
+        → (once : IsRoll (at_once name args old k new_name new_args within new moves) given_up)
+        → rest (world_after (take 2 once.played)).machine ≤ within → given_up ≡ None }
+{
+    a_sound_script_has_a_report();
+    changes_in_a_row_drain_together();
 }
