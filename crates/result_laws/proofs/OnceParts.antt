@@ -57,6 +57,7 @@ use Rattle.change_round_laws.proofs.CourseLaws.{course_config}
 use Rattle.change_round_laws.proofs.PlayLaws.{CommitsRun, plays_by}
 use Rattle.change_round_laws.proofs.RoundLaws.{PlayedAfter, course_changes}
 use Rattle.change_round_laws.proofs.TogetherLaws.{no_pending_both}
+use Rattle.result_laws.specs.Rolling.{WaitedFor, WaitedInAll}
 use Rattle.result_laws.proofs.MirrorChanges.{Mirrored}
 use Rattle.result_laws.proofs.OnceChanges.{committed, drained_if, no_more, none_at_last, none_left_if, none_left_then, rounds_config, rounds_mirrored, rounds_reached, shut_then, soon, waits_mirrored, waits_same, world_mirrored}
 
@@ -152,6 +153,13 @@ module _ (old new : Graph) (old_graph : IsGraph old) (new_graph : IsGraph new) (
         | inl here ↦ inl here
         | inr made ↦ inr (parts_create_new [] parts.groups old whole parts.parts parts.are_groups.rise (first_stage old new old_graph new_graph moves) made.0 made.2.0 n made.2.1 made.2.2)
       ]
+
+-- what comes of changes that were tried from a world on, where the first begins behind so many rounds
+pub record AllGo (most t : ℕ) (w : World) (qs : List Played) : Type 0 where
+  pub calm : list_any is_pending (lines_played qs) ≡ false
+  pub rounds : ℕ
+  pub few : t + rounds ≤ most
+  pub waited : WaitedInAll w qs rounds
 
 -- ---- one part, beside the change at once
 
@@ -302,8 +310,9 @@ module _ (old new : Graph) (old_graph : IsGraph old) (new_graph : IsGraph new) (
     pub all_committed : (whole : List Part) (parts : AreParts old new moves whole) → All (λ (x : Part). IsGraph x.next) whole → (groups : List (List ℕ)) (stage : Graph) (ps : List Part) (k : ℕ)
         → IsAlong old new old_graph new_graph moves whole k stage ps → ArePartsFrom old new moves stage groups ps → (before : List Statement) (h : List HistoryLine) (w : World) (m : List Member) (made : Made) → statements ≡ before ++ map part_change ps → Course h w m → Fits before h stage made → GoOnSoundly (map part_change ps) stage made
         → list_any is_pending h ≡ false → (qs : List Played) → said qs ≡ map part_change ps → PlayedAfter h w qs → (t : ℕ) → t ≤ once.rounds
-        → Mirrored (after_rounds false (after_changes w0 (map event.Close once.closed)) t) w → list_any is_pending (lines_played qs) ≡ false
-    all_committed whole whole_parts graphs groups stage [] k along parts before h w m made are course fits says none_ [] same played t low mirrored = refl
+        → Mirrored (after_rounds false (after_changes w0 (map event.Close once.closed)) t) w → AllGo once.rounds t w qs
+    all_committed whole whole_parts graphs groups stage [] k along parts before h w m made are course fits says none_ [] same played t low mirrored =
+        record { calm = refl; rounds = 0; few = omega (arith, low); waited = refl }
     all_committed whole whole_parts graphs groups stage [] k along parts before h w m made are course fits says none_ (x ∷ qs) same played t low mirrored = absurd (cc same)
     all_committed whole whole_parts graphs groups stage (p ∷ ps) k along parts before h w m made are course fits says none_ [] same played t low mirrored = absurd (cc same)
     all_committed whole whole_parts graphs _ stage _ k along (then_ {taken = taken} {left = left} {p = p} {ps = ps} part rest) before h w m made are course fits says none_ (x ∷ qs) same played t low mirrored =
@@ -318,9 +327,16 @@ module _ (old new : Graph) (old_graph : IsGraph old) (new_graph : IsGraph new) (
         let one = part_committed stage p by_whole h w m course graph_w x.lines x.world c t low mirrored in
         let fits_next : Fits (before ++ part_change p ∷ []) (h ++ x.lines) p.next next.made = subst (λ g. Fits (before ++ part_change p ∷ []) (h ++ x.lines) g next.made) next.named next.fits in
         let below : GoOnSoundly (map part_change ps) p.next next.made = subst (λ g. GoOnSoundly (map part_change ps) g next.made) next.named next.below in
-        no_pending_both x.lines (lines_played qs) one
-        (all_committed whole whole_parts graphs left p.next ps (suc k) (along_next old new old_graph new_graph moves whole k stage p ps along) rest (before ++ part_change p ∷ []) (h ++ x.lines) x.world here.members next.made
+        let later =
+        all_committed whole whole_parts graphs left p.next ps (suc k) (along_next old new old_graph new_graph moves whole k stage p ps along) rest (before ++ part_change p ∷ []) (h ++ x.lines) x.world here.members next.made
         (are ∙ sym (append_assoc before (part_change p ∷ []) (map part_change ps))) here.course fits_next below (no_pending_both h x.lines none_ one)
         qs (tails_are x.statement (part_change p) (said qs) (map part_change ps) same) played.1 (t + c.rounds)
         (part_soon stage p by_whole h w m course graph_w x.lines x.world c t low mirrored)
-        (part_mirrored stage p by_whole h w m course graph_w x.lines x.world c t low mirrored here.course.reached))
+        (part_mirrored stage p by_whole h w m course graph_w x.lines x.world c t low mirrored here.course.reached) in
+        let sum = later.few in
+        record {
+          calm = no_pending_both x.lines (lines_played qs) one later.calm;
+          rounds = c.rounds + later.rounds;
+          few = omega (arith, sum);
+          waited = (c.rounds, later.rounds, refl, subst (λ s. WaitedFor w s x.lines x.world c.rounds) (sym is) (c, refl), later.waited);
+        }

@@ -36,11 +36,11 @@ use Rattle.change_round_laws.proofs.CourseLaws.{course_config}
 use Rattle.change_round_laws.proofs.PlayLaws.{CommitsRun, plays_by, starts_by}
 use Rattle.change_round_laws.proofs.RoundLaws.{PlayedAfter, course_changes, kept_start, played_after}
 use Rattle.change_round_laws.proofs.TogetherLaws.{no_pending_both, no_pending_events}
-use Rattle.result_laws.specs.Rolling.{at_once}
+use Rattle.result_laws.specs.Rolling.{WaitTogether, WaitedInAll, at_once}
 use Rattle.result_laws.proofs.MirrorChanges.{mirrored_back}
 use Rattle.result_laws.proofs.Mirroring.{mirrors_itself}
-use Rattle.result_laws.proofs.OnceChanges.{waits_mirrored}
-use Rattle.result_laws.proofs.OnceParts.{all_committed, along_all}
+use Rattle.result_laws.proofs.OnceChanges.{no_more, waits_mirrored}
+use Rattle.result_laws.proofs.OnceParts.{AllGo, all_committed, along_all}
 
 none_given_up : (ps : List Played) → list_any is_pending (lines_played ps) ≡ false → (number : ℕ) → given_up_from number ps ≡ None
 none_given_up [] h number = refl
@@ -115,7 +115,7 @@ module _ (each_may : EachMayCommit) (by_config : CommitsByConfiguration) (leaves
 
   -- the parts behind them, beside the change at once
   parts_commit : (x y z : Played) (qs : List Played) → Plays [] nowhere first x.lines x.world → Plays x.lines x.world second y.lines y.world → Plays (x.lines ++ y.lines) y.world whole z.lines z.world → list_any is_pending z.lines ≡ false
-      → map said qs ≡ map part_change ps → PlayedAfter (x.lines ++ y.lines) y.world qs → list_any is_pending (lines_played qs) ≡ false
+      → map said qs ≡ map part_change ps → PlayedAfter (x.lines ++ y.lines) y.world qs → AllGo within 0 y.world qs
   parts_commit x y z qs plays_x plays_y plays_z calm same played =
       let b = began x y plays_x plays_y in
       let h = x.lines ++ y.lines in
@@ -127,42 +127,62 @@ module _ (each_may : EachMayCommit) (by_config : CommitsByConfiguration) (leaves
       let once = plays_z.1 b.calm in
       let reached = b.course.reached in
       let mirrored = waits_mirrored h y.world b.members b.course new_name new_args new within moves z.lines z.world once y.world (record { away = λ n. false; mirrors = mirrors_itself y.world reached }) in
+      let all =
       all_committed old new old_graph new_graph moves new_name new_args within h y.world b.members b.course graph z.lines z.world once calm each_may by_config leaves commits_run
       (roll_statements name args old k new_name new_args within ps) ps parts (parts_graphs ps old b.made below) parts.groups old ps 0 (along_all old new old_graph new_graph moves ps) parts.parts
       (first ∷ second ∷ []) h y.world b.members b.made refl b.course fits below b.calm qs same played 0 (omega arith)
-      (mirrored_back y.world (Rattle.change_spec.specs.Serial.after_changes y.world (map Rattle.quiesce_core.specs.declared.event.Event.TheVariants.Close once.closed)) mirrored)
+      (mirrored_back y.world (Rattle.change_spec.specs.Serial.after_changes y.world (map Rattle.quiesce_core.specs.declared.event.Event.TheVariants.Close once.closed)) mirrored) in
+      let high = no_more h y.world b.members b.course new_name new_args new within moves z.lines z.world once in
+      let sum = all.few in
+      record { calm = all.calm; rounds = all.rounds; few = omega (arith, high, sum); waited = all.waited }
 
-  pub no_part_given_up : (given_up : Option ℕ) → IsRoll (at_once name args old k new_name new_args within new moves) None → IsRoll (roll_statements name args old k new_name new_args within ps) given_up → given_up ≡ None
-  no_part_given_up given_up once roll = roll.given_up_is ∙ by once.played once.statements_are once.are_played (sym once.given_up_is) roll.played roll.statements_are roll.are_played
-    where
-      by : (us : List Played) → map said us ≡ at_once name args old k new_name new_args within new moves → Each IsPlayed us → given_up_in us ≡ None
-          → (qs : List Played) → map said qs ≡ roll_statements name args old k new_name new_args within ps → Each IsPlayed qs → given_up_in qs ≡ None
-      by (x ∷ y ∷ z ∷ []) e each calm (x' ∷ y' ∷ qs) e' each' =
-          let e2 = tails_are (said x) first (said y ∷ said z ∷ []) (second ∷ whole ∷ []) e in
-          let e3 = tails_are (said y) second (said z ∷ []) (whole ∷ []) e2 in
-          let e2' = tails_are (said x') first (said y' ∷ map said qs) (second ∷ map part_change ps) e' in
-          let e3' = tails_are (said y') second (map said qs) (map part_change ps) e2' in
-          let is_x : said x ≡ first = heads_are (said x) first (said y ∷ said z ∷ []) (second ∷ whole ∷ []) e in
-          let is_y : said y ≡ second = heads_are (said y) second (said z ∷ []) (whole ∷ []) e2 in
-          let is_z : said z ≡ whole = heads_are (said z) whole [] [] e3 in
-          let is_x' : said x' ≡ first = heads_are (said x') first (said y' ∷ map said qs) (second ∷ map part_change ps) e' in
-          let is_y' : said y' ≡ second = heads_are (said y') second (map said qs) (map part_change ps) e2' in
-          let p = played_after [] (x ∷ y ∷ z ∷ []) each in
-          let p' = played_after [] (x' ∷ y' ∷ qs) each' in
-          let both : ◌≡◌ {A = List Played} (x' ∷ y' ∷ []) (x ∷ y ∷ []) =
-          one_course [] (x' ∷ y' ∷ []) (x ∷ y ∷ []) (each'.0, (each'.1.0, tt)) (each.0, (each.1.0, tt)) (λ i. (is_x' ∙ sym is_x) i ∷ (is_y' ∙ sym is_y) i ∷ []) in
-          let same_x : x' ≡ x = heads_are x' x (y' ∷ []) (y ∷ []) both in
-          let same_y : y' ≡ y = heads_are y' y [] [] (tails_are x' x (y' ∷ []) (y ∷ []) both) in
-          let later : PlayedAfter (x.lines ++ y.lines) y.world qs =
-          subst (λ (u : Played). PlayedAfter (x.lines ++ u.lines) u.world qs) same_y (subst (λ (u : Played). PlayedAfter (u.lines ++ y'.lines) y'.world qs) same_x p'.1.1) in
-          none_given_up qs
-          (parts_commit x y z qs (subst (λ s. Plays [] nowhere s x.lines x.world) is_x p.0) (subst (λ s. Plays x.lines x.world s y.lines y.world) is_y p.1.0)
-          (subst (λ s. Plays (x.lines ++ y.lines) y.world s z.lines z.world) is_z p.1.1.0) (calm_if z calm) e3' later) 1
-      by [] e each calm qs e' each' = absurd (cc e)
-      by (x ∷ []) e each calm qs e' each' = absurd (cc (tails_are (said x) first [] (second ∷ whole ∷ []) e))
-      by (x ∷ y ∷ []) e each calm qs e' each' = absurd (cc (tails_are (said y) second [] (whole ∷ []) (tails_are (said x) first (said y ∷ []) (second ∷ whole ∷ []) e)))
-      by (x ∷ y ∷ z ∷ u ∷ us) e each calm qs e' each' =
-          absurd (cc (tails_are (said z) whole (said u ∷ map said us) []
-          (tails_are (said y) second (said z ∷ said u ∷ map said us) (whole ∷ []) (tails_are (said x) first (said y ∷ said z ∷ said u ∷ map said us) (second ∷ whole ∷ []) e))))
-      by (x ∷ y ∷ z ∷ []) e each calm [] e' each' = absurd (cc e')
-      by (x ∷ y ∷ z ∷ []) e each calm (x' ∷ []) e' each' = absurd (cc (tails_are (said x') first [] (second ∷ map part_change ps) e'))
+  record Done (qs : List Played) : Type 0 where
+    none : given_up_in qs ≡ None
+    together : WaitTogether within qs
+
+  done_by : (us : List Played) → map said us ≡ at_once name args old k new_name new_args within new moves → Each IsPlayed us → given_up_in us ≡ None
+      → (qs : List Played) → map said qs ≡ roll_statements name args old k new_name new_args within ps → Each IsPlayed qs → Done qs
+  done_by (x ∷ y ∷ z ∷ []) e each calm (x' ∷ y' ∷ qs) e' each' =
+      let e2 = tails_are (said x) first (said y ∷ said z ∷ []) (second ∷ whole ∷ []) e in
+      let e3 = tails_are (said y) second (said z ∷ []) (whole ∷ []) e2 in
+      let e2' = tails_are (said x') first (said y' ∷ map said qs) (second ∷ map part_change ps) e' in
+      let e3' = tails_are (said y') second (map said qs) (map part_change ps) e2' in
+      let is_x : said x ≡ first = heads_are (said x) first (said y ∷ said z ∷ []) (second ∷ whole ∷ []) e in
+      let is_y : said y ≡ second = heads_are (said y) second (said z ∷ []) (whole ∷ []) e2 in
+      let is_z : said z ≡ whole = heads_are (said z) whole [] [] e3 in
+      let is_x' : said x' ≡ first = heads_are (said x') first (said y' ∷ map said qs) (second ∷ map part_change ps) e' in
+      let is_y' : said y' ≡ second = heads_are (said y') second (map said qs) (map part_change ps) e2' in
+      let p = played_after [] (x ∷ y ∷ z ∷ []) each in
+      let p' = played_after [] (x' ∷ y' ∷ qs) each' in
+      let both : ◌≡◌ {A = List Played} (x' ∷ y' ∷ []) (x ∷ y ∷ []) =
+      one_course [] (x' ∷ y' ∷ []) (x ∷ y ∷ []) (each'.0, (each'.1.0, tt)) (each.0, (each.1.0, tt)) (λ i. (is_x' ∙ sym is_x) i ∷ (is_y' ∙ sym is_y) i ∷ []) in
+      let same_x : x' ≡ x = heads_are x' x (y' ∷ []) (y ∷ []) both in
+      let same_y : y' ≡ y = heads_are y' y [] [] (tails_are x' x (y' ∷ []) (y ∷ []) both) in
+      let later : PlayedAfter (x.lines ++ y.lines) y.world qs =
+      subst (λ (u : Played). PlayedAfter (x.lines ++ u.lines) u.world qs) same_y (subst (λ (u : Played). PlayedAfter (u.lines ++ y'.lines) y'.world qs) same_x p'.1.1) in
+      let all =
+      parts_commit x y z qs (subst (λ s. Plays [] nowhere s x.lines x.world) is_x p.0) (subst (λ s. Plays x.lines x.world s y.lines y.world) is_y p.1.0)
+      (subst (λ s. Plays (x.lines ++ y.lines) y.world s z.lines z.world) is_z p.1.1.0) (calm_if z calm) e3' later in
+      let most = all.few in
+      record {
+        none = none_given_up qs all.calm 1;
+        together = record { rounds = all.rounds; few = omega (arith, most); waited = subst (λ (u : Played). WaitedInAll u.world qs all.rounds) (sym same_y) all.waited };
+      }
+  done_by [] e each calm qs e' each' = absurd (cc e)
+  done_by (x ∷ []) e each calm qs e' each' = absurd (cc (tails_are (said x) first [] (second ∷ whole ∷ []) e))
+  done_by (x ∷ y ∷ []) e each calm qs e' each' = absurd (cc (tails_are (said y) second [] (whole ∷ []) (tails_are (said x) first (said y ∷ []) (second ∷ whole ∷ []) e)))
+  done_by (x ∷ y ∷ z ∷ u ∷ us) e each calm qs e' each' =
+      absurd (cc (tails_are (said z) whole (said u ∷ map said us) []
+      (tails_are (said y) second (said z ∷ said u ∷ map said us) (whole ∷ []) (tails_are (said x) first (said y ∷ said z ∷ said u ∷ map said us) (second ∷ whole ∷ []) e))))
+  done_by (x ∷ y ∷ z ∷ []) e each calm [] e' each' = absurd (cc e')
+  done_by (x ∷ y ∷ z ∷ []) e each calm (x' ∷ []) e' each' = absurd (cc (tails_are (said x') first [] (second ∷ map part_change ps) e'))
+
+  module _ (given_up : Option ℕ) (once : IsRoll (at_once name args old k new_name new_args within new moves) None) (roll : IsRoll (roll_statements name args old k new_name new_args within ps) given_up) where
+    all_done : Done roll.played
+    all_done = done_by once.played once.statements_are once.are_played (sym once.given_up_is) roll.played roll.statements_are roll.are_played
+
+    pub no_part_given_up : given_up ≡ None
+    no_part_given_up = roll.given_up_is ∙ all_done.none
+
+    pub wait_together : WaitTogether within roll.played
+    wait_together = all_done.together

@@ -16,7 +16,7 @@ ghost use Rattle.change_parts.specs.Rolls.{IsRoll, roll_statements};
 ghost use Rattle.change_parts.specs.declared.part.Part.{Part};
 ghost use Rattle.result_laws.specs.Describing.{LinksAre};
 ghost use Rattle.result_laws.specs.Flows.{AreApart, same_side};
-ghost use Rattle.result_laws.specs.Rolling.{ItemsBalance, at_once};
+ghost use Rattle.result_laws.specs.Rolling.{ItemsBalance, WaitTogether, at_once};
 
 use crate::items_are_kept_at_each_place;
 use change_parts::no_link_is_lost;
@@ -43,7 +43,7 @@ pub fn rolls_keep_items()
 }
 
 /// Where the change at once is committed within so many rounds, behind the same start and run, each part is committed
-/// within as many: the roll gives none up. What a part waits for the whole waits for too, or an earlier part made it and
+/// within as many: the roll gives none up. And all of them together wait for no more rounds. What a part waits for the whole waits for too, or an earlier part made it and
 /// it never began anything; and the nodes that no part has touched go on in the same way.
 pub fn rolls_commit_what_commits_at_once()
     ensures all { (name : List ℕ) (args : List ℤ) (old : Graph) (k : ℕ) (new_name : List ℕ) (new_args : List ℤ) (within : ℕ)
@@ -51,6 +51,12 @@ pub fn rolls_commit_what_commits_at_once()
         → AreSound (roll_statements name args old k new_name new_args within ps)
         → IsRoll (at_once name args old k new_name new_args within new moves) None
         → IsRoll (roll_statements name args old k new_name new_args within ps) given_up → given_up ≡ None }
+    ensures together { (name : List ℕ) (args : List ℤ) (old : Graph) (k : ℕ) (new_name : List ℕ) (new_args : List ℤ) (within : ℕ)
+        (new : Graph) (moves : List Move) (ps : List Part) (given_up : Option ℕ) → IsGraph new → AreParts old new moves ps
+        → AreSound (roll_statements name args old k new_name new_args within ps)
+        → IsRoll (at_once name args old k new_name new_args within new moves) None
+        → (roll : IsRoll (roll_statements name args old k new_name new_args within ps) given_up)
+        → WaitTogether within roll.played }
 {
     each_plan_may_commit();
     commits_can_not_fail();
