@@ -1,6 +1,6 @@
 -- What nodes that are away stand apart from stays so, and turns of nodes keep worlds alike.
 use Rattle.std.proofs.Common.{◌≡◌, ◌∙◌, ℕ, suc, ◌+◌, ◌-◌, ◌<◌, ◌≤◌, Bool, true, false, cond, List, [], ◌∷◌, ◌++◌, length, set, Option, Some, None, refl, sym, ap, subst, ⊎_elim, arith, length-set}
-use Rattle.std.specs.Prelude.{◌==◌, ◌||◌, IsTrue, fold, not, option_map, slice_index_or}
+use Rattle.std.specs.Prelude.{◌==◌, IsTrue, fold, not, option_map, slice_index_or}
 use Rattle.std.specs.List.{enumerate_from}
 use Rattle.std.specs.Option.{option_map_or}
 use Rattle.std.proofs.lemmas.Bool.{and_parts, both_ways, cases_Bool, cases_eq, cases_lt, eq-eqb, eqb-true, ne_eqb, or_right}
@@ -12,7 +12,6 @@ use Rattle.config_graph.specs.Wiring.{Reach, direct, through}
 use Rattle.config_graph.specs.declared.node.Target.{Target}
 use Rattle.component_trait.specs.Fold.{fold_next}
 use Rattle.quiesce_word.specs.Phases.{is_asked, is_idle, is_in_more}
-use Rattle.quiesce_word.specs.declared.phase.Phase.{Phase}
 use Rattle.quiesce_word.specs.declared.phase.Phase.TheVariants as phase
 use Rattle.quiesce_word.proofs.PhaseLaws.{asked_busy, serving_busy}
 use Rattle.quiesce_core.specs.Alters.{exchange_next, service_by, service_next}

@@ -1,15 +1,15 @@
 -- The parts of a change, one after the other, in the rounds in which the whole change would be made at once: what a part
 -- freezes the whole freezes, or an earlier part made it; so it is drained by the round at which the whole is.
-use Rattle.std.proofs.Common.{◌≡◌, ◌∙◌, ℕ, ℤ, ◌+◌, ◌-◌, ◌<◌, ◌≤◌, inl, inr, true, false, List, [], ◌∷◌, ◌++◌, append_assoc, length, map, Some, refl, sym, ap, subst, ⊎_elim, arith, zero, suc, ◌⊎◌, None, Option}
+use Rattle.std.proofs.Common.{◌≡◌, ◌∙◌, ℕ, ℤ, ◌+◌, ◌-◌, ◌<◌, ◌≤◌, inl, inr, true, false, List, [], ◌∷◌, ◌++◌, append_assoc, length, map, Some, refl, sym, ap, subst, ⊎_elim, arith, zero, suc, ◌⊎◌}
 use Rattle.std.specs.Prelude.{◌||◌, AllPairs, Contains, is_some, slice_get, All}
 use Rattle.std.specs.List.{list_any}
 use Rattle.std.proofs.lemmas.Bool.{and_from, and_parts, cases_Bool, or_left}
-use Rattle.std.proofs.lemmas.Option.{same_Some, slice_get_within, none-some}
+use Rattle.std.proofs.lemmas.Option.{same_Some, none-some}
 use Rattle.config_graph.specs.declared.node.Node.{Node}
 use Rattle.change_parts.specs.Freezing.{IsFrozenAt}
 use Rattle.change_parts.specs.Ties.{IsCreated}
 use Rattle.base.proofs.ContainsLaws.{any_if, any_of, Contains-at}
-use Rattle.base.proofs.PlaceLaws.{heads_are, slice_get-there, tails_are}
+use Rattle.base.proofs.PlaceLaws.{heads_are, tails_are}
 use Rattle.config_graph.specs.Cycles.{IsLinked, graph_wiring}
 use Rattle.config_graph.specs.Graph.{Graph, IsGraph}
 use Rattle.config_graph.specs.Wiring.{Reach, direct, through}
@@ -17,7 +17,7 @@ use Rattle.config_graph.specs.declared.node.Made.{Made}
 use Rattle.config_graph.specs.declared.node.Port.{Port}
 use Rattle.config_graph.proofs.GraphByLaws.{one_graph}
 use Rattle.change_plan.specs.Plans.{IsPlanOf}
-use Rattle.change_plan.specs.Touched.{Frozen, IsTouched}
+use Rattle.change_plan.specs.Touched.{Frozen}
 use Rattle.change_plan.specs.declared.plan_data.Move.{Move}
 use Rattle.change_plan_laws.specs.Commit.{is_one_of, ports_to_close, stands_in}
 use Rattle.change_plan_laws.proofs.StandingLaws.{in_if_stands, stands_if_in}
