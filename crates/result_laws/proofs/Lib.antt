@@ -81,3 +81,4 @@ pub mod OnceParts
 pub mod OnceRolls
 pub mod WorkedPlaces
 pub mod OnceThere
+pub mod Eating

@@ -5,6 +5,7 @@ mod bank_laws;
 mod come_laws;
 mod flow_laws;
 mod laws;
+mod meal_laws;
 mod roll_laws;
 mod row_laws;
 mod script_laws;
@@ -23,6 +24,7 @@ pub use laws::{
     consistent_reports_keep_what_runs_keep, runs_keep_items_and_forks,
     runs_of_banks_keep_their_sums, runs_of_rows_have_their_items,
 };
+pub use meal_laws::meals_are_counted;
 pub use roll_laws::{
     changes_at_once_are_there, rolls_commit_what_commits_at_once, rolls_keep_items,
 };
