@@ -11,6 +11,7 @@ TOP = os.path.dirname(HERE)
 BUILT = os.path.join(TOP, "crates", "darwin_run", "out", "darwin_run")
 SECONDS = 20
 SHOWN = 300
+FORM = re.compile(rb"darwin_run [^\n]+\n")
 MOST = 4
 
 
@@ -44,12 +45,13 @@ class Ran(NamedTuple):
     errors: bytes
 
     def fault(self):
-        """Why no run may end so, or None."""
+        """Why no run may end so, or None. Behind `usage` a form may be noted."""
         if self.status is None:
             return "no end within %d seconds" % SECONDS
         if self.status < 0:
             return "ended by signal %d" % -self.status
-        return "wrote %r to standard error" % self.errors[:SHOWN] if self.errors else None
+        noted = self.status == 1 and FORM.fullmatch(self.errors)
+        return "wrote %r to standard error" % self.errors[:SHOWN] if self.errors and not noted else None
 
     def unlike(self, *wanted):
         """Why no run may end so, or what was wanted, each as (status, text), and what came, where that is none of them; else None."""

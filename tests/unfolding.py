@@ -114,8 +114,8 @@ class Specs:
                 left += self.resolved((crate, name), module.names(word, self.constructors.__contains__))
         return found
 
-    def of_clauses(self, code, function, named=None):
-        """The names to which the clauses of a public function unfold, or those of these names, by the text of its file."""
+    def of_clauses(self, code, function, named=None, but=()):
+        """The names to which the clauses of a public function unfold, or those of these names, by the text of its file; `but` aren't followed."""
         bare = re.sub(r"(?m)^\s*(?://|ghost use).*", "", code)
         start = re.search(r"pub fn %s\b" % function, bare)
         end = start and re.search(r"(?m)^\s*\{", bare[start.end():])
@@ -126,7 +126,7 @@ class Specs:
             clauses = [clause for clause in clauses if re.match(r"ensures (?:%s) " % "|".join(named), clause)]
         known, roots = imports(code), []
         for head, *others in (word.split(".") for word in re.findall(WORD, "\n".join(clauses))):
-            if head in known:
+            if head in known and head not in but:
                 crate, module, definition = known[head]
                 roots.append((crate, module, definition or "".join(others[:1])))
         return self.unfolded(roots)

@@ -9,9 +9,15 @@ _darwin_run() {
   local IFS=$'\n'
   [[ $command == apply ]] && file=${COMP_WORDS[3]}
   case $COMP_CWORD:$command in
-    1:*) COMPREPLY=($(compgen -W "$("${COMP_WORDS[0]}" --help 2>/dev/null | awk '$1 == "darwin_run" { print $2 }')" -- "$word")) ;;
-    2:apply) COMPREPLY=() ;;
-    2:flat | 2:plan | 2:parts | 2:roll | 2:replay | 3:apply) COMPREPLY=($(compgen -f -X '!*.dar' -- "$word") $(compgen -d -S / -- "$word")) ;;
+    1:*) COMPREPLY=($(compgen -W "$("${COMP_WORDS[0]}" --help 2>/dev/null | awk '$1 == "darwin_run" { print $2 }')"$'\nhelp\n-h' -- "$word")) ;;
+    2:-* | 2:help) COMPREPLY=() ;;
+    2:*) [[ $word == -* ]] && COMPREPLY=($(compgen -W --help -- "$word")) && return
+      case $command in
+        flat | plan | parts | roll | replay) COMPREPLY=($(compgen -f -X '!*.dar' -- "$word") $(compgen -d -S / -- "$word")) ;;
+        big | apply) COMPREPLY=() ;;
+        *) COMPREPLY=($(compgen -f -- "$word")) ;;
+      esac ;;
+    3:apply) COMPREPLY=($(compgen -f -X '!*.dar' -- "$word") $(compgen -d -S / -- "$word")) ;;
     3:flat) COMPREPLY=($(compgen -W "$(_darwin_run_components "$file")" -- "$word")) ;;
     *:flat | *:big) COMPREPLY=() ;;
     3:roll | 4:roll) COMPREPLY=() ;;

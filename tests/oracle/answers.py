@@ -331,6 +331,26 @@ def check(words, files):
 COMMANDS = {b"flat": flat, b"plan": plan, b"parts": parts_of, b"roll": roll, b"apply": apply, b"replay": replay, b"step": step, b"live": live, b"big": big, b"upgrade": upgrade, b"check": check}
 
 
+# the form of each command, which the program of the repository has: `apply` isn't among them yet
+FORMS = {word: ("darwin_run %s\n" % command.__doc__.split("`")[1]).encode() for word, command in COMMANDS.items() if word != b"apply"}
+HELP_FORM = b"darwin_run --help\n"
+
+
+def hint(words):
+    """The form that is nearest to words of no form: of the command whose word has most in common with the first of them."""
+    first = words[0] if words and all(map(is_text, words)) else b""
+    common = {word: len(os.path.commonprefix([first, word])) for word in FORMS}
+    best = max(common.values())
+    return FORMS[next(word for word in FORMS if common[word] == best)] if best else HELP_FORM
+
+
+def helped(words):
+    """The forms that words ask for, or None where they ask for no help."""
+    if words in ([b"--help"], [b"-h"], [b"help"]):
+        return [HELP_FORM, *FORMS.values()]
+    return [FORMS[words[0]]] if words[1:] == [b"--help"] and words[0] in FORMS else None
+
+
 def is_text(word):
     try:
         word.decode()
@@ -353,8 +373,14 @@ def may_come(words, files):
 def judged(words, files, came):
     """Why this isn't how a run may end, or None; and whether that was decided."""
     words = [os.fsencode(word) for word in words]
-    if words in ([b"--help"], [b"--version"]):
+    if words == [b"--version"]:
         return came.unlike((0, came.text)), True
+    forms = helped(words)
+    if forms:
+        lines = (came.text or b"").splitlines(keepends=True)
+        return came.unlike((0, came.text)) or (None if sorted(line for line in lines if line in forms) == sorted(forms) else "wanted %r; came %r" % (forms, lines)), True
+    if came.status == 1 and came.errors != hint(words):
+        return "noted %r; the nearest form is %r" % (came.errors, hint(words)), True
     if words[:1] == [b"live"] and all(map(is_text, words)):
         try:
             statements, observers = live_of(words, files)

@@ -2,6 +2,7 @@
 import os
 import re
 
+import answers
 from tables import KINDS
 
 NAME = rb"[A-Za-z_][A-Za-z_0-9]{0,63}"
@@ -166,7 +167,9 @@ def judge(words, files, status, written):
     words = [os.fsencode(word) for word in words]
     command = words[0].decode("utf-8", "replace") if words else ""
     file = (words + [b"", b""])[2 if command == "apply" else 1]
-    if command == "step" and len(words) == 2:
+    if answers.helped(words):
+        want(status == 0 and written.endswith(b"\n"), "no help")
+    elif command == "step" and len(words) == 2:
         want(status in (0, 2, 3, 4, 7, 8), "a status that shouldn't come here")
     elif command == "live" and len(words) in (2, 4, 6):
         want(status in (0, 1, 2, 3, 4, 7, 8), "a status that shouldn't come here")
@@ -192,7 +195,7 @@ def judge(words, files, status, written):
     elif status == 0 and command == "upgrade":
         want(REPORT.fullmatch(written), "no text of a report")
     elif status == 0:
-        want(words in ([b"--help"], [b"--version"]) and written.endswith(b"\n"), "status 0 of words that have no form")
+        want(words == [b"--version"] and written.endswith(b"\n"), "status 0 of words that have no form")
     elif status == 1:
         want(written == b"usage\n", "status 1 without the line usage")
     elif status == 2:

@@ -1,6 +1,6 @@
 -- To be believed (definitions.md).
 -- What comes back of a run on threads: the seat of the change, which agrees with the report that was written.
-use Rattle.std.specs.Prelude.{◌≡◌, ℕ, List}
+use Rattle.std.specs.Prelude.{◌≡◌, ◌↔◌, ℕ, List, Option, IfSome, IsTrue, is_some}
 use Rattle.atomic_table.specs.Seated.{TableId}
 use Rattle.change_spec.specs.Statements.{Statement}
 use Rattle.report_types.specs.declared.report.Report.{Report}
@@ -10,7 +10,7 @@ use Rattle.txn_gate.specs.declared.change_seat.ChangeSeat.{ChangeSeat}
 use Rattle.live_board.specs.Ended.{AgreesWith}
 use Rattle.command_words.specs.CommandLine.{Asks}
 use Rattle.command_words.specs.declared.words.Command.TheVariants as commands
-use Rattle.command_spec.specs.Outcomes.{Reported}
+use Rattle.command_spec.specs.Outcomes.{IsRunStatus, Reported}
 use Rattle.command_spec.specs.Runs.{Run}
 
 -- the report of these statements is lawful on threads, the record of the seat bears it, and its logs are what the seat
@@ -27,3 +27,10 @@ pub record ComesBack (gates : TableId) (r : Run) (seat : ChangeSeat) : Type 0 wh
   pub asks : Asks r.words (commands.Live name workers observers)
   pub here : table_of_change seat ≡ gates
   pub reported : Reported (AgreesWithSeat seat) (λ report bytes. Watched report observers bytes) r.files name r.status r.taken r.taken'
+
+-- The seat comes back exactly where a script was run on threads, and agrees with the report that was written.
+pub record GivesBack (gates : TableId) (r : Run) (seat : Option ChangeSeat) : Type 0 where
+  pub back :
+      IsTrue (is_some seat)
+      ↔ ((name : List ℕ) × (workers observers : ℕ) × Asks r.words (commands.Live name workers observers) × IsRunStatus r.status)
+  pub agrees : IfSome seat (ComesBack gates r)

@@ -1,4 +1,5 @@
 pub mod Agreeing
 pub mod Coming
+pub mod Crews
 pub mod Exits
-pub mod Requests
+pub mod Notes

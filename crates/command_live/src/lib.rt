@@ -4,7 +4,6 @@
 mod all_commands;
 mod on_threads;
 mod program;
-mod request;
 mod running;
 
 pub use all_commands::top;

@@ -1,21 +1,25 @@
 //! The command that runs a script on threads.
 
-ghost use Rattle.std.specs.Prelude.{◌≡◌, ◌↔◌, [], true, map, string_bytes, is_some, IfSome, IsTrue};
+ghost use Rattle.std.specs.Prelude.{◌≡◌, ◌↔◌, ℕ, Bool, List, [], true, map, string_bytes, is_some, IfSome, IsTrue};
 ghost use Rattle.command_answers.specs.Statuses.{is_of_run};
-ghost use Rattle.command_spec.specs.Known.{on_threads};
+ghost use Rattle.command_spec.specs.Known.{AsksOf, on_threads};
 ghost use Rattle.command_spec.specs.Outcomes.{IsRunStatus};
-ghost use Rattle.command_spec.specs.Runs.{Runs, run_of};
+ghost use Rattle.command_spec.specs.Naming.{AskForNoFile, NamesNoFile};
+ghost use Rattle.command_spec.specs.Runs.{Answered, Runs, run_of};
 ghost use Rattle.command_live.specs.Agreeing.{ComesBack};
-ghost use Rattle.command_live.specs.Requests.{AskForThreads};
-ghost use Rattle.command_program.specs.Naming.{AskForNoFile};
+ghost use Rattle.command_live.specs.Crews.{IsCrew};
+ghost use Rattle.command_words.specs.CommandLine.{Asks};
+ghost use Rattle.command_words.specs.declared.words.Command.{Command};
+ghost use Rattle.command_words.specs.declared.words.Command.TheVariants as commands;
 ghost use Rattle.txn_gate.specs.Seats.{IsChangeSeatOf, change_in, collected_in};
 ghost use Rattle.txn_spec.specs.Views.{nothing_done};
 
-use crate::request::{Request, read_request, script_named};
-use crate::running::answer_script;
+use crate::running::{Crew, answer_script};
 use cfg_io::{Shelf, Sink};
 use command_answers::Status;
 use command_program::{write_answer, write_no_memory, write_text, write_usage};
+use command_spec::runs_answer_their_commands;
+use command_words::{Command, read_words};
 use live_run::Turnstile;
 use std::alloc::Global;
 use std::sync::Wait;
@@ -43,8 +47,13 @@ where
     T: Turnstile + Sync,
     requires here { IsChangeSeatOf seat gates.now }
     requires fresh { (change_in seat ≡ nothing_done) × (collected_in seat ≡ []) × (seat.spare ≡ 0) }
-    // The fetches, the answer and what was written of it; words that ask for no run on threads have no form.
+    // What the words ask for, by what the files hold, and what was written of it; words that ask for no run on threads
+    // have no form.
     ensures runs { Runs on_threads (run_of H.Shelf K.Sink (map string_bytes words.now)
+        shelf.old shelf.new out.old out.new result.0) }
+    // The same of the run for which they ask.
+    ensures answered { (command : Command) → AsksOf on_threads (map string_bytes words.now) command
+        → Answered command (run_of H.Shelf K.Sink (map string_bytes words.now)
         shelf.old shelf.new out.old out.new result.0) }
     // No fetch changes the files.
     ensures kept { H.files shelf.new ≡ H.files shelf.old }
@@ -57,21 +66,15 @@ where
     // Words of no form fetch nothing.
     ensures untouched { AskForNoFile on_threads (map string_bytes words.now) → shelf.new ≡ shelf.old }
 {
-    match read_request(alloc, words) {
-        Ok(Some(request)) => {
-            run_request(rt, alloc, words, request, shelf, out, stile, gates, seat)
-        }
-        Ok(None) => (write_usage(out), None),
-        Err(_) => (write_no_memory(out), None),
-    }
+    runs_answer_their_commands();
+    live_words(rt, alloc, words, shelf, out, stile, gates, seat)
 }
 
-/// The same for words that ask for a run on threads, with so many of them.
-pub fn run_request<H: Shelf, K: Sink, R, T>(
+/// The same, said once.
+fn live_words<H: Shelf, K: Sink, R, T>(
     rt: R,
     alloc: Global,
     words: &[String],
-    request: Request,
     shelf: &mut H,
     out: &mut K,
     stile: &T,
@@ -81,7 +84,6 @@ pub fn run_request<H: Shelf, K: Sink, R, T>(
 where
     R: Threads + Wait + Copy + Send + Sync,
     T: Turnstile + Sync,
-    requires asked { AskForThreads (map string_bytes words.now) request }
     requires here { IsChangeSeatOf seat gates.now }
     requires fresh { (change_in seat ≡ nothing_done) × (collected_in seat ≡ []) × (seat.spare ≡ 0) }
     ensures runs { Runs on_threads (run_of H.Shelf K.Sink (map string_bytes words.now)
@@ -90,9 +92,82 @@ where
     ensures back { IsTrue (is_some result.1) ↔ IsRunStatus result.0 }
     ensures agrees { IfSome result.1 (ComesBack gates.now.words.shared.table_id
         (run_of H.Shelf K.Sink (map string_bytes words.now) shelf.old shelf.new out.old out.new result.0)) }
+    ensures untouched { AskForNoFile on_threads (map string_bytes words.now) → shelf.new ≡ shelf.old }
 {
-    let name = script_named(words);
-    match answer_script(rt, alloc, shelf, name, stile, request, gates, seat) {
+    match read_words(alloc, words) {
+        Ok(Some(command)) => run_asked(rt, alloc, command, shelf, out, stile, gates, seat),
+        Ok(None) => (write_usage(out), None),
+        Err(_) => (write_no_memory(out), None),
+    }
+}
+
+/// Does what a command asks for, where it runs on threads; another has no form here.
+fn run_asked<H: Shelf, K: Sink, R, T>(
+    rt: R,
+    alloc: Global,
+    command: Command<'_>,
+    shelf: &mut H,
+    out: &mut K,
+    stile: &T,
+    gates: &Gates,
+    seat: ChangeSeat,
+) -> (Status, Option<ChangeSeat>)
+where
+    R: Threads + Wait + Copy + Send + Sync,
+    T: Turnstile + Sync,
+    requires asked { (words : List (List ℕ)) × Asks words command }
+    requires here { IsChangeSeatOf seat gates.now }
+    requires fresh { (change_in seat ≡ nothing_done) × (collected_in seat ≡ []) × (seat.spare ≡ 0) }
+    ensures runs { (words : List (List ℕ)) → Asks words command.entry → Runs on_threads (run_of H.Shelf K.Sink words
+        shelf.old shelf.new out.old out.new result.0) }
+    ensures kept { H.files shelf.new ≡ H.files shelf.old }
+    ensures back { IsTrue (is_some result.1) ↔ IsRunStatus result.0 }
+    ensures agrees { (words : List (List ℕ)) → Asks words command.entry → IfSome result.1
+        (ComesBack gates.now.words.shared.table_id
+        (run_of H.Shelf K.Sink words shelf.old shelf.new out.old out.new result.0)) }
+    ensures untouched { (on_threads command.entry ≡ true → NamesNoFile command.entry) → shelf.new ≡ shelf.old }
+{
+    match command {
+        Command::Live {
+            script,
+            workers,
+            observers,
+        } => {
+            let crew = Crew { workers, observers };
+            run_live(rt, alloc, script.as_str(), crew, shelf, out, stile, gates, seat)
+        }
+        _ => (write_usage(out), None),
+    }
+}
+
+/// Runs the script of a name, with so many threads beside this one.
+pub fn run_live<H: Shelf, K: Sink, R, T>(
+    rt: R,
+    alloc: Global,
+    script: &str,
+    crew: Crew,
+    shelf: &mut H,
+    out: &mut K,
+    stile: &T,
+    gates: &Gates,
+    seat: ChangeSeat,
+) -> (Status, Option<ChangeSeat>)
+where
+    R: Threads + Wait + Copy + Send + Sync,
+    T: Turnstile + Sync,
+    requires crew { IsCrew crew }
+    requires here { IsChangeSeatOf seat gates.now }
+    requires fresh { (change_in seat ≡ nothing_done) × (collected_in seat ≡ []) × (seat.spare ≡ 0) }
+    ensures runs { (knows : Command → Bool) (words : List (List ℕ))
+        → AsksOf knows words (commands.Live script.now crew.workers crew.observers)
+        → Runs knows (run_of H.Shelf K.Sink words shelf.old shelf.new out.old out.new result.0) }
+    ensures kept { H.files shelf.new ≡ H.files shelf.old }
+    ensures back { IsTrue (is_some result.1) ↔ IsRunStatus result.0 }
+    ensures agrees { (words : List (List ℕ)) → Asks words (commands.Live script.now crew.workers crew.observers)
+        → IfSome result.1 (ComesBack gates.now.words.shared.table_id
+        (run_of H.Shelf K.Sink words shelf.old shelf.new out.old out.new result.0)) }
+{
+    match answer_script(rt, alloc, shelf, script, stile, crew, gates, seat) {
         Ok((answer, seat)) => {
             let status = write_text(out, answer.status, answer.text.as_slice());
             (status, seat_back(status, seat))

@@ -9,12 +9,14 @@ ghost use Rattle.command_answers.specs.Statuses.{status_number};
 ghost use Rattle.command_spec.specs.Runs.{Runs, Written, run_of};
 ghost use Rattle.command_spec.specs.Known.{all_commands};
 ghost use Rattle.command_live.specs.Exits.{Exits};
-ghost use Rattle.command_program.specs.Naming.{AskForNoFile};
+ghost use Rattle.command_live.specs.Notes.{IsNoted, RunsNoted, Takes};
+ghost use Rattle.command_spec.specs.Naming.{AskForNoFile};
 
 use crate::all_commands::top;
-use cfg_io::{Shelf, Sink};
+use cfg_io::{Shelf, Sink, write_all};
 use command_answers::Status;
 use command_program::write_no_memory;
+use command_words::hint;
 use config_graph::NoMemory;
 use live_run::Turnstile;
 use std::alloc::Global;
@@ -28,23 +30,25 @@ use txn_gate::Gates;
 
 /// Does what the words of a command line ask for, of which the first is the program's name, and says with which code
 /// to exit: the number of the status. Words that can't be read, as one that isn't UTF-8, are of no form, as no words
-/// are. The gates of a run on threads are made first; where there is no memory for them, the line says so.
-pub fn run_program<H: Shelf, K: Sink, R, T>(
+/// are. The gates of a run on threads are made first; where there is no memory for them, the line says so. Behind `usage`
+/// the notes take the form that is nearest to the words, and nothing else.
+pub fn run_program<H: Shelf, K: Sink, N: Sink, R, T>(
     rt: R,
     alloc: Global,
     args: io::Result<Args>,
     shelf: &mut H,
     out: &mut K,
+    notes: &mut N,
     stile: &T,
 ) -> ExitCode
 where
     R: Threads + Wait + Copy + Send + Sync,
     T: Turnstile + Sync,
     // All words but the first are asked, and none is left out.
-    ensures given { IfOk args (λ args. Exits (λ own. Runs all_commands
+    ensures given { IfOk args (λ args. Exits (λ own. RunsNoted N.Sink notes.old notes.new
         (run_of H.Shelf K.Sink (map string_bytes (drop 1 (into_iter_items args)))
         shelf.old shelf.new out.old out.new own)) result) }
-    ensures unreadable { IfErr args (λ fault. Exits (λ own. Runs all_commands
+    ensures unreadable { IfErr args (λ fault. Exits (λ own. RunsNoted N.Sink notes.old notes.new
         (run_of H.Shelf K.Sink [] shelf.old shelf.new out.old out.new own)) result) }
     // With no memory for the words nothing is fetched.
     ensures no_memory { IfErr args (λ fault. error_kind fault ≡ ErrorKind.OutOfMemory
@@ -57,25 +61,26 @@ where
         → shelf.new ≡ shelf.old) }
     ensures unread { OnErr args (shelf.new ≡ shelf.old) }
 {
-    exit_code(run_args(rt, alloc, args, shelf, out, stile))
+    exit_code(run_args(rt, alloc, args, shelf, out, notes, stile))
 }
 
 /// The same, and the status.
-fn run_args<H: Shelf, K: Sink, R, T>(
+fn run_args<H: Shelf, K: Sink, N: Sink, R, T>(
     rt: R,
     alloc: Global,
     args: io::Result<Args>,
     shelf: &mut H,
     out: &mut K,
+    notes: &mut N,
     stile: &T,
 ) -> Status
 where
     R: Threads + Wait + Copy + Send + Sync,
     T: Turnstile + Sync,
-    ensures given { IfOk args (λ args. Runs all_commands
+    ensures given { IfOk args (λ args. RunsNoted N.Sink notes.old notes.new
         (run_of H.Shelf K.Sink (map string_bytes (drop 1 (into_iter_items args)))
         shelf.old shelf.new out.old out.new result)) }
-    ensures unreadable { IfErr args (λ fault. Runs all_commands
+    ensures unreadable { IfErr args (λ fault. RunsNoted N.Sink notes.old notes.new
         (run_of H.Shelf K.Sink [] shelf.old shelf.new out.old out.new result)) }
     ensures no_memory { IfErr args (λ fault. error_kind fault ≡ ErrorKind.OutOfMemory
         → Written Status.NoMemory no_memory_line (run_of H.Shelf K.Sink [] shelf.old shelf.new out.old out.new result)
@@ -86,25 +91,26 @@ where
     ensures unread { OnErr args (shelf.new ≡ shelf.old) }
 {
     match args {
-        Ok(args) => run_given(rt, alloc, args, shelf, out, stile),
+        Ok(args) => run_given(rt, alloc, args, shelf, out, notes, stile),
         Err(fault) if fault.kind() == ErrorKind::OutOfMemory => write_no_memory(out),
-        Err(_) => run_on_gates(rt, alloc, &[], shelf, out, stile),
+        Err(_) => run_noted(rt, alloc, &[], shelf, out, notes, stile),
     }
 }
 
 /// The same for words that can be read.
-fn run_given<H: Shelf, K: Sink, R, T>(
+fn run_given<H: Shelf, K: Sink, N: Sink, R, T>(
     rt: R,
     alloc: Global,
     args: Args,
     shelf: &mut H,
     out: &mut K,
+    notes: &mut N,
     stile: &T,
 ) -> Status
 where
     R: Threads + Wait + Copy + Send + Sync,
     T: Turnstile + Sync,
-    ensures runs { Runs all_commands
+    ensures runs { RunsNoted N.Sink notes.old notes.new
         (run_of H.Shelf K.Sink (map string_bytes (drop 1 (into_iter_items args)))
         shelf.old shelf.new out.old out.new result) }
     ensures kept { H.files shelf.new ≡ H.files shelf.old }
@@ -112,8 +118,52 @@ where
         → shelf.new ≡ shelf.old }
 {
     match words_behind_name(alloc, args) {
-        Ok(words) => run_on_gates(rt, alloc, words.as_slice(), shelf, out, stile),
+        Ok(words) => run_noted(rt, alloc, words.as_slice(), shelf, out, notes, stile),
         Err(_) => write_no_memory(out),
+    }
+}
+
+/// The same, and behind `usage` the form that is nearest to the words is noted.
+fn run_noted<H: Shelf, K: Sink, N: Sink, R, T>(
+    rt: R,
+    alloc: Global,
+    words: &[String],
+    shelf: &mut H,
+    out: &mut K,
+    notes: &mut N,
+    stile: &T,
+) -> Status
+where
+    R: Threads + Wait + Copy + Send + Sync,
+    T: Turnstile + Sync,
+    ensures runs { RunsNoted N.Sink notes.old notes.new (run_of H.Shelf K.Sink (map string_bytes words.now)
+        shelf.old shelf.new out.old out.new result) }
+    ensures kept { H.files shelf.new ≡ H.files shelf.old }
+    ensures untouched { AskForNoFile all_commands (map string_bytes words.now) → shelf.new ≡ shelf.old }
+    ensures unread { words.now ≡ [] → shelf.new ≡ shelf.old }
+{
+    let status = run_on_gates(rt, alloc, words, shelf, out, stile);
+    note_form(notes, status, words);
+    status
+}
+
+/// Notes the form that is nearest to words, where they have none.
+fn note_form<N: Sink>(notes: &mut N, status: Status, words: &[String])
+    ensures { IsNoted N.Sink (map string_bytes words.now) status notes.old notes.new }
+{
+    match status {
+        Status::Usage => write_note(notes, hint(words)),
+        _ => {}
+    }
+}
+
+/// Notes a text. Where the notes fail, there is nowhere left to say so.
+fn write_note<N: Sink>(notes: &mut N, text: &str)
+    ensures { Takes N.Sink text.now notes.old notes.new }
+{
+    match write_all(notes, text.as_bytes()) {
+        Ok(()) => {}
+        Err(_stopped) => {}
     }
 }
 

@@ -1,20 +1,20 @@
 //! The run of a script on threads, and its answer.
 
-ghost use Rattle.std.specs.Prelude.{◌≡◌, ◌+◌, ◌<◌, ◌≤◌, ◌^◌, ◌++◌, [], IfErr, IfOk, MatchResult};
-ghost use Rattle.command_answers.specs.Answers.{ShowsAnswer, run_status};
+ghost use Rattle.std.specs.Prelude.{◌≡◌, ◌++◌, [], IfErr, IfOk, MatchResult};
+ghost use Rattle.command_answers.specs.Answers.{run_status};
 ghost use Rattle.command_program.specs.Preparing.{CanRun, statements_in};
-ghost use Rattle.command_program.specs.Refusals.{EndsNoRun};
-ghost use Rattle.command_spec.specs.Lines.{IsRunAnswer};
+ghost use Rattle.command_program.specs.Coming.{EndsNoRun, IsShown};
+ghost use Rattle.command_spec.specs.Commands.{IsRunOf};
 ghost use Rattle.command_spec.specs.Outcomes.{IsRunStatus};
 ghost use Rattle.command_spec.specs.Schedules.{IsShownBy, threads};
 ghost use Rattle.command_live.specs.Agreeing.{AgreesWithSeat};
+ghost use Rattle.command_live.specs.Crews.{IsCrew};
 ghost use Rattle.command_live.specs.Coming.{ComesWithSeat, ComesWithout};
 ghost use Rattle.report_writing.specs.Reports.{LogsAreMade, report_text};
 ghost use Rattle.txn_gate.specs.Seats.{IsChangeSeatOf, change_in, collected_in};
 ghost use Rattle.txn_spec.specs.Views.{nothing_done};
 ghost use Rattle.watch_lines.specs.WatchText.{watch_text};
 
-use crate::request::Request;
 use cfg_io::Shelf;
 use command_program::{Answer, Prepared, Stop, answer_run, prepare};
 use config_graph::{List, NoMemory};
@@ -26,6 +26,15 @@ use std::thread::Threads;
 use txn_gate::{ChangeSeat, Gates};
 use watch_lines::{Sighting, push_watch_text};
 
+/// How many threads a run has beside the one that changes the system.
+#[derive(Clone, Copy)]
+pub struct Crew {
+    /// Those that give the nodes their turns.
+    pub workers: u32,
+    /// Those that read the graph meanwhile.
+    pub observers: u32,
+}
+
 /// Fetches a script and what it uses, runs it on these gates, and answers the report, and behind it lines of each
 /// observer. With it comes the seat, which agrees with it.
 pub fn answer_script<H, R, T>(
@@ -34,7 +43,7 @@ pub fn answer_script<H, R, T>(
     shelf: &mut H,
     name: &str,
     stile: &T,
-    request: Request,
+    crew: Crew,
     gates: &Gates,
     seat: ChangeSeat,
 ) -> Result<(Answer, ChangeSeat), Stop>
@@ -42,21 +51,23 @@ where
     H: Shelf,
     R: Threads + Wait + Copy + Send + Sync,
     T: Turnstile + Sync,
-    requires workers { request.workers + 1 < 2 ^ 32 }
-    requires observers { request.observers ≤ 4 }
+    requires crew { IsCrew crew }
     requires here { IsChangeSeatOf seat gates.now }
     requires fresh { (change_in seat ≡ nothing_done) × (collected_in seat ≡ []) × (seat.spare ≡ 0) }
     ensures answers { MatchResult result
-        (λ x. ComesWithSeat (H.files shelf.old) name.now request.observers (H.failed shelf.old) (H.failed shelf.new)
+        (λ x. ComesWithSeat (H.files shelf.old) name.now crew.observers (H.failed shelf.old) (H.failed shelf.new)
         x.0 x.1)
-        (ComesWithout (H.files shelf.old) name.now request.observers (H.failed shelf.old) (H.failed shelf.new)) }
+        (ComesWithout (H.files shelf.old) name.now crew.observers (H.failed shelf.old) (H.failed shelf.new)) }
     ensures here { IfOk result (λ x. IsChangeSeatOf x.1 gates.now) }
     ensures run { IfOk result (λ x. IsRunStatus x.0.status) }
     ensures no_run { IfErr result EndsNoRun }
     ensures kept { H.files shelf.new ≡ H.files shelf.old }
 {
     let asked = prepare(alloc, shelf, name)?;
-    Ok(run_script(rt, alloc, stile, request, gates, seat, asked)?)
+    match run_script(rt, alloc, stile, crew, gates, seat, asked) {
+        Ok(ran) => Ok(ran),
+        Err(_) => Err(Stop::NoMemory),
+    }
 }
 
 /// Runs what a script asks for, and answers the report, and behind it lines of each observer.
@@ -64,7 +75,7 @@ fn run_script<R, T>(
     rt: R,
     alloc: Global,
     stile: &T,
-    request: Request,
+    crew: Crew,
     gates: &Gates,
     seat: ChangeSeat,
     asked: Prepared,
@@ -72,26 +83,24 @@ fn run_script<R, T>(
 where
     R: Threads + Wait + Copy + Send + Sync,
     T: Turnstile + Sync,
-    requires workers { request.workers + 1 < 2 ^ 32 }
-    requires observers { request.observers ≤ 4 }
+    requires crew { IsCrew crew }
     requires here { IsChangeSeatOf seat gates.now }
     requires fresh { (change_in seat ≡ nothing_done) × (collected_in seat ≡ []) × (seat.spare ≡ 0) }
     requires asked { CanRun asked }
     ensures answer { IfOk result
-        (λ x. ShowsAnswer (IsRunAnswer (AgreesWithSeat x.1) (IsShownBy (threads request.observers))
-        (statements_in asked)) x.0.status x.0.text.items) }
+        (λ x. IsShown (IsRunOf (AgreesWithSeat x.1) (IsShownBy (threads crew.observers)) (statements_in asked)) x.0) }
     ensures here { IfOk result (λ x. IsChangeSeatOf x.1 gates.now) }
     ensures run { IfOk result (λ x. IsRunStatus x.0.status) }
 {
     let Prepared { start, steps } = asked;
-    let observers = Observers::new(request.observers);
+    let observers = Observers::new(crew.observers);
     let (report, seen, seat) = run_on_threads(
         rt,
         alloc,
         gates,
         seat,
         stile,
-        request.workers,
+        crew.workers,
         &observers,
         start,
         steps,

@@ -1,13 +1,14 @@
+mod Calls
+pub mod ComingLaws
+mod Fetching
+mod Fitting
+mod Joining
+pub mod KnowingLaws
+mod Lines
+mod Passing
+mod PlannedLines
+mod Planning
+mod Preparations
+mod Refusing
 pub mod ReportingLaws
 pub mod RunningLaws
-mod ScriptRuns
-pub mod Planning
-pub mod Refusing
-pub mod Calls
-pub mod Courses
-pub mod Fitting
-pub mod Lines
-pub mod Passing
-pub mod PlannedLines
-pub mod Preparations
-pub mod Using

@@ -1,5 +1,5 @@
 -- Lines that are taken, by what the code does for them.
-use Rattle.std.proofs.Common.{◌≡◌, ◌∙◌, ◌++◌, ◌∷◌, [], ℕ, ℤ, Bool, true, false, List, Option, Some, None, Ok, IfSome, codes, length, refl, sym, ap, subst, string_bytes}
+use Rattle.std.proofs.Common.{◌≡◌, ◌∙◌, ◌++◌, ◌∷◌, [], ℕ, ℤ, Bool, true, false, List, Option, Some, None, Ok, Err, IfSome, inl, length, refl, sym, ap, subst, string_bytes}
 use Rattle.std.specs.Global.{Vec}
 use Rattle.std.specs.Prelude.{◌||◌, ⊤, IsSome, is_some, sum_by}
 use Rattle.std.specs.Option.{option_map}
@@ -12,24 +12,20 @@ use Rattle.change_plan.specs.declared.plan_data.Move.{Move}
 use Rattle.change_script.specs.ScriptFiles.{is_file, is_start}
 use Rattle.report_types.specs.declared.script.Body.{Body}
 use Rattle.report_types.specs.declared.script.Body.TheVariants as bodies
-use Rattle.command_answers.specs.Answers.{ShowsAnswer, description, read_fault, refusal}
+use Rattle.cfg_io.specs.Shelf.{Files}
+use Rattle.command_answers.specs.Answers.{description}
 use Rattle.command_answers.specs.DescriptionFaults.{MayRefuse, fault_words}
-use Rattle.command_answers.specs.RefusalLines.{description_line, read_fault_line}
 use Rattle.command_answers.specs.declared.error.DescriptionFault.{DescriptionFault}
-use Rattle.command_answers.specs.declared.status.Status.TheVariants as status
-use Rattle.command_spec.specs.Courses.{failed, leads_on, refused, too_long}
-use Rattle.command_spec.specs.Descriptions.{IsChecked, IsTextRefusal}
-use Rattle.command_spec.specs.Fetches.{fetch_of}
-use Rattle.command_spec.specs.Leads.{falls_short}
-use Rattle.command_spec.specs.Lines.{GraphUse, RunLine, calls, changes, does, starts, uses, FollowsLines, IsCallRefusal, Progress, with_called_graph, with_description, with_statement}
-use Rattle.command_spec.specs.declared.fetched.Fetched.TheVariants.{Failed, Held, TooLong}
+use Rattle.command_spec.specs.Courses.{came, refusal, Follows, here, gives, refused}
+use Rattle.command_spec.specs.Lines.{GraphUse, calls, changes, does, starts, IsCallRefusal, Progress, of_lines, with_called_graph, with_description, with_statement}
 use Rattle.darwin_types.specs.Checked as of_checked
 use Rattle.darwin_types.specs.declared.checked.Checked.{Checked}
-use Rattle.command_program.specs.Refusals.{IsRefusalFor}
-use Rattle.command_program.specs.declared.answer.Answer.{Answer}
+use Rattle.command_program.specs.Coming.{StopsFor}
+use Rattle.command_program.specs.Refusals.{IsFaultOf}
+use Rattle.command_program.specs.declared.answer.Stop.{Stop}
+use Rattle.command_program.proofs.ComingLaws.{stops_in}
 use Rattle.command_program.specs.Calls.{LeadsToChange, LeadsToStart}
-use Rattle.command_program.specs.Leading.{LeadOn, Marks, StopAt}
-use Rattle.command_program.specs.declared.answer.Stop.TheVariants as stops
+use Rattle.command_program.specs.Leading.{LeadOn, Leads, Marks}
 use Rattle.command_program.specs.Ways.{CanFollow, HasAdded, HasDescribed, IsAt, IsNoChange, IsAskedSoFar, last_graph, made_with_graph, with_start}
 use Rattle.command_program.specs.declared.way.Way.{Way}
 use Rattle.command_program.proofs.Calls.{begins, does_more, goes_on}
@@ -61,12 +57,6 @@ used_at way next p file d at has = record {
       (subst (λ m. IsAskedSoFar way.start way.steps.items m p.statements p.graphs) (sym has.made_is) at.stands));
 }
 
-pub used_leads : (way next : Way) (p : Progress) (file bytes : List ℕ) (d : Checked) → IsAt way p → HasDescribed way file d next
-    → IsChecked bytes (of_checked.description d) → LeadOn {T = ⊤} p (uses file ∷ []) (fetch_of file (Held bytes) ∷ []) next (Ok tt)
-used_leads way next p file bytes d at has checked =
-    let tree = of_checked.description d in
-    (with_description p file tree, used_at way next p file d at has, (bytes, tree, [], refl, checked, (refl, refl)))
-
 pub used_marks : (way next : Way) (file name : List ℕ) (d : Checked) → HasDescribed way file d next → Marks way next (bodies.File name)
 used_marks way next file name d has = record {
   described = ap is_some has.used_is ∙ or_true (is_some way.used);
@@ -75,8 +65,8 @@ used_marks way next file name d has = record {
 
 -- a start
 pub started : (way : Way) (p : Progress) (s : Start) (name : List ℕ) (args : List ℤ) → way.start ≡ None → Sound s.graph → HasRoomFor way.made s.graph
-    → LeadsToStart p name args s → IsAt way p → LeadOn {T = ⊤} p (calls starts name args ∷ []) [] (with_start way s) (Ok tt)
-started way p s name args none_ sound room leads at =
+    → LeadsToStart p name args s → IsAt way p → (files : Option Files) → LeadOn {T = ⊤} files p (calls starts name args ∷ []) (with_start way s) (Ok tt)
+started way p s name args none_ sound room leads at files =
     let q = with_called_graph p starts name args s.graph (made_with_graph p.made s.graph) in (
       q,
       record {
@@ -88,7 +78,7 @@ started way p s name args none_ sound room leads at =
             (subst (λ xs. IsAskedSoFar (Some s) way.steps.items (made_with_graph way.made s.graph) (p.statements ++ start s.name xs s.graph ∷ []) (s.graph ∷ p.graphs)) leads.args_are
             (begins s way.steps.items way.made p.statements p.graphs sound room (subst (λ o. IsAskedSoFar o way.steps.items way.made p.statements p.graphs) none_ at.stands)));
       },
-      (q, leads.leads, (refl, refl)),
+      gives q [] (came q) leads.leads here,
     )
 
 pub start_marks : (way : Way) (s : Start) (name : List ℕ) (args : List ℤ) → Marks way (with_start way s) (bodies.Start name args)
@@ -115,8 +105,8 @@ step_marks way next step m body has no_file no_start = record {
 -- a change
 pub changed : (way next : Way) (p : Progress) (c : Replacement) (name : List ℕ) (args : List ℤ) (within : ℕ) (moves : List Move) → IsSome way.start
     → IfSome way.start (λ s. CanFollow (last_graph s.graph way.steps.items) way.made c) → IsGraph c.graph → LeadsToChange p name args within moves c
-    → HasAdded way (steps.Change c) (made_with_change way.made c) next → IsAt way p → LeadOn {T = ⊤} p (calls (changes within moves) name args ∷ []) [] next (Ok tt)
-changed way next p c name args within moves some follows_ is_graph leads has at =
+    → HasAdded way (steps.Change c) (made_with_change way.made c) next → IsAt way p → (files : Option Files) → LeadOn {T = ⊤} files p (calls (changes within moves) name args ∷ []) next (Ok tt)
+changed way next p c name args within moves some follows_ is_graph leads has at files =
     let q = with_called_graph p (changes within moves) name args c.graph (made_with_change p.made c) in
     let told = goes_on way.start way.steps.items way.made p.statements p.graphs c some follows_ is_graph at.stands in
     let said_so : p.statements ++ change c.name c.args c.graph c.within c.moves ∷ [] ≡ p.statements ++ change name args c.graph within moves ∷ [] =
@@ -126,50 +116,32 @@ changed way next p c name args within moves some follows_ is_graph leads has at 
       added_at way next (steps.Change c) p q (subst (λ m. HasAdded way (steps.Change c) m next) (sym has.made_is) has) refl refl at
           (ap (λ m. made_with_change m c) at.made_is ∙ sym has.made_is)
           (subst (λ m. IsAskedSoFar way.start (way.steps.items ++ steps.Change c ∷ []) m q.statements q.graphs) (sym has.made_is) stands),
-      (q, leads.leads, (refl, refl)),
+      gives q [] (came q) leads.leads here,
     )
 
 -- what the run does of itself
 pub did : (way next : Way) (p : Progress) (step : Step) → IsSome way.start → IsNoChange step → HasAdded way step way.made next → IsAt way p
-    → LeadOn {T = ⊤} p (does (statement_of step) ∷ []) [] next (Ok tt)
-did way next p step some none_ has at =
+    → (files : Option Files) → LeadOn {T = ⊤} files p (does (statement_of step) ∷ []) next (Ok tt)
+did way next p step some none_ has at files =
     let q = with_statement p (statement_of step) in
     let told = does_more way.start way.steps.items way.made p.statements p.graphs step some none_ at.stands in (
       q,
       added_at way next step p q (subst (λ m. HasAdded way step m next) (sym has.made_is) has) refl refl at (at.made_is ∙ sym has.made_is)
           (subst (λ m. IsAskedSoFar way.start (way.steps.items ++ step ∷ []) m q.statements q.graphs) (sym has.made_is) told),
-      (refl, refl),
+      here,
     )
 
 -- a line that is refused
-pub call_refused : (way : Way) (p : Progress) (deed : GraphUse) (name : List ℕ) (args : List ℤ) (fault : DescriptionFault) (answer : Answer) → IsAt way p
-    → MayRefuse (IsCallRefusal p deed name args) fault → IsRefusalFor (string_bytes way.file) fault answer
-    → StopAt p (calls deed name args ∷ []) [] (stops.Refused answer)
-call_refused way p deed name args fault answer at may is =
-    λ rest. record {
-      answer = refusal (description p.file (fault_words fault));
-      is = refused (fault_words fault) (may is.plain);
-      has_status = is.status_is;
-      has_text = is.text_is ∙ ap (λ f. description_line f (fault_words fault)) (sym at.file_is);
-    }
-
--- a description that is refused
-pub text_refused : (file text : List ℕ) (fault : DescriptionFault) (answer : Answer) → MayRefuse (IsTextRefusal text) fault → IsRefusalFor file fault answer → (p : Progress) (rest : List RunLine)
-    → ShowsAnswer (FollowsLines falls_short p (uses file ∷ rest) (fetch_of file (Held text) ∷ [])) answer.status answer.text.items
-text_refused file text fault answer may is p rest = record {
-  answer = refusal (description file (fault_words fault));
-  is = leads_on text [] (refusal (description file (fault_words fault))) (refused (fault_words fault) (may is.plain));
-  has_status = is.status_is;
-  has_text = is.text_is;
-}
-
-pub too_long_refused : (file : List ℕ) (p : Progress) (rest : List RunLine)
-    → ShowsAnswer (FollowsLines falls_short p (uses file ∷ rest) (fetch_of file TooLong ∷ [])) status.Description (description_line file (codes "TooLong" ∷ []))
-too_long_refused file p rest = record { answer = refusal (description file (codes "TooLong" ∷ [])); is = too_long; has_status = refl; has_text = refl }
-
-pub failed_refused : (file : List ℕ) (p : Progress) (rest : List RunLine)
-    → ShowsAnswer (FollowsLines falls_short p (uses file ∷ rest) (fetch_of file Failed ∷ [])) status.ReadFault (read_fault_line file)
-failed_refused file p rest = record { answer = refusal (read_fault file); is = failed; has_status = refl; has_text = refl }
+pub call_refused :
+    (T : Type 0) (way : Way) (p : Progress) (deed : GraphUse) (name : List ℕ) (args : List ℤ) (fault : DescriptionFault) (stop : Stop) → IsAt way p
+    → MayRefuse (IsCallRefusal p deed name args) fault → StopsFor (IsFaultOf (string_bytes way.file) fault) stop → (files : Option Files)
+    → LeadOn {T = T} files p (calls deed name args ∷ []) way (Err stop)
+call_refused T way p deed name args fault stop at may stops_ files =
+    stops_in (Leads {T = T} way) files (of_lines p (calls deed name args ∷ [])) [] (IsFaultOf (string_bytes way.file) fault) stop stops_
+    (λ why is.
+    subst (λ w. Follows files (of_lines p (calls deed name args ∷ [])) [] (refusal w)) (ap (λ f. description f (fault_words fault)) at.file_is ∙ sym is.1)
+    (refused (fault_words fault) (may is.0)))
+    (inl refl)
 
 -- room for what a change creates
 pub change_fits : (o : Option Start) (xs : List Step) (made : Made) (c : Replacement) → IsSome o → IfSome o (λ s. CanFollow (last_graph s.graph xs) made c)

@@ -10,10 +10,10 @@ use Rattle.command_spec.specs.Lines.{Progress}
 use Rattle.command_spec.specs.Scripts.{lines_of_body, lines_of_script}
 use Rattle.command_program.specs.declared.answer.Stop.{Stop}
 use Rattle.command_program.specs.Fitting.{MayAllStand}
-use Rattle.command_program.specs.Leading.{Marks, StopAt, Took}
+use Rattle.command_program.specs.Leading.{Marks, Took}
 use Rattle.command_program.specs.Ways.{IsAt}
 use Rattle.command_program.specs.declared.way.Way.{Way}
-use Rattle.command_program.proofs.Courses.{joined, none_took, stopped_lead}
+use Rattle.command_program.proofs.Joining.{joined, none_took, stopped_lead}
 
 -- how far a list of lines was passed
 pub record IsPassed (files files' : Option Files) (way way' : Way) (passed left : List ScriptLine) (failures failures' : List (List ℕ)) : Type 0 where
@@ -52,23 +52,19 @@ module _ {T : Type 0} (files files' : Option Files) (way mid next : Way) (ys res
         (subst (λ b. MayAllStand (is_some mid.used || is_file line.body) b rest) (sym marks.begun) before.fit.1);
     took = λ p at.
         let t = subst (Took files p (lines_of_script (ys ++ line ∷ [])) failures failures' next) is (taken r took p at) in
-        record { fetches = t.fetches; noted = t.noted; told = t.told; lead = t.lead };
+        record { failing = t.failing; noted = t.noted; ends = t.ends };
   }
 
   -- a line that stops, whatever stands behind it
   pub stopped_at : {U : Type 0} (lines : List ScriptLine) (r : Result T Stop) (stop : Stop) → r ≡ Err stop → ys ++ line ∷ rest ≡ lines
       → ((q : Progress) → IsAt mid q → Took files' q (lines_of_body line.body) between failures' next r) → (p : Progress) → IsAt way p
       → Took {T = U} files p (lines_of_script lines) failures failures' next (Err stop)
-  stopped_at lines r stop is all took p at =
+  stopped_at {U} lines r stop is all took p at =
       let t = subst (Took files p (lines_of_script (ys ++ line ∷ [])) failures failures' next) is (taken r took p at) in
       let parts : lines_of_script lines ≡ lines_of_script (ys ++ line ∷ []) ++ lines_of_script rest =
       ap lines_of_script (sym all ∙ sym (append_assoc ys (line ∷ []) rest)) ∙ flat_map-append (λ (l : ScriptLine). lines_of_body l.body) (ys ++ line ∷ []) rest in
-      record {
-        fetches = t.fetches;
-        noted = t.noted;
-        told = t.told;
-        lead = subst (λ ls. StopAt p ls t.fetches stop) (sym parts) (stopped_lead p (lines_of_script (ys ++ line ∷ [])) (lines_of_script rest) t.fetches stop t.lead);
-      }
+      subst (λ ls. Took {T = U} files p ls failures failures' next (Err stop)) (sym parts)
+      (stopped_lead files p (lines_of_script (ys ++ line ∷ [])) (lines_of_script rest) failures failures' next stop t)
 
 -- all lines were passed
 pub all_passed : {T : Type 0} (done : T) (files files' : Option Files) (way way' : Way) (ys left lines : List ScriptLine) (failures failures' : List (List ℕ)) → left ≡ []
@@ -77,7 +73,7 @@ all_passed {T} done files files' way way' ys left lines failures failures' none_
     let same : ys ≡ lines = sym (append-nil ys) ∙ ap (λ ls. ys ++ ls) (sym none_) ∙ all in
     let t = passed.took p at in
     subst (λ ls. Took {T = T} files p (lines_of_script ls) failures failures' way' (Ok done)) same
-    (record { fetches = t.fetches; noted = t.noted; told = t.told; lead = t.lead })
+    (record { failing = t.failing; noted = t.noted; ends = t.ends })
 
 pub begun_at_end : (files files' : Option Files) (way way' : Way) (ys left : List ScriptLine) (failures failures' : List (List ℕ)) → left ≡ []
     → IsPassed files files' way way' ys left failures failures' → is_some way'.start ≡ true

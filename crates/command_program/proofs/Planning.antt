@@ -1,28 +1,16 @@
 -- What the parts of planning answer, as refusals and as changes.
-use Rattle.std.proofs.Common.{ℕ, List, Result, IfOk, sym, subst}
-use Rattle.std.proofs.lemmas.Result.{IfOk-weaker}
+use Rattle.std.proofs.Common.{ℕ, List, sym, subst}
 use Rattle.config_graph.specs.Graph.{Graph}
 use Rattle.command_answers.specs.DescriptionFaults.{MayRefuse, fault_words}
 use Rattle.command_answers.specs.declared.error.DescriptionFault.{DescriptionFault}
 use Rattle.command_answers.specs.declared.error.DescriptionFault.TheVariants as fault
-use Rattle.command_answers.specs.declared.status.Status.{Status}
 use Rattle.command_words.specs.declared.words.TopCall.{TopCall}
 use Rattle.command_spec.specs.Descriptions.{HasGraph, IsTextRefusal, by_text}
-use Rattle.command_spec.specs.OneFile.{DescriptionAnswers, refused}
 use Rattle.command_spec.specs.Plans.{Starts, has_no_graph, HasChange, HasSteps, RefusesPlan, starts_not, gets_full, made_of_graph}
 use Rattle.command_spec.specs.Queries.{IsRefused}
-use Rattle.command_spec.specs.declared.fetched.Fetched.TheVariants.{Held}
 use Rattle.command_spec.specs.declared.query.Query.{Query}
 use Rattle.command_spec.specs.declared.query.Query.TheVariants as queries
 use Rattle.command_program.specs.Planning.{IsFull}
-use Rattle.command_program.specs.Refusals.{IsLine, IsRefusalFor}
-use Rattle.command_program.specs.declared.answer.Answer.{Answer}
-
--- what holds of a line and its status holds of the answer that is this line
-pub of_line :
-    {E : Type 0} (P : Status → List ℕ → Type 0) (s : Status) (line : List ℕ) (r : Result Answer E) → P s line → IfOk r (IsLine s line)
-    → IfOk r (λ answer. P answer.status answer.text.items)
-of_line P s line r holds = IfOk-weaker r (IsLine s line) (λ answer. P answer.status answer.text.items) (λ answer is. rw (is.status_is, is.text_is) holds)
 
 pub plan_refused :
     (text : List ℕ) (call target : TopCall) (old new : Graph) (words : List (List ℕ)) → Starts text call.top call.args old → HasGraph text target.top target.args new
@@ -53,11 +41,3 @@ reading_refused (queries.Graph call) text e refuses plain = by_text (fault_words
 reading_refused (queries.Change cut call target) text e refuses plain =
     starts_not (fault_words e) (has_no_graph (fault_words e) (by_text (fault_words e) (refuses plain)))
 reading_refused (queries.Replay events) text e refuses plain = has_no_graph (fault_words e) (by_text (fault_words e) (refuses plain))
-
--- the line that refuses what is wanted of a description
-pub query_refused :
-    {E : Type 0} (file : List ℕ) (query : Query) (text : List ℕ) (e : DescriptionFault) (r : Result Answer E) → MayRefuse (IsRefused query text) e
-    → IfOk r (IsRefusalFor file e) → IfOk r (λ answer. DescriptionAnswers file query (Held text) answer.status answer.text.items)
-query_refused file query text e r may =
-    IfOk-weaker r (IsRefusalFor file e) (λ answer. DescriptionAnswers file query (Held text) answer.status answer.text.items)
-    (λ answer is. rw (is.status_is, is.text_is) (refused text (fault_words e) (may is.plain)))

@@ -1,46 +1,28 @@
 -- A run from what its parts answer.
-use Rattle.std.proofs.Common.{◌≡◌, ◌∙◌, ℕ, Bool, true, false, List, [], ◌∷◌, ◌++◌, Option, Result, Ok, Err, append-nil, sym, subst, ap}
+use Rattle.std.proofs.Common.{◌≡◌, ◌∙◌, ◌⊎◌, inl, inr, ℕ, Bool, true, false, List, [], ◌++◌, Option, Some, None, Result, Ok, Err, append-nil, refl, sym, subst}
+use Rattle.std.proofs.lemmas.Bool.{false≢true}
 use Rattle.cfg_io.specs.Shelf.{Files}
-use Rattle.change_script.specs.declared.event_files.EventFile.{EventFile}
-use Rattle.change_script.specs.EventFiles.{IsEventFile}
 use Rattle.command_answers.specs.Answers as values
-use Rattle.command_answers.specs.Answers.{ShowsAnswer, refusal, status_of, text_of}
+use Rattle.command_answers.specs.Answers.{refusal_status, refusal_text}
 use Rattle.command_answers.specs.declared.status.Status.{Status}
 use Rattle.command_words.specs.declared.words.Command.{Command}
-use Rattle.command_words.specs.declared.words.Command.TheVariants as commands
 use Rattle.command_words.specs.CommandLine.{Asks}
 use Rattle.command_words.proofs.WordsLaws.{one_command}
+use Rattle.command_spec.specs.Commands.{Shown, course_of, own_files}
+use Rattle.command_spec.specs.Courses.{Course, End, came, refusal}
 use Rattle.command_spec.specs.Known.{AsksOf, HasNoForm}
-use Rattle.command_spec.specs.Commands.{course_of, course_of_query}
-use Rattle.command_spec.specs.Courses.{FetchCourse}
-use Rattle.command_spec.specs.Fetches.{Fetch, fetch_of, failed_name, failed_names, Gave}
-use Rattle.command_spec.specs.OneFile.{EventsAnswers}
-use Rattle.command_spec.specs.Runs.{Written, AnswersWords, asked, Run, Runs}
-use Rattle.command_spec.specs.declared.fetched.Fetched.{Fetched}
-use Rattle.command_spec.specs.declared.fetched.Fetched.TheVariants.{Held}
-use Rattle.command_spec.specs.declared.query.Query.TheVariants as queries
-use Rattle.command_spec.proofs.CourseLaws as courses
-use Rattle.command_program.specs.Reading.{IsEventsOf}
-use Rattle.command_program.specs.Refusals.{Shows}
+use Rattle.command_spec.specs.Runs.{asked, not_read, DoesWords, FollowsOwn, Run, Runs, Written, status_of, text_of}
+use Rattle.command_program.specs.Coming.{ComesOwn, EndsIn, Refuses, Shows, result_status, result_text}
 use Rattle.command_program.specs.declared.answer.Answer.{Answer}
 use Rattle.command_program.specs.declared.answer.Stop.{Stop}
 use Rattle.command_program.specs.declared.answer.Stop.TheVariants as stops
-use Rattle.command_program.specs.Coming.{result_status, result_text, EndsBy, ComesBy}
-use Rattle.std.proofs.lemmas.Bool.{false≢true}
 
--- a run by no fetch
+-- a run that refuses, by no fetch
 pub runs_alone :
-    (knows : Command → Bool) (seen : Run) (answer : values.Answer) → seen.failures' ≡ seen.failures → AnswersWords knows seen.words [] answer
-    → Written (status_of answer) (text_of answer) seen → Runs knows seen
-runs_alone knows seen answer none is written = record {
-  fetches = [];
-  answer = answer;
-  is = tt;
-  answers = is;
-  noted = none ∙ sym (append-nil seen.failures);
-  told = tt;
-  written = written;
-}
+    (knows : Command → Bool) (seen : Run) (why : values.Refusal) → seen.failures' ≡ seen.failures → DoesWords knows seen.files seen.words [] (refusal why)
+    → Written (refusal_status why) (refusal_text why) seen → Runs knows seen
+runs_alone knows seen why none is written =
+    record { failing = []; end = refusal why; by = is; noted = none ∙ sym (append-nil seen.failures); written = written }
 
 -- words of a command that the call doesn't know have none of its forms
 pub not_known :
@@ -48,107 +30,60 @@ pub not_known :
 not_known knows words command unknown asks other known =
     false≢true (sym unknown ∙ subst (λ c. knows c ≡ true) (one_command words other command known.1 asks) known.0)
 
--- one fetch is all that was noted
-one_noted : (names failures failures' : List (List ℕ)) → failures' ≡ failures ++ names → failures' ≡ failures ++ (names ++ [])
-one_noted names failures failures' noted = noted ∙ ap (λ ns. failures ++ ns) (sym (append-nil names))
+-- how what was answered ends a course, by the files of the shelf or by others
+abbrev EndsOwn : Option Files → Option Files → Course Shown → List (List ℕ) → Result Answer Stop → Type 0
+EndsOwn own files course failing (Ok answer) = (s : Shown) × Shows answer s × FollowsOwn own files course failing (came s)
+EndsOwn own files course failing (Err (stops.Refused answer)) =
+    (why : values.Refusal) × Refuses answer why × FollowsOwn own files course failing (refusal why)
+EndsOwn own files course failing (Err stops.NoMemory) = (failing ≡ []) ⊎ FollowsOwn own files course failing (refusal values.no_memory)
+
+record Ended (own files : Option Files) (course : Course Shown) (failures failures' : List (List ℕ)) (r : Result Answer Stop) : Type 0 where
+  failing : List (List ℕ)
+  noted : failures' ≡ failures ++ failing
+  ends : EndsOwn own files course failing r
+
+by_course :
+    (own files : Option Files) (course : Course Shown) (failures failures' : List (List ℕ)) (r : Result Answer Stop)
+    → ComesOwn own files course failures failures' r → Ended own files course failures failures' r
+by_course None files course failures failures' r by = record { failing = by.failing; noted = by.noted; ends = of r by.ends }
+  where
+    of : (r : Result Answer Stop) → EndsIn Shows files course by.failing r → EndsOwn None files course by.failing r
+    of (Ok answer) on = on
+    of (Err (stops.Refused answer)) on = on
+    of (Err stops.NoMemory) on = on
+by_course (Some own) files course failures failures' r (none, on) = record { failing = []; noted = none ∙ sym (append-nil failures); ends = of r on }
+  where
+    of : (r : Result Answer Stop) → EndsIn Shows (Some own) course [] r → EndsOwn (Some own) files course [] r
+    of (Ok answer) (s, shows, on) = (s, shows, (refl, on))
+    of (Err (stops.Refused answer)) (why, refuses, on) = (why, refuses, (refl, on))
+    of (Err stops.NoMemory) on = inl refl
 
 -- a run, from the answer to its command
-module _ (knows : Command → Bool) (seen : Run) (command : Command) (r : Result Answer Stop) (asks : AsksOf knows seen.words command)
-    (by : ComesBy seen.files (course_of command) seen.failures seen.failures' r) where
-  shows :
-      (own : Status) (text : List ℕ) → ShowsAnswer (course_of command by.fetches) own text → Written own text seen → Runs knows seen
-  shows own text ends written = record {
-    fetches = by.fetches;
-    answer = ends.answer;
-    is = tt;
-    answers = asked command by.fetches ends.answer asks ends.is;
-    noted = by.noted;
-    told = by.told;
-    written =
-        subst (λ s. Written s (text_of ends.answer) seen) ends.has_status (subst (λ t. Written own t seen) ends.has_text written);
+module _ (knows : Command → Bool) (seen : Run) (command : Command) (asks : AsksOf knows seen.words command) where
+  does :
+      (failing : List (List ℕ)) (end : End Shown) (own : Status) (text : List ℕ) → seen.failures' ≡ seen.failures ++ failing
+      → own ≡ status_of end → text ≡ text_of end → DoesWords knows seen.files seen.words failing end → Written own text seen → Runs knows seen
+  does failing end own text noted same_status same_text by written = record {
+    failing = failing;
+    end = end;
+    by = by;
+    noted = noted;
+    written = subst (λ s. Written s (text_of end) seen) same_status (subst (λ t. Written own t seen) same_text written);
   }
 
-  pub runs_by : Written (result_status r) (result_text r) seen → Runs knows seen
-  runs_by written = of r by.ends written
+  pub runs_by :
+      (r : Result Answer Stop) → ComesOwn (own_files command) seen.files (course_of command) seen.failures seen.failures' r
+      → Written (result_status r) (result_text r) seen → Runs knows seen
+  runs_by r by written =
+      let e = by_course (own_files command) seen.files (course_of command) seen.failures seen.failures' r by in of r e.failing e.noted e.ends written
     where
-      of : (r : Result Answer Stop) → EndsBy (course_of command) by.fetches r → Written (result_status r) (result_text r) seen → Runs knows seen
-      of (Ok answer) ends written = shows answer.status answer.text.items ends written
-      of (Err (stops.Refused answer)) ends written = shows answer.status answer.text.items ends written
-      of (Err stops.NoMemory) ends written = record {
-        fetches = by.fetches;
-        answer = refusal values.no_memory;
-        is = tt;
-        answers = asked command by.fetches (refusal values.no_memory) asks ends;
-        noted = by.noted;
-        told = by.told;
-        written = written;
-      }
-
--- a run that fetches nothing
-pub runs_unfetched :
-    (knows : Command → Bool) (seen : Run) (command : Command) (r : Result Answer Stop) → seen.failures' ≡ seen.failures → AsksOf knows seen.words command
-    → EndsBy (course_of command) [] r → Written (result_status r) (result_text r) seen → Runs knows seen
-runs_unfetched knows seen command r none asks ends written =
-    runs_by knows seen command r asks (record { fetches = []; noted = none ∙ sym (append-nil seen.failures); told = tt; ends = ends }) written
-
--- one fetch, and an answer or want of memory by what it gave
-module _ (files : Option Files) (course : FetchCourse) (fetch : Fetch) (failures failures' : List (List ℕ))
-    (noted : failures' ≡ failures ++ failed_name fetch) (gave : Gave files fetch) where
-  pub by_fetch : (r : Result Answer Stop) → EndsBy course (fetch ∷ []) r → ComesBy files course failures failures' r
-  by_fetch r ends = record {
-    fetches = fetch ∷ [];
-    noted = one_noted (failed_name fetch) failures failures' noted;
-    told = (gave, tt);
-    ends = ends;
-  }
-
--- no fetch, since memory ran out
-pub by_no_fetch :
-    (files : Option Files) (course : FetchCourse) (failures failures' : List (List ℕ)) → failures' ≡ failures → course [] (refusal values.no_memory)
-    → ComesBy files course failures failures' (Err stops.NoMemory)
-by_no_fetch files course failures failures' noted short =
-    record { fetches = []; noted = noted ∙ sym (append-nil failures); told = tt; ends = short }
-
--- what is answered of a file of events that isn't one
-pub events_stop :
-    (file name : List ℕ) (given : Fetched) (stop : Stop) → Shows (EventsAnswers name given) stop
-    → EndsBy (course_of (commands.Replay file name)) (fetch_of name given ∷ []) (Err stop)
-events_stop file name given (stops.Refused answer) is = courses.events_refused file name given answer.status answer.text.items is
-events_stop file name given stops.NoMemory is = courses.script_unread file name given
-
--- a file of events, and then a description
-replay_answers :
-    (files : Option Files) (file name bytes : List ℕ) (script : EventFile) (failures before failures' : List (List ℕ)) (r : Result Answer Stop)
-    → before ≡ failures ++ failed_name (fetch_of name (Held bytes)) → Gave files (fetch_of name (Held bytes)) → IsEventFile bytes script
-    → ComesBy files (course_of_query file (queries.Replay script)) before failures' r → ComesBy files (course_of (commands.Replay file name)) failures failures' r
-replay_answers files file name bytes script failures before failures' r noted gave is_script by = record {
-  fetches = fetch_of name (Held bytes) ∷ by.fetches;
-  noted = by.noted ∙ ap (λ names. names ++ failed_names by.fetches) (noted ∙ append-nil failures);
-  told = (gave, by.told);
-  ends = of r by.ends;
-}
-  where
-    shown :
-        (own : Status) (text : List ℕ) → ShowsAnswer (course_of_query file (queries.Replay script) by.fetches) own text
-        → ShowsAnswer (course_of (commands.Replay file name) (fetch_of name (Held bytes) ∷ by.fetches)) own text
-    shown own text ends = record {
-      answer = ends.answer;
-      is = courses.script_read file name bytes script by.fetches ends.answer is_script ends.is;
-      has_status = ends.has_status;
-      has_text = ends.has_text;
-    }
-
-    of : (r : Result Answer Stop) → EndsBy (course_of_query file (queries.Replay script)) by.fetches r
-        → EndsBy (course_of (commands.Replay file name)) (fetch_of name (Held bytes) ∷ by.fetches) r
-    of (Ok answer) ends = shown answer.status answer.text.items ends
-    of (Err (stops.Refused answer)) ends = shown answer.status answer.text.items ends
-    of (Err stops.NoMemory) ends = courses.script_read file name bytes script by.fetches (refusal values.no_memory) is_script ends
-
-pub replay_read :
-    (files files' : Option Files) (file name : List ℕ) (given : Fetched) (script : EventFile) (failures before failures' : List (List ℕ)) (r : Result Answer Stop)
-    → files' ≡ files → before ≡ failures ++ failed_name (fetch_of name given) → Gave files (fetch_of name given) → IsEventsOf given script
-    → ComesBy files' (course_of_query file (queries.Replay script)) before failures' r → ComesBy files (course_of (commands.Replay file name)) failures failures' r
-replay_read files files' file name given script failures before failures' r same noted gave read by =
-    replay_answers files file name read.0 script failures before failures' r
-    (subst (λ g. before ≡ failures ++ failed_name (fetch_of name g)) read.1 noted) (subst (λ g. Gave files (fetch_of name g)) read.1 gave) read.2
-    (subst (λ fs. ComesBy fs (course_of_query file (queries.Replay script)) before failures' r) same by)
+      of : (r : Result Answer Stop) (failing : List (List ℕ)) → seen.failures' ≡ seen.failures ++ failing
+          → EndsOwn (own_files command) seen.files (course_of command) failing r → Written (result_status r) (result_text r) seen → Runs knows seen
+      of (Ok answer) failing noted (s, shows, on) written =
+          does failing (came s) answer.status answer.text.items noted shows.0 shows.1 (asked command failing (came s) asks on) written
+      of (Err (stops.Refused answer)) failing noted (why, refuses, on) written =
+          does failing (refusal why) answer.status answer.text.items noted refuses.status_is refuses.text_is (asked command failing (refusal why) asks on) written
+      of (Err stops.NoMemory) failing noted (inl none) written =
+          does [] (refusal values.no_memory) _ _ (subst (λ ns. seen.failures' ≡ seen.failures ++ ns) none noted) refl refl not_read written
+      of (Err stops.NoMemory) failing noted (inr on) written =
+          does failing (refusal values.no_memory) _ _ noted refl refl (asked command failing (refusal values.no_memory) asks on) written

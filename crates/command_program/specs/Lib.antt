@@ -1,11 +1,9 @@
-pub mod Coming
-pub mod Naming
-pub mod Fetching
-pub mod Planning
-pub mod Reading
-pub mod Refusals
 pub mod Calls
+pub mod Coming
 pub mod Fitting
 pub mod Leading
+pub mod Planning
 pub mod Preparing
+pub mod Refusals
+pub mod Sources
 pub mod Ways

@@ -1,9 +1,12 @@
 //! What a run answers.
 
-ghost use Rattle.std.specs.Prelude.{◌∷◌, [], codes, IfOk};
-ghost use Rattle.command_answers.specs.RefusalLines as lines;
-ghost use Rattle.command_program.specs.Refusals.{IsLine};
+ghost use Rattle.std.specs.Prelude.{◌≡◌, ◌∷◌, [], codes, IfOk};
+ghost use Rattle.command_answers.specs.Answers as values;
+ghost use Rattle.command_spec.specs.Sorts.{refusal_of};
+ghost use Rattle.command_program.specs.Coming.{IsOrStop, StopsFor};
+ghost use Rattle.command_program.specs.Sources.{sort_of};
 
+use crate::FileSort;
 use command_answers::{Status, description_too_long_line, read_fault_line, script_too_long_line};
 use config_graph::NoMemory;
 use std::alloc::{AllocError, Global};
@@ -34,32 +37,44 @@ impl From<AllocError> for Stop {
     }
 }
 
+/// The stop that a line tells, or want of memory for it.
+pub fn stop_with(status: Status, line: Result<Vec<u8>, NoMemory>) -> Stop
+    ensures { (why : values.Refusal) → status ≡ values.refusal_status why
+        → IfOk line (λ text. text.items ≡ values.refusal_text why) → StopsFor (λ other. other ≡ why) result }
+{
+    match line {
+        Ok(text) => Stop::Refused(Answer { status, text }),
+        Err(_) => Stop::NoMemory,
+    }
+}
+
 /// The line of a file that can't be read.
-pub fn unreadable(alloc: Global, file: &str) -> Result<Answer, NoMemory>
-    ensures { IfOk result (IsLine Status.ReadFault (lines.read_fault_line file.now)) }
+pub fn unreadable(alloc: Global, file: &str) -> Stop
+    ensures { StopsFor (λ why. why ≡ values.read_fault file.now) result }
 {
-    Ok(Answer {
-        status: Status::ReadFault,
-        text: read_fault_line(alloc, file)?,
-    })
+    stop_with(Status::ReadFault, read_fault_line(alloc, file))
 }
 
-/// The line of a description that is too long.
-pub fn description_too_long(alloc: Global, file: &str) -> Result<Answer, NoMemory>
-    ensures { IfOk result (IsLine Status.Description (lines.description_line file.now (codes "TooLong" ∷ []))) }
+/// The line of a file of a sort that is too long.
+pub fn too_long(alloc: Global, sort: FileSort, file: &str) -> Stop
+    ensures { StopsFor (λ why. why ≡ refusal_of (sort_of sort) file.now (codes "TooLong" ∷ [])) result }
 {
-    Ok(Answer {
-        status: Status::Description,
-        text: description_too_long_line(alloc, file)?,
-    })
+    match sort {
+        FileSort::Description => {
+            stop_with(Status::Description, description_too_long_line(alloc, file))
+        }
+        FileSort::Script | FileSort::Events | FileSort::Report => {
+            stop_with(Status::Script, script_too_long_line(alloc, file))
+        }
+    }
 }
 
-/// The line of a script, a file of events or a report that is too long.
-pub fn script_too_long(alloc: Global, name: &str) -> Result<Answer, NoMemory>
-    ensures { IfOk result (IsLine Status.Script (lines.script_line name.now (codes "TooLong" ∷ []))) }
+/// An answer, or want of memory for it as a stop.
+pub fn or_stop(answer: Result<Answer, NoMemory>) -> Result<Answer, Stop>
+    ensures { IsOrStop answer result }
 {
-    Ok(Answer {
-        status: Status::Script,
-        text: script_too_long_line(alloc, name)?,
-    })
+    match answer {
+        Ok(answer) => Ok(answer),
+        Err(_) => Err(Stop::NoMemory),
+    }
 }

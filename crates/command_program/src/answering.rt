@@ -1,82 +1,61 @@
-//! What is done for words and for commands, by fetches.
+//! What is answered to commands, by fetches.
 
-ghost use Rattle.std.specs.Prelude.{◌≡◌, ℕ, true, List, [], map, string_bytes, IfOk};
+ghost use Rattle.std.specs.Prelude.{◌≡◌, true, [], IfOk, Some};
+ghost use Rattle.command_answers.specs.declared.status.Status.TheVariants.{Ok};
 ghost use Rattle.report_writing.specs.Reports.{LogsAreMade};
-ghost use Rattle.command_answers.specs.Answers.{ShowsAnswer};
-ghost use Rattle.command_words.specs.CommandLine.{Asks};
-ghost use Rattle.command_spec.specs.Known.{on_one_thread};
+ghost use Rattle.command_words.specs.BigFiles.{files_beside, made_files, script_name};
+ghost use Rattle.command_words.specs.HelpTexts.{help_text, version_text};
 ghost use Rattle.command_words.specs.declared.words.Command.TheVariants as commands;
-ghost use Rattle.command_spec.specs.Commands.{SumsUp, course_of, course_of_query, judging};
+ghost use Rattle.command_spec.specs.Commands.{IsRunOf, IsSummary, course_of, judging, of_query, own_files, runs_script};
+ghost use Rattle.command_spec.specs.Known.{on_one_thread};
+ghost use Rattle.command_spec.specs.Naming.{NamesNoFile};
 ghost use Rattle.command_spec.specs.RunReports.{IsReportOf};
-ghost use Rattle.command_spec.specs.Runs.{Runs, run_of};
+ghost use Rattle.command_spec.specs.Schedules.{IsReportBy, IsShownBy, rounds};
 ghost use Rattle.command_spec.specs.declared.query.Query.TheVariants as queries;
+ghost use Rattle.command_program.specs.Coming.{Comes, ComesOwn, EndsIn, IsShown, Shows};
 ghost use Rattle.command_program.specs.Preparing.{CanRun, statements_in};
-ghost use Rattle.command_program.specs.Coming.{ComesBy, EndsBy, EndsInReport, EndsInSummary};
-ghost use Rattle.command_program.specs.Naming.{AskForNoFile, NamesNoFile};
+ghost use Rattle.command_program.specs.Refusals.{IsLine};
 
-use crate::writing::{write_answer, write_no_memory, write_text, write_usage};
+use crate::answer::or_stop;
+use crate::files::{FileSort, fetch_file, read_events, read_report};
 use crate::{
-    Answer, FILE_LIMIT, HELP, Prepared, REPORT_LIMIT, Stop, VERSION, answer_run, answer_summary,
-    describe, fetch_file, judge, prepare, read_events, upgrade,
+    Answer, Prepared, Stop, answer_run, answer_summary, describe, judge, prepare, upgrade,
 };
-use cfg_io::{Shelf, Sink};
+use cfg_io::Shelf;
 use change_round_laws::reports_of_rounds_are_lawful;
 use command_answers::Status;
 use command_spec::{Cut, Query};
-use command_words::{Command, MadeFiles, SCRIPT_NAME, TopCall, read_words};
+use command_words::{Command, Keyword, MadeFiles, SCRIPT_NAME, TopCall, VERSION, help_text};
 use config_graph::NoMemory;
 use report_types::Report;
 use std::alloc::Global;
 use step_board::{NodeTable, StepBoard};
 use step_runner::run_in_rounds;
 
-/// Does what the words ask for, or says that they have none of the forms. The program's own texts are written from
-/// where they stand.
-pub fn run_words<H: Shelf, K: Sink>(
-    alloc: Global,
-    words: &[String],
-    shelf: &mut H,
-    out: &mut K,
-) -> Status
-    ensures runs { Runs on_one_thread (run_of H.Shelf K.Sink (map string_bytes words.now)
-        shelf.old shelf.new out.old out.new result) }
-    ensures kept { H.files shelf.new ≡ H.files shelf.old }
-    ensures untouched { AskForNoFile on_one_thread (map string_bytes words.now) → shelf.new ≡ shelf.old }
-{
-    match read_words(alloc, words) {
-        Ok(None) => write_usage(out),
-        Ok(Some(command)) => run_command(alloc, shelf, out, command),
-        Err(_) => write_no_memory(out),
-    }
-}
-
-/// Does what a command asks for, where it runs on one thread.
-fn run_command<H: Shelf, K: Sink>(
+/// What is answered to a command that runs on one thread.
+pub fn answer_command<H: Shelf>(
     alloc: Global,
     shelf: &mut H,
-    out: &mut K,
     command: Command<'_>,
-) -> Status
-    ensures runs { (words : List (List ℕ)) → Asks words command.entry
-        → Runs on_one_thread (run_of H.Shelf K.Sink words shelf.old shelf.new out.old out.new result) }
+) -> Result<Answer, Stop>
+    requires { on_one_thread command ≡ true }
+    ensures answers { ComesOwn (own_files command.entry) (H.files shelf.old) (course_of command.entry)
+        (H.failed shelf.old) (H.failed shelf.new) result }
     ensures kept { H.files shelf.new ≡ H.files shelf.old }
-    ensures untouched { (on_one_thread command.entry ≡ true → NamesNoFile command.entry) → shelf.new ≡ shelf.old }
+    ensures untouched { NamesNoFile command.entry → shelf.new ≡ shelf.old }
 {
     match command {
-        Command::Help => write_text(out, Status::Ok, HELP.as_bytes()),
-        Command::Version => write_text(out, Status::Ok, VERSION.as_bytes()),
-        Command::Flat { file, call } => write_answer(
-            out,
-            answer_description(alloc, shelf, file.as_str(), &Query::Graph(call)),
-        ),
-        Command::Plan { file, call, target } => write_answer(
-            out,
-            answer_change(alloc, shelf, file.as_str(), Cut::Whole, call, target),
-        ),
-        Command::Parts { file, call, target } => write_answer(
-            out,
-            answer_change(alloc, shelf, file.as_str(), Cut::InParts, call, target),
-        ),
+        Command::Help { of } => or_stop(answer_help(alloc, of)),
+        Command::Version => or_stop(answer_version(alloc)),
+        Command::Flat { file, call } => {
+            answer_description(alloc, shelf, file.as_str(), &Query::Graph(call))
+        }
+        Command::Plan { file, call, target } => {
+            answer_change(alloc, shelf, file.as_str(), Cut::Whole, call, target)
+        }
+        Command::Parts { file, call, target } => {
+            answer_change(alloc, shelf, file.as_str(), Cut::InParts, call, target)
+        }
         Command::Roll {
             file,
             run,
@@ -85,24 +64,39 @@ fn run_command<H: Shelf, K: Sink>(
             target,
         } => {
             let cut = Cut::Rolled { run, within };
-            write_answer(
-                out,
-                answer_change(alloc, shelf, file.as_str(), cut, call, target),
-            )
+            answer_change(alloc, shelf, file.as_str(), cut, call, target)
         }
-        Command::Replay { file, events } => write_answer(
-            out,
-            answer_replay(alloc, shelf, file.as_str(), events.as_str()),
-        ),
-        Command::Upgrade { file } => write_answer(out, answer_report(alloc, shelf, file.as_str())),
-        Command::Step { script } => write_answer(out, answer_script(alloc, shelf, script.as_str())),
-        Command::Live { .. } => write_usage(out),
-        Command::Check { script, report } => write_answer(
-            out,
-            answer_check(alloc, shelf, script.as_str(), report.as_str()),
-        ),
-        Command::Big { lanes } => write_answer(out, answer_big(alloc, lanes)),
+        Command::Replay { file, events } => {
+            answer_replay(alloc, shelf, file.as_str(), events.as_str())
+        }
+        Command::Upgrade { file } => answer_report(alloc, shelf, file.as_str()),
+        Command::Step { script } => answer_script(alloc, shelf, script.as_str()),
+        Command::Live { .. } => unreachable!(),
+        Command::Check { script, report } => {
+            answer_check(alloc, shelf, script.as_str(), report.as_str())
+        }
+        Command::Big { lanes } => answer_big(alloc, lanes),
     }
+}
+
+/// What the program says of its commands, or of one.
+fn answer_help(alloc: Global, of: Option<Keyword>) -> Result<Answer, NoMemory>
+    ensures { IfOk result (IsLine Ok (help_text of)) }
+{
+    Ok(Answer {
+        status: Status::Ok,
+        text: help_text(alloc, of)?,
+    })
+}
+
+/// The program's name and version.
+fn answer_version(alloc: Global) -> Result<Answer, NoMemory>
+    ensures { IfOk result (IsLine Ok version_text) }
+{
+    Ok(Answer {
+        status: Status::Ok,
+        text: Vec::from_slice(alloc, VERSION.as_bytes())?,
+    })
 }
 
 /// Fetches a description, and answers what is wanted of it.
@@ -112,12 +106,12 @@ fn answer_description<H: Shelf>(
     file: &str,
     query: &Query<'_>,
 ) -> Result<Answer, Stop>
-    ensures answers { ComesBy (H.files shelf.old) (course_of_query file.now query.now)
+    ensures answers { Comes Shows (H.files shelf.old) (of_query file.now query.now)
         (H.failed shelf.old) (H.failed shelf.new) result }
     ensures kept { H.files shelf.new ≡ H.files shelf.old }
 {
-    let fetched = fetch_file(shelf, file, FILE_LIMIT)?;
-    Ok(describe(alloc, file, query, fetched)?)
+    let text = fetch_file(alloc, shelf, FileSort::Description, file)?;
+    describe(alloc, file, query, text.items())
 }
 
 /// Fetches a description, and answers the change from one component to another, made so.
@@ -129,7 +123,7 @@ fn answer_change<H: Shelf>(
     call: TopCall<'_>,
     target: TopCall<'_>,
 ) -> Result<Answer, Stop>
-    ensures answers { ComesBy (H.files shelf.old) (course_of_query file.now (queries.Change cut call.entry target.entry))
+    ensures answers { Comes Shows (H.files shelf.old) (of_query file.now (queries.Change cut call.entry target.entry))
         (H.failed shelf.old) (H.failed shelf.new) result }
     ensures kept { H.files shelf.new ≡ H.files shelf.old }
 {
@@ -143,33 +137,32 @@ fn answer_replay<H: Shelf>(
     file: &str,
     events: &str,
 ) -> Result<Answer, Stop>
-    ensures answers { ComesBy (H.files shelf.old) (course_of (commands.Replay file.now events.now))
+    ensures answers { Comes Shows (H.files shelf.old) (course_of (commands.Replay file.now events.now))
         (H.failed shelf.old) (H.failed shelf.new) result }
     ensures kept { H.files shelf.new ≡ H.files shelf.old }
 {
-    let fetched = fetch_file(shelf, events, FILE_LIMIT)?;
-    let read = read_events(alloc, events, fetched)?;
+    let read = read_events(alloc, shelf, events)?;
     answer_description(alloc, shelf, file, &Query::Replay(read))
 }
 
 /// Fetches a report, and answers its text in the version that is written today.
 fn answer_report<H: Shelf>(alloc: Global, shelf: &mut H, file: &str) -> Result<Answer, Stop>
-    ensures answers { ComesBy (H.files shelf.old) (course_of (commands.Upgrade file.now)) (H.failed shelf.old)
+    ensures answers { Comes Shows (H.files shelf.old) (course_of (commands.Upgrade file.now)) (H.failed shelf.old)
         (H.failed shelf.new) result }
     ensures kept { H.files shelf.new ≡ H.files shelf.old }
 {
-    let fetched = fetch_file(shelf, file, REPORT_LIMIT)?;
-    Ok(upgrade(alloc, file, fetched)?)
+    let report = read_report(alloc, shelf, file)?;
+    or_stop(upgrade(alloc, &report))
 }
 
 /// Fetches a script and what it uses, runs it, and answers the report.
 fn answer_script<H: Shelf>(alloc: Global, shelf: &mut H, name: &str) -> Result<Answer, Stop>
-    ensures answers { ComesBy (H.files shelf.old) (course_of (commands.Step name.now)) (H.failed shelf.old)
+    ensures answers { Comes Shows (H.files shelf.old) (course_of (commands.Step name.now)) (H.failed shelf.old)
         (H.failed shelf.new) result }
     ensures kept { H.files shelf.new ≡ H.files shelf.old }
 {
     let asked = prepare(alloc, shelf, name)?;
-    Ok(run_script(alloc, asked)?)
+    or_stop(run_script(alloc, asked))
 }
 
 /// Fetches a script and what it uses, and then a report, and answers whether this can be one of this machine.
@@ -179,7 +172,7 @@ fn answer_check<H: Shelf>(
     name: &str,
     file: &str,
 ) -> Result<Answer, Stop>
-    ensures answers { ComesBy (H.files shelf.old) (course_of (commands.Check name.now file.now))
+    ensures answers { Comes Shows (H.files shelf.old) (course_of (commands.Check name.now file.now))
         (H.failed shelf.old) (H.failed shelf.new) result }
     ensures kept { H.files shelf.new ≡ H.files shelf.old }
 {
@@ -195,28 +188,36 @@ fn answer_judgement<H: Shelf>(
     file: &str,
 ) -> Result<Answer, Stop>
     requires { CanRun asked.now }
-    ensures answers { ComesBy (H.files shelf.old) (judging file.now (statements_in asked.now))
+    ensures answers { Comes Shows (H.files shelf.old) (judging file.now (statements_in asked.now))
         (H.failed shelf.old) (H.failed shelf.new) result }
     ensures kept { H.files shelf.new ≡ H.files shelf.old }
 {
-    let fetched = fetch_file(shelf, file, REPORT_LIMIT)?;
-    Ok(judge(alloc, asked, file, fetched)?)
+    let report = read_report(alloc, shelf, file)?;
+    or_stop(judge(alloc, asked, &report))
 }
 
 /// Makes a system of so many lanes and a script, runs it, and answers the summary.
 fn answer_big(alloc: Global, lanes: u32) -> Result<Answer, Stop>
-    ensures { EndsBy (SumsUp lanes) [] result }
+    ensures { EndsIn Shows (Some (made_files lanes)) (course_of (commands.Big lanes)) [] result }
 {
-    let mut made = MadeFiles::of(alloc, lanes)?;
+    match MadeFiles::of(alloc, lanes) {
+        Ok(made) => answer_made(alloc, lanes, made),
+        Err(_) => Err(Stop::NoMemory),
+    }
+}
+
+/// Runs the script that was made for so many lanes, and answers the summary.
+fn answer_made(alloc: Global, lanes: u32, mut made: MadeFiles) -> Result<Answer, Stop>
+    ensures { EndsIn Shows (Some (files_beside made)) (runs_script (IsReportBy rounds) (IsSummary lanes) script_name) [] result }
+{
     let asked = prepare(alloc, &mut made, SCRIPT_NAME)?;
-    Ok(sum_up(alloc, lanes, asked)?)
+    or_stop(sum_up(alloc, lanes, asked))
 }
 
 /// Runs what a script asks for, and answers the report.
 fn run_script(alloc: Global, asked: Prepared) -> Result<Answer, NoMemory>
     requires { CanRun asked }
-    ensures { IfOk result
-        (λ answer. ShowsAnswer (EndsInReport (statements_in asked)) answer.status answer.text.items) }
+    ensures { IfOk result (IsShown (IsRunOf (IsReportBy rounds) (IsShownBy rounds) (statements_in asked))) }
 {
     let report = report_of(alloc, asked)?;
     answer_run(alloc, &report)
@@ -225,8 +226,7 @@ fn run_script(alloc: Global, asked: Prepared) -> Result<Answer, NoMemory>
 /// Runs what the script of so many lanes asks for, and answers the summary.
 fn sum_up(alloc: Global, lanes: u32, asked: Prepared) -> Result<Answer, NoMemory>
     requires { CanRun asked }
-    ensures { IfOk result
-        (λ answer. ShowsAnswer (EndsInSummary lanes (statements_in asked)) answer.status answer.text.items) }
+    ensures { IfOk result (IsShown (IsRunOf (IsReportBy rounds) (IsSummary lanes) (statements_in asked))) }
 {
     let report = report_of(alloc, asked)?;
     answer_summary(alloc, lanes, &report)

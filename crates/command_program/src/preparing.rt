@@ -1,16 +1,16 @@
 //! What a script asks of a run, before it is run.
 
-ghost use Rattle.std.specs.Prelude.{◌≡◌, ℕ, List, IfErr, IfOk, IsSome};
+ghost use Rattle.std.specs.Prelude.{◌≡◌, ℕ, List, IfOk, IsSome};
 ghost use Rattle.change_script.specs.ScriptFiles.{IsScript};
-ghost use Rattle.command_spec.specs.Leads.{LeadBy, falls_short};
-ghost use Rattle.command_spec.specs.Lines.{begun, FollowsLines};
-ghost use Rattle.command_spec.specs.Scripts.{lines_of_script};
-ghost use Rattle.command_program.specs.Preparing.{CanRun, IsAskedBy, Prepares, PreparesBy};
-ghost use Rattle.command_program.specs.Refusals.{EndsNoRun};
+ghost use Rattle.command_spec.specs.Lines.{begun, of_lines};
+ghost use Rattle.command_spec.specs.Scripts.{lines_of_script, prepares};
+ghost use Rattle.command_program.specs.Coming.{Comes};
+ghost use Rattle.command_program.specs.Preparing.{CanRun, IsAskedBy, IsPrepared};
 
+use crate::Stop;
+use crate::files::read_script;
 use crate::taking::take_lines;
 use crate::way::Way;
-use crate::{FILE_LIMIT, Stop, fetch_file, read_script};
 use cfg_io::Shelf;
 use change_spec::{Start, Step};
 use report_types::Script;
@@ -25,25 +25,22 @@ pub struct Prepared {
 
 /// Fetches a script and the files that it uses, and makes the graphs and plans of what it asks for.
 pub fn prepare<H: Shelf>(alloc: Global, shelf: &mut H, name: &str) -> Result<Prepared, Stop>
-    ensures prepares { Prepares (H.files shelf.old) name.now (H.failed shelf.old) (H.failed shelf.new) result }
+    ensures prepares { Comes IsPrepared (H.files shelf.old) (prepares name.now) (H.failed shelf.old)
+        (H.failed shelf.new) result }
     ensures kept { H.files shelf.new ≡ H.files shelf.old }
     ensures can_run { IfOk result CanRun }
-    ensures refuses { IfErr result EndsNoRun }
 {
-    let fetched = fetch_file(shelf, name, FILE_LIMIT)?;
-    let script = read_script(alloc, name, fetched)?;
+    let script = read_script(alloc, shelf, name)?;
     prepare_lines(alloc, shelf, script)
 }
 
 /// The same for the lines of a script.
 fn prepare_lines<H: Shelf>(alloc: Global, shelf: &mut H, script: Script) -> Result<Prepared, Stop>
     requires { (text : List ℕ) × IsScript text script }
-    ensures prepares { PreparesBy (LeadBy begun (lines_of_script script.lines))
-        (FollowsLines falls_short begun (lines_of_script script.lines))
-        (H.files shelf.old) (H.failed shelf.old) (H.failed shelf.new) result }
+    ensures prepares { Comes IsPrepared (H.files shelf.old) (of_lines begun (lines_of_script script.lines))
+        (H.failed shelf.old) (H.failed shelf.new) result }
     ensures kept { H.files shelf.new ≡ H.files shelf.old }
     ensures can_run { IfOk result CanRun }
-    ensures refuses { IfErr result EndsNoRun }
 {
     let mut way = Way::new(alloc);
     take_lines(alloc, shelf, &mut way, script.lines.into_vec())?;

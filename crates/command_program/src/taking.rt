@@ -1,22 +1,23 @@
 //! The lines of a script, one after the other.
 
-ghost use Rattle.std.specs.Prelude.{◌≡◌, ◌∷◌, ℕ, ℤ, List as Items, [], false, IfErr, IsSome, None, OnOk, is_some};
+ghost use Rattle.std.specs.Prelude.{◌≡◌, ◌∷◌, [], false, IsSome, None, OnOk, Option, is_some, string_bytes};
+ghost use Rattle.cfg_io.specs.Shelf.{Files};
 ghost use Rattle.std.specs.Str.{IsUtf8};
-ghost use Rattle.command_answers.specs.DescriptionFaults.{MayRefuse};
 ghost use Rattle.change_script.specs.ScriptFiles.{is_file, is_start};
 ghost use Rattle.report_types.specs.declared.script.Body.{Body as Statement};
-ghost use Rattle.command_spec.specs.Lines.{GraphUse, IsCallRefusal, Progress, calls, changes, does, starts, uses};
+ghost use Rattle.command_spec.specs.Lines.{Progress, calls, changes, does, starts, uses};
 ghost use Rattle.command_spec.specs.Scripts.{lines_of_body, lines_of_script};
 ghost use Rattle.command_program.specs.Fitting.{MayAllStand, MayStand};
-ghost use Rattle.command_program.specs.Leading.{LeadOn, Marks, StopAt, Took};
-ghost use Rattle.command_program.specs.Refusals.{EndsNoRun};
+ghost use Rattle.command_program.specs.Coming.{StopsFor};
+ghost use Rattle.command_program.specs.Leading.{LeadOn, Marks, Took};
+ghost use Rattle.command_program.specs.Refusals.{IsFaultOf};
 ghost use Rattle.command_program.specs.Ways.{IsAt, IsNoChange};
 ghost use Rattle.change_spec.specs.Asked.{statement_of};
 
+use crate::Stop;
 use crate::changing::{change_to, start_with};
-use crate::used_files::read_description;
+use crate::files::{read_description, refuse_description};
 use crate::way::Way;
-use crate::{FILE_LIMIT, Stop, fetch_file, refuse_description};
 use cfg_io::Shelf;
 use change_plan::Move;
 use change_spec::Step;
@@ -37,7 +38,6 @@ pub fn take_lines<H: Shelf>(
         → Took (H.files shelf.old) p (lines_of_script lines.items) (H.failed shelf.old) (H.failed shelf.new)
         way.new result }
     ensures begun { OnOk result (IsSome way.new.start) }
-    ensures refuses { IfErr result EndsNoRun }
     ensures kept { H.files shelf.new ≡ H.files shelf.old }
 {
     for line in lines {
@@ -52,7 +52,6 @@ fn take_line<H: Shelf>(alloc: Global, shelf: &mut H, way: &mut Way, body: Body) 
     ensures took { (p : Progress) → IsAt way.old p
         → Took (H.files shelf.old) p (lines_of_body body) (H.failed shelf.old) (H.failed shelf.new) way.new result }
     ensures marks { OnOk result (Marks way.old way.new body) }
-    ensures refuses { IfErr result EndsNoRun }
     ensures kept { H.files shelf.new ≡ H.files shelf.old }
 {
     match body {
@@ -77,12 +76,10 @@ fn use_file<H: Shelf>(alloc: Global, shelf: &mut H, way: &mut Way, name: Text) -
     ensures took { (p : Progress) → IsAt way.old p
         → Took (H.files shelf.old) p (uses name ∷ []) (H.failed shelf.old) (H.failed shelf.new) way.new result }
     ensures marks { OnOk result (Marks way.old way.new (Body.File name)) }
-    ensures refuses { IfErr result EndsNoRun }
     ensures kept { H.files shelf.new ≡ H.files shelf.old }
 {
     let file = str_of(&name);
-    let fetched = fetch_file(shelf, file, FILE_LIMIT)?;
-    let checked = read_description(alloc, file, fetched)?;
+    let checked = read_description(alloc, shelf, file)?;
     way.describe(String::from_str(alloc, file)?, checked);
     Ok(())
 }
@@ -91,9 +88,8 @@ fn use_file<H: Shelf>(alloc: Global, shelf: &mut H, way: &mut Way, name: Text) -
 fn start(alloc: Global, way: &mut Way, name: Text, args: List<i32>) -> Result<(), Stop>
     requires used { IsSome way.old.used }
     requires unbegun { way.old.start ≡ None }
-    ensures lead { (p : Progress) → IsAt way.old p → LeadOn p (calls starts name args ∷ []) [] way.new result }
+    ensures lead { (files : Option Files) (p : Progress) → IsAt way.old p → LeadOn files p (calls starts name args ∷ []) way.new result }
     ensures marks { OnOk result (Marks way.old way.new (Body.Start name args)) }
-    ensures refuses { IfErr result EndsNoRun }
 {
     match start_with(alloc, way, name, args) {
         Ok(start) => {
@@ -115,10 +111,9 @@ fn change(
 ) -> Result<(), Stop>
     requires used { IsSome way.old.used }
     requires begun { IsSome way.old.start }
-    ensures lead { (p : Progress) → IsAt way.old p
-        → LeadOn p (calls (changes within moves) name args ∷ []) [] way.new result }
+    ensures lead { (files : Option Files) (p : Progress) → IsAt way.old p
+        → LeadOn files p (calls (changes within moves) name args ∷ []) way.new result }
     ensures marks { OnOk result (Marks way.old way.new (Body.Change name args within moves)) }
-    ensures refuses { IfErr result EndsNoRun }
 {
     match change_to(alloc, way, name, args, within, moves) {
         Ok(change) => Ok(way.add_change(change)?),
@@ -130,25 +125,18 @@ fn change(
 fn do_step(way: &mut Way, step: Step) -> Result<(), Stop>
     requires begun { IsSome way.old.start }
     requires not_change { IsNoChange step }
-    ensures lead { (p : Progress) → IsAt way.old p → LeadOn p (does (statement_of step) ∷ []) [] way.new result }
+    ensures lead { (files : Option Files) (p : Progress) → IsAt way.old p → LeadOn files p (does (statement_of step) ∷ []) way.new result }
     ensures marks { (body : Statement) → is_file body ≡ false → is_start body ≡ false
         → OnOk result (Marks way.old way.new body) }
-    ensures refuses { IfErr result EndsNoRun }
 {
     Ok(way.add_step(step)?)
 }
 
 /// The line that refuses a start or a change, or want of memory.
 fn refuse(alloc: Global, way: &Way, fault: &DescriptionFault) -> Stop
-    ensures refuses { EndsNoRun result }
-    ensures stops { (p : Progress) (deed : GraphUse) (name : Items ℕ) (args : Items ℤ) → IsAt way.now p
-        → MayRefuse (IsCallRefusal p deed name args) fault.now
-        → StopAt p (calls deed name args ∷ []) [] result }
+    ensures { StopsFor (IsFaultOf (string_bytes way.now.file) fault.now) result }
 {
-    match refuse_description(alloc, way.file.as_str(), fault) {
-        Ok(answer) => Stop::Refused(answer),
-        Err(_) => Stop::NoMemory,
-    }
+    refuse_description(alloc, way.file.as_str(), fault)
 }
 
 /// The name of a file.

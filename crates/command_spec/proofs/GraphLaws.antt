@@ -1,6 +1,10 @@
 -- The graph of a component is sound, and has few nodes, and so few ports.
 use Rattle.std.proofs.Common.{◌⊎◌, inl, inr, ℕ, ℤ, List, subst, arith}
 use Rattle.config_graph.specs.Graph.{Graph, IsGraph}
+use Rattle.config_graph.specs.declared.node.Made.{Made}
+use Rattle.change_plan.specs.Refusals.{CanPlan, IsRefusal}
+use Rattle.change_plan.specs.declared.error.PlanError.{PlanError}
+use Rattle.change_plan.specs.declared.plan_data.Move.{Move}
 use Rattle.config_graph.specs.Sound.{Sound}
 use Rattle.config_graph.proofs.NumberingLaws.{ports_from}
 use Rattle.darwin_parser.specs.Tree.{Name, Tree}
@@ -40,3 +44,12 @@ module _ (graphs : GraphOrFault) (text name : List ℕ) (args : List ℤ) (g : G
 
   pub has_bounds : IsGraph g
   has_bounds = is_graph has.tree name args g has.is.no_fault has.is.is_graph is_sound
+
+-- laws of plans, as they stand there
+abbrev pub PlanOrRefusal : Type 0
+PlanOrRefusal =
+    (old new : Graph) (moves : List Move) (made : Made) → IsGraph old → IsGraph new
+    → CanPlan old new moves made ⊎ ((e : PlanError) × IsRefusal old new moves made e)
+
+abbrev pub PlanAlone : Type 0
+PlanAlone = (old new : Graph) (moves : List Move) (made : Made) → IsGraph old → IsGraph new → (e : PlanError) → CanPlan old new moves made → ¬ IsRefusal old new moves made e

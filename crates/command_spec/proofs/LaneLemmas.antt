@@ -1,13 +1,11 @@
 -- The elaborations of the description for each number of lanes, before the change and after it: each number is tried.
-use Rattle.std.proofs.Common.{◌≡◌, ◌==◌, cond, ◌≤◌, ◌<◌, ◌+◌, ◌-◌, ◌∙◌, ◌⊎◌, inl, inr, ◌&&◌, ℕ, nat_le, ℤ, pos, Bool, true, List, [], ◌∷◌, codes, length, refl, sym, subst, arith}
+use Rattle.std.proofs.Common.{◌≡◌, ◌==◌, cond, ◌≤◌, ◌<◌, ◌+◌, ◌-◌, ◌∙◌, ◌⊎◌, inl, inr, ◌&&◌, ℕ, nat_le, ℤ, pos, Bool, true, List, [], ◌∷◌, codes, length, refl, arith}
 use Rattle.std.specs.Fmt.{digits}
 use Rattle.std.specs.List.{list_all, range_with_len}
 use Rattle.std.proofs.lemmas.Bool.{and_parts, cases_lt}
 use Rattle.std.proofs.lemmas.List.FromFn.{get_or-range_with_len, length-range_with_len}
 use Rattle.command_words.specs.BigFiles.{script}
-use Rattle.command_spec.specs.Fetches.{file_limit}
-use Rattle.command_words.specs.CommandLine.{Asks}
-use Rattle.command_words.specs.declared.words.Command.TheVariants as commands
+use Rattle.command_spec.specs.Sorts.{limit_of, of_script}
 use Rattle.elaborator.specs.Instances.{levels}
 use Rattle.elaborator.specs.Paths.{Path}
 use Rattle.elaborator.specs.FaultCases.{Query}
@@ -37,7 +35,7 @@ abbrev may_change : ℕ → Bool
 may_change lanes = may_run lanes 1 && may_run lanes 2
 
 abbrev is_short : ℕ → Bool
-is_short lanes = nat_le (length (script lanes)) file_limit
+is_short lanes = nat_le (length (script lanes)) (limit_of of_script)
 
 -- ---- numbers are tried five at a time, since all at once are too many steps
 
@@ -97,11 +95,5 @@ module _ (lanes : ℕ) (some : 1 ≤ lanes) (few : lanes ≤ 40) where
   pub both_may_run : (may_run lanes 1 ≡ true) × (may_run lanes 2 ≡ true)
   both_may_run = and_parts (may_run lanes 1) (may_run lanes 2) (to_40 lanes some (omega (arith, few)))
 
-  pub script_is_short : nat_le (length (script lanes)) file_limit ≡ true
+  pub script_is_short : nat_le (length (script lanes)) (limit_of of_script) ≡ true
   script_is_short = all_have is_short (range_with_len 0 41) all_are_short lanes (Contains-places 41 lanes (omega (arith, few)))
-
--- so many lanes may be asked for
-pub lanes_within : (words : List (List ℕ)) (lanes : ℕ) → Asks words (commands.Big lanes) → (1 ≤ lanes) × (lanes ≤ 40)
-lanes_within [] lanes none = absurd none
-lanes_within (word ∷ body) lanes (named, (count, body_is, is, value)) =
-    (subst (λ k. 1 ≤ k) (sym value) is.1, subst (λ k. k ≤ 40) (sym value) is.2)

@@ -1,20 +1,13 @@
--- Where the shelf tells each file that a script uses, its lines lead on or one of them is refused: that neither is so can't be.
-use Rattle.std.proofs.Common.{◌≡◌, ◌∙◌, ◌≤◌, ◌<◌, ◌⊎◌, inl, inr, ℕ, zero, suc, ℤ, Bool, true, false, List, [], ◌∷◌, ◌++◌, Option, Some, None, IsSomeAnd, codes, length, take, slice_get, refl, sym, ap, subst, arith}
+-- Where the shelf tells each file that a script uses, its lines lead on or one of them is refused.
+use Rattle.std.proofs.Common.{◌≡◌, ◌∙◌, ◌≤◌, ◌<◌, ◌⊎◌, inl, inr, ℕ, ℤ, Bool, true, false, List, [], ◌∷◌, ◌++◌, Some, IsSomeAnd, codes, length, refl, sym, ap, subst}
 use Rattle.std.specs.Prelude.{◌||◌}
 use Rattle.std.proofs.lemmas.Bool.{cases_lt}
-use Rattle.std.proofs.lemmas.Option.{same_Some, none-some}
 use Rattle.base.specs.Each.{EachAfter}
 use Rattle.cfg_io.specs.Shelf.{Files}
-use Rattle.config_graph.specs.Graph.{Graph, ports}
 use Rattle.config_graph.specs.Sound.{Sound}
 use Rattle.config_graph.specs.declared.node.Made.{Made}
-use Rattle.change_plan.specs.Moves.{IsFit, IsPathGone, MayMove, MayMoveAll, MovesFrom, MovesTo}
-use Rattle.change_plan.specs.Refusals.{CanPlan, CreatesSoMany, FirstMoveFault, IsRefusal, MoveFault}
-use Rattle.change_plan.specs.Room.{HasRoom, HasRoomFor, LacksRoomFor, RoomFault}
 use Rattle.change_plan.specs.declared.error.PlanError.{PlanError}
-use Rattle.change_plan.specs.declared.error.PlanError.TheVariants.{NotRemoved, NotCreated, KindsDiffer, MovedTwice}
 use Rattle.change_plan.specs.declared.plan_data.Move.{Move}
-use Rattle.change_plan.proofs.RoomLaws.{room_or_fault}
 use Rattle.change_script.specs.ScriptFiles.{IsScript, has, is_file, is_out_of_order, is_start}
 use Rattle.report_types.specs.declared.script.Body.{Body}
 use Rattle.report_types.specs.declared.script.Body.TheVariants as bodies
@@ -30,106 +23,19 @@ use Rattle.elaborator.specs.Faults.{Faults}
 use Rattle.elaborator.specs.declared.error.ElabError.{ElabError}
 use Rattle.command_answers.specs.RefusalLines.{elaborate_words, plan_words}
 use Rattle.change_spec.specs.Scripts.{more_made}
+use Rattle.command_answers.specs.Answers.{description}
+use Rattle.command_spec.specs.Courses.{came, refusal, here, too_long, leads_on, refused, gives}
 use Rattle.command_spec.specs.Descriptions.{IsChecked, IsTextRefusal}
-use Rattle.command_spec.specs.Failures.{Uses}
-use Rattle.command_spec.specs.Fetches.{file_limit}
-use Rattle.command_spec.specs.Lines.{GraphUse, starts, changes, RunLine, uses, calls, does, Progress, begun, with_description, with_called_graph, with_statement, Allows, CallLeads, IsCallRefusal, by_elaboration, by_deed}
-use Rattle.command_spec.specs.Outcomes.{HoldsFile, TellsTooLong}
-use Rattle.command_spec.specs.Scripts.{lines_of_body, lines_of_script}
-use Rattle.command_spec.specs.Ways.{IsTextIn, UseLeads, LeadTo, too_long_to_use, at_fault, leads_nowhere, AreRefused}
-use Rattle.command_spec.proofs.TotalityLaws.{room_for, wanted, text_or_refusal}
-use Rattle.command_spec.proofs.WayLaws.{refused_at, refused_below_use, refused_below_call, refused_below_deed}
-
--- that neither a thing nor its contrary is so can't be
-not_neither : (P : Type 0) → ¬ ¬ (P ⊎ (¬ P))
-not_neither P none = none (inr (λ has. none (inl has)))
-
--- ---- a plan may be made, or a first thing stands against it
-
-module _ (old new : Graph) where
-  may_or_fault : (before : List Move) (m : Move) → ¬ ¬ (MayMove old new before m ⊎ ((e : PlanError) × MoveFault old new before m e))
-  may_or_fault before m none = not_neither (IsPathGone old new m.from) from
-    where
-      target : (fit : IsFit old new m) → ¬ MovesFrom before m.from → MovesTo before m.to ⊎ (¬ MovesTo before m.to) → ⊥
-      target fit fresh (inl twice) = none (inr (MovedTwice m.to, (fit, inr (refl, fresh, twice))))
-      target fit fresh (inr also) = none (inl (record { fit = fit; other_source = fresh; other_target = also }))
-
-      source : (fit : IsFit old new m) → MovesFrom before m.from ⊎ (¬ MovesFrom before m.from) → ⊥
-      source fit (inl twice) = none (inr (MovedTwice m.from, (fit, inl (refl, twice))))
-      source fit (inr fresh) = not_neither (MovesTo before m.to) (target fit fresh)
-
-      kinds :
-          (gone : IsPathGone old new m.from) (made : IsPathGone new old m.to)
-          → (gone.1.node.kind ≡ made.1.node.kind) ⊎ (¬ (gone.1.node.kind ≡ made.1.node.kind)) → ⊥
-      kinds gone made (inl same) =
-          let fit : IsFit old new m = record {
-            source = gone.0;
-            target = made.0;
-            leads = record { removed = gone.1; created = made.1 };
-            same_kind = same;
-          } in
-          not_neither (MovesFrom before m.from) (source fit)
-      kinds gone made (inr differ) =
-          none (inr (
-            KindsDiffer m.from m.to,
-            (
-              refl,
-              refl,
-              record { source = gone.0; target = made.0; leads = record { removed = gone.1; created = made.1 }; differ = differ },
-            ),
-          ))
-
-      to : IsPathGone old new m.from → IsPathGone new old m.to ⊎ (¬ IsPathGone new old m.to) → ⊥
-      to gone (inl made) = not_neither (gone.1.node.kind ≡ made.1.node.kind) (kinds gone made)
-      to gone (inr missing) = none (inr (NotCreated m.to, (refl, gone, missing)))
-
-      from : IsPathGone old new m.from ⊎ (¬ IsPathGone old new m.from) → ⊥
-      from (inl gone) = not_neither (IsPathGone new old m.to) (to gone)
-      from (inr missing) = none (inr (NotRemoved m.from, (refl, missing)))
-
-  module _ (moves : List Move) where
-    one_more :
-        (n : ℕ) → MayMoveAll old new moves n → ((m : Move) → slice_get moves n ≡ Some m → MayMove old new (take n moves) m)
-        → MayMoveAll old new moves (suc n)
-    one_more n may last k m low at = by (cases_lt k n)
-      where
-        by : (k < n) ⊎ (n ≤ k) → MayMove old new (take k moves) m
-        by (inl less) = may k m less at
-        by (inr past) =
-            let same : n ≡ k = omega (arith, low, past) in
-            subst (λ j. MayMove old new (take j moves) m) same (last m (ap (slice_get moves) same ∙ at))
-
-    moves_or_fault : (n : ℕ) → ¬ ¬ (MayMoveAll old new moves n ⊎ ((e : PlanError) × FirstMoveFault old new moves e))
-    moves_or_fault zero none = none (inl (λ k m low at. absurd (omega (arith, low))))
-    moves_or_fault (suc n) none = moves_or_fault n by
-      where
-        either :
-            MayMoveAll old new moves n → (m : Move) → slice_get moves n ≡ Some m
-            → MayMove old new (take n moves) m ⊎ ((e : PlanError) × MoveFault old new (take n moves) m e) → ⊥
-        either may m at (inl is) =
-            none (inl (one_more n may (λ other here. subst (MayMove old new (take n moves)) (same_Some m other (sym at ∙ here)) is)))
-        either may m at (inr (e, fault)) = none (inr (e, record { count = n; move = m; at = at; before = may; fault = fault }))
-
-        next : MayMoveAll old new moves n → (o : Option Move) → slice_get moves n ≡ o → ⊥
-        next may None at = none (inl (one_more n may (λ other here. absurd (none-some other (sym at ∙ here)))))
-        next may (Some m) at = may_or_fault (take n moves) m (either may m at)
-
-        by : MayMoveAll old new moves n ⊎ ((e : PlanError) × FirstMoveFault old new moves e) → ⊥
-        by (inl may) = next may (slice_get moves n) refl
-        by (inr fault) = none (inr fault)
-
-    plan_or_refusal : (made : Made) → ¬ ¬ (CanPlan old new moves made ⊎ ((e : PlanError) × IsRefusal old new moves made e))
-    plan_or_refusal made none = moves_or_fault (length moves) by
-      where
-        room :
-            MayMoveAll old new moves (length moves) → (n p : ℕ) → CreatesSoMany old new n p
-            → HasRoom made n p ⊎ ((e : PlanError) × RoomFault made n p e) → ⊥
-        room may n p creates (inl fits) = none (inl (record { may_move = may; nodes = n; ports = p; wanted = creates; room = fits }))
-        room may n p creates (inr (e, full)) = none (inr (e, inr (may, (n, p, creates, full))))
-
-        by : MayMoveAll old new moves (length moves) ⊎ ((e : PlanError) × FirstMoveFault old new moves e) → ⊥
-        by (inl may) = wanted old new (λ w. room may w.0 w.1 w.2 (room_or_fault made w.0 w.1))
-        by (inr (e, fault)) = none (inr (e, inl fault))
+use Rattle.command_spec.specs.Endings.{Refuses}
+use Rattle.command_spec.specs.Files.{IsTold}
+use Rattle.command_spec.specs.Lines.{GraphUse, starts, changes, RunLine, uses, calls, does, Progress, begun, of_lines, with_description, with_called_graph, with_statement, Allows, Forbids, CallLeads, IsCallRefusal, by_elaboration, by_deed}
+use Rattle.command_spec.specs.Scripts.{LeadTo, Uses, lines_of_body, lines_of_script}
+use Rattle.command_spec.specs.Sorts.{limit_of, of_description}
+use Rattle.change_plan.specs.Refusals.{CanPlan, IsRefusal}
+use Rattle.change_plan.specs.Room.{HasRoomFor, LacksRoomFor}
+use Rattle.config_graph.specs.Graph.{Graph, IsGraph, ports}
+use Rattle.command_spec.proofs.GraphLaws.{GraphOrFault, PlanOrRefusal, is_graph}
+use Rattle.command_spec.proofs.TotalityLaws.{room_for, text_or_refusal}
 
 -- what was there below a line that isn't such was there above it
 had_before : (test : Body → Bool) (above : List ScriptLine) (line : ScriptLine) → test line.body ≡ false → has test (above ++ line ∷ []) ≡ true → has test above ≡ true
@@ -143,155 +49,125 @@ had_before test above line other some =
 
 -- ---- the lines
 
--- a text that keeps the limit isn't too long
-pub not_long : (f : Files) (file text : List ℕ) → IsTextIn (HoldsFile (Some f)) file text → TellsTooLong (Some f) file → ⊥
-not_long f file text is long = by (f file) is.0 long
-  where
-    by : (content : Option (List ℕ)) → content ≡ Some text → IsSomeAnd content (λ bytes. file_limit < length bytes) → ⊥
-    by None holds long = none-some text holds
-    by (Some bytes) holds long = omega (arith, ap length (same_Some bytes text holds), is.1, long)
-
 -- the lines lead on, or one of them is refused
-abbrev LeadOrStop : Files → List RunLine → Progress → Type 0
+abbrev pub LeadOrStop : Files → List RunLine → Progress → Type 0
 LeadOrStop f lines p =
-    ((end : Progress) × LeadTo (HoldsFile (Some f)) p lines end)
-    ⊎ ((file : List ℕ) × (words : List (List ℕ)) × AreRefused (HoldsFile (Some f)) (TellsTooLong (Some f)) lines p file words)
+    ((end : Progress) × LeadTo (Some f) p lines end)
+    ⊎ ((file : List ℕ) × (words : List (List ℕ)) × Refuses f (of_lines p lines) (description file words))
 
 -- the shelf has each file that the lines use
-abbrev HasAll : Files → List RunLine → Type 0
+abbrev pub HasAll : Files → List RunLine → Type 0
 HasAll f lines = (file : List ℕ) → Uses lines file → (text : List ℕ) × (f file ≡ Some text)
 
 module _ (f : Files) (p : Progress) (lines : List RunLine) where
-  below_use : (used : List ℕ) (tree : Tree) → UseLeads (HoldsFile (Some f)) used tree → LeadOrStop f lines (with_description p used tree) → LeadOrStop f (uses used ∷ lines) p
-  below_use used tree leads (inl (end, lead)) = inl (end, (tree, leads, lead))
-  below_use used tree leads (inr (file, words, are)) =
-      inr (file, words, refused_below_use (HoldsFile (Some f)) (TellsTooLong (Some f)) p lines used tree file words leads are)
+  below_use :
+      (used text : List ℕ) (tree : Tree) → IsTold (Some f) (limit_of of_description) used text → IsChecked text tree
+      → LeadOrStop f lines (with_description p used tree) → LeadOrStop f (uses used ∷ lines) p
+  below_use used text tree told checked (inl (end, lead)) = inl (end, leads_on text [] (came end) told (gives tree [] (came end) checked lead))
+  below_use used text tree told checked (inr (file, words, are)) =
+      let stop = refusal (description file words) in
+      inr (file, words, leads_on text [] stop told (gives tree [] stop checked are))
 
   below_call :
       (deed : GraphUse) (name : Name) (args : List ℤ) (next : Progress) → CallLeads p deed name args next → LeadOrStop f lines next
       → LeadOrStop f (calls deed name args ∷ lines) p
-  below_call deed name args next leads (inl (end, lead)) = inl (end, (next, leads, lead))
-  below_call deed name args next leads (inr (file, words, are)) =
-      inr (file, words, refused_below_call (HoldsFile (Some f)) (TellsTooLong (Some f)) p lines deed name args next file words leads are)
-
-  below_deed : (what : Statement) → LeadOrStop f lines (with_statement p what) → LeadOrStop f (does what ∷ lines) p
-  below_deed what (inl (end, lead)) = inl (end, lead)
-  below_deed what (inr (file, words, are)) =
-      inr (file, words, refused_below_deed (HoldsFile (Some f)) (TellsTooLong (Some f)) p lines what file words are)
+  below_call deed name args next leads (inl (end, lead)) = inl (end, gives next [] (came end) leads lead)
+  below_call deed name args next leads (inr (file, words, are)) = inr (file, words, gives next [] (refusal (description file words)) leads are)
 
   call_stops : (deed : GraphUse) (name : Name) (args : List ℤ) (words : List (List ℕ)) → IsCallRefusal p deed name args words → LeadOrStop f (calls deed name args ∷ lines) p
-  call_stops deed name args words why =
-      inr (p.file, words, refused_at (HoldsFile (Some f)) (TellsTooLong (Some f)) p lines (calls deed name args) p.file words (leads_nowhere deed name args words why))
+  call_stops deed name args words why = inr (p.file, words, refused words why)
 
 -- Laws of the crates below, as they stand there.
-module _ (names : (t : Tree) → NoFault t ⊎ ((e : TypeError) × HasFault t e)) (graphs : (tree : Tree) (name : Name) (args : List ℤ) → NoFault tree → ((e : ElabError) × Faults tree name args e) ⊎ ((g : Graph) × HasNoFault tree name args × ElaboratesTo tree name args g × Sound g)) (f : Files) where
+module _ (names : (t : Tree) → NoFault t ⊎ ((e : TypeError) × HasFault t e)) (graphs : GraphOrFault) (plans : PlanOrRefusal) (f : Files) where
   -- what lines above have left for those below
   record Fits (above : List ScriptLine) (p : Progress) : Type 0 where
     pub used : has is_file above ≡ true → (tree : Tree) × (p.used ≡ Some tree) × NoFault tree
-    pub named : has is_start above ≡ true → (g : Graph) × (earlier : List Graph) × (p.graphs ≡ g ∷ earlier)
+    pub named : has is_start above ≡ true → (g : Graph) × (earlier : List Graph) × (p.graphs ≡ g ∷ earlier) × IsGraph g
 
-  module _ (above : List ScriptLine) (line : ScriptLine) (lines : List RunLine) (p : Progress) (fits : Fits above p) (rest : (q : Progress) → Fits (above ++ line ∷ []) q → ¬ ¬ LeadOrStop f lines q) where
+  module _ (above : List ScriptLine) (line : ScriptLine) (lines : List RunLine) (p : Progress) (fits : Fits above p) (rest : (q : Progress) → Fits (above ++ line ∷ []) q → LeadOrStop f lines q) where
     used_still : is_file line.body ≡ false → has is_file (above ++ line ∷ []) ≡ true → (tree : Tree) × (p.used ≡ Some tree) × NoFault tree
     used_still other any = fits.used (had_before is_file above line other any)
 
-    named_still : is_start line.body ≡ false → has is_start (above ++ line ∷ []) ≡ true → (g : Graph) × (earlier : List Graph) × (p.graphs ≡ g ∷ earlier)
+    named_still : is_start line.body ≡ false → has is_start (above ++ line ∷ []) ≡ true → (g : Graph) × (earlier : List Graph) × (p.graphs ≡ g ∷ earlier) × IsGraph g
     named_still other any = fits.named (had_before is_start above line other any)
 
-    -- a call that leads on
-    goes_on :
-        (deed : GraphUse) (name : Name) (args : List ℤ) (tree : Tree) (g : Graph) (made : Made) → is_file line.body ≡ false → p.used ≡ Some tree
-        → HasNoFault tree name args → ElaboratesTo tree name args g → Allows p deed g made → ¬ ¬ LeadOrStop f (calls deed name args ∷ lines) p
-    goes_on deed name args tree g made other used sound elaborates allows none =
-        rest (with_called_graph p deed name args g made)
-        (record { used = λ any. used_still other any; named = λ any. (g, p.graphs, refl) })
-        (λ below. none (below_call f p lines deed name args (with_called_graph p deed name args g made)
-        (record {
-          tree = tree;
-          is_used = used;
-          graph = g;
-          is_graph = record { no_fault = sound; is_graph = elaborates };
-          made = made;
-          allowed = allows;
-          is_next = refl;
-        }) below))
+    module _ (deed : GraphUse) (name : Name) (args : List ℤ) (other : is_file line.body ≡ false) (there : has is_file above ≡ true) where
+      used : (tree : Tree) × (p.used ≡ Some tree) × NoFault tree
+      used = fits.used there
 
-    start_goes : (name : Name) (args : List ℤ) → is_file line.body ≡ false → has is_file above ≡ true → ¬ ¬ LeadOrStop f (calls starts name args ∷ lines) p
-    start_goes name args other there none = by (graphs used.0 name args used.2)
+      -- a call leads on where the deed is allowed, or is refused
+      call_goes :
+          ((g : Graph) → IsGraph g → ((made : Made) × Allows p deed g made) ⊎ ((words : List (List ℕ)) × Forbids p deed g words))
+          → LeadOrStop f (calls deed name args ∷ lines) p
+      call_goes can = by (graphs used.0 name args used.2)
+        where
+          done : (g : Graph) → HasNoFault used.0 name args → ElaboratesTo used.0 name args g → IsGraph g
+              → ((made : Made) × Allows p deed g made) ⊎ ((words : List (List ℕ)) × Forbids p deed g words) → LeadOrStop f (calls deed name args ∷ lines) p
+          done g sound elaborates is (inl (made, allows)) =
+              below_call f p lines deed name args (with_called_graph p deed name args g made)
+              (record {
+                tree = used.0;
+                is_used = used.1;
+                graph = g;
+                is_graph = record { no_fault = sound; is_graph = elaborates };
+                made = made;
+                allowed = allows;
+                is_next = refl;
+              })
+              (rest (with_called_graph p deed name args g made) (record { used = λ any. used_still other any; named = λ any. (g, p.graphs, refl, is) }))
+          done g sound elaborates is (inr (words, forbids)) =
+              call_stops f p lines deed name args words (by_deed used.0 g words used.1 (record { no_fault = sound; is_graph = elaborates }) forbids)
+
+          by :
+              ((e : ElabError) × Faults used.0 name args e)
+              ⊎ ((g : Graph) × HasNoFault used.0 name args × ElaboratesTo used.0 name args g × Sound g) → LeadOrStop f (calls deed name args ∷ lines) p
+          by (inl (e, faults)) = call_stops f p lines deed name args (elaborate_words e) (by_elaboration used.0 e used.1 faults)
+          by (inr (g, sound, elaborates, well)) = let is = is_graph used.0 name args g sound elaborates well in done g sound elaborates is (can g is)
+
+    start_goes : (name : Name) (args : List ℤ) → is_file line.body ≡ false → has is_file above ≡ true → LeadOrStop f (calls starts name args ∷ lines) p
+    start_goes name args other there = call_goes starts name args other there (λ g is. by g (room_for p.made g))
       where
-        used : (tree : Tree) × (p.used ≡ Some tree) × NoFault tree
-        used = fits.used there
-
-        room : (g : Graph) → HasNoFault used.0 name args → ElaboratesTo used.0 name args g → HasRoomFor p.made g ⊎ ((e : PlanError) × LacksRoomFor p.made g e) → ⊥
-        room g sound elaborates (inl has_room) =
-            goes_on starts name args used.0 g (more_made p.made (length g.nodes) (length (ports g.nodes))) other used.1 sound elaborates (has_room, refl) none
-        room g sound elaborates (inr (e, lacks)) =
-            none (call_stops f p lines starts name args (plan_words e)
-            (by_deed used.0 g (plan_words e) used.1 (record { no_fault = sound; is_graph = elaborates }) (e, lacks, refl)))
-
-        by :
-            ((e : ElabError) × Faults used.0 name args e)
-            ⊎ ((g : Graph) × HasNoFault used.0 name args × ElaboratesTo used.0 name args g × Sound g) → ⊥
-        by (inl (e, faults)) = none (call_stops f p lines starts name args (elaborate_words e) (by_elaboration used.0 e used.1 faults))
-        by (inr (g, sound, elaborates, well)) = room g sound elaborates (room_for p.made g)
+        by : (g : Graph) → HasRoomFor p.made g ⊎ ((e : PlanError) × LacksRoomFor p.made g e)
+            → ((made : Made) × Allows p starts g made) ⊎ ((words : List (List ℕ)) × Forbids p starts g words)
+        by g (inl room) = inl (more_made p.made (length g.nodes) (length (ports g.nodes)), (room, refl))
+        by g (inr (e, lacks)) = inr (plan_words e, (e, lacks, refl))
 
     change_goes :
         (name : Name) (args : List ℤ) (within : ℕ) (moves : List Move) → is_file line.body ≡ false → has is_file above ≡ true → has is_start above ≡ true
-        → ¬ ¬ LeadOrStop f (calls (changes within moves) name args ∷ lines) p
-    change_goes name args within moves other there started none = by (graphs used.0 name args used.2)
+        → LeadOrStop f (calls (changes within moves) name args ∷ lines) p
+    change_goes name args within moves other there started =
+        let last = fits.named started in
+        call_goes (changes within moves) name args other there (λ g is. by last.0 last.1 last.2 g (plans last.0 g moves p.made last.3 is))
       where
-        used : (tree : Tree) × (p.used ≡ Some tree) × NoFault tree
-        used = fits.used there
+        by : (old : Graph) (earlier : List Graph) → p.graphs ≡ old ∷ earlier → (g : Graph)
+            → CanPlan old g moves p.made ⊎ ((e : PlanError) × IsRefusal old g moves p.made e)
+            → ((made : Made) × Allows p (changes within moves) g made) ⊎ ((words : List (List ℕ)) × Forbids p (changes within moves) g words)
+        by old earlier at g (inl can) = inl (more_made p.made can.nodes can.ports, (old, earlier, at, (can, refl)))
+        by old earlier at g (inr (e, why)) = inr (plan_words e, (old, earlier, at, (e, why, refl)))
 
-        last : (g : Graph) × (earlier : List Graph) × (p.graphs ≡ g ∷ earlier)
-        last = fits.named started
-
-        plan :
-            (g : Graph) → HasNoFault used.0 name args → ElaboratesTo used.0 name args g
-            → CanPlan last.0 g moves p.made ⊎ ((e : PlanError) × IsRefusal last.0 g moves p.made e) → ⊥
-        plan g sound elaborates (inl can) =
-            goes_on (changes within moves) name args used.0 g (more_made p.made can.nodes can.ports) other used.1 sound elaborates
-            (last.0, last.1, last.2, (can, refl)) none
-        plan g sound elaborates (inr (e, refusal)) =
-            none (call_stops f p lines (changes within moves) name args (plan_words e)
-            (by_deed used.0 g (plan_words e) used.1 (record { no_fault = sound; is_graph = elaborates }) (last.0, last.1, last.2, (e, refusal, refl))))
-
-        by :
-            ((e : ElabError) × Faults used.0 name args e)
-            ⊎ ((g : Graph) × HasNoFault used.0 name args × ElaboratesTo used.0 name args g × Sound g) → ⊥
-        by (inl (e, faults)) =
-            none (call_stops f p lines (changes within moves) name args (elaborate_words e) (by_elaboration used.0 e used.1 faults))
-        by (inr (g, sound, elaborates, well)) = plan_or_refusal last.0 g moves p.made (plan g sound elaborates)
-
-    use_goes : (file text : List ℕ) → is_start line.body ≡ false → f file ≡ Some text → ¬ ¬ LeadOrStop f (uses file ∷ lines) p
-    use_goes file text other holds none = by (cases_lt file_limit (length text))
+    use_goes : (file text : List ℕ) → is_start line.body ≡ false → f file ≡ Some text → LeadOrStop f (uses file ∷ lines) p
+    use_goes file text other holds = by (cases_lt (limit_of of_description) (length text))
       where
-        read : length text ≤ file_limit → ((tree : Tree) × IsChecked text tree) ⊎ ((words : List (List ℕ)) × IsTextRefusal text words) → ⊥
+        told : length text ≤ limit_of of_description → IsTold (Some f) (limit_of of_description) file text
+        told short = record { told = holds; within = short }
+
+        read : length text ≤ limit_of of_description → ((tree : Tree) × IsChecked text tree) ⊎ ((words : List (List ℕ)) × IsTextRefusal text words) → LeadOrStop f (uses file ∷ lines) p
         read short (inl (tree, checked)) =
-            rest (with_description p file tree)
-            (record { used = λ any. (tree, refl, checked.sound); named = λ any. named_still other any })
-            (λ below. none (below_use f p lines file tree (record { text = text; is_text = (holds, short); checked = checked }) below))
-        read short (inr (words, refusal)) =
-            none (inr (file, words, refused_at (HoldsFile (Some f)) (TellsTooLong (Some f)) p lines (uses file) file words (at_fault file text words (holds, short) refusal)))
+            below_use f p lines file text tree (told short) checked
+            (rest (with_description p file tree) (record { used = λ any. (tree, refl, checked.sound); named = λ any. named_still other any }))
+        read short (inr (words, refuses)) = inr (file, words, leads_on text [] (refusal (description file words)) (told short) (refused words refuses))
 
-        by : (file_limit < length text) ⊎ (length text ≤ file_limit) → ⊥
-        by (inl long) =
-            let words = codes "TooLong" ∷ [] in
-            none (inr (
-              file,
-              words,
-              refused_at (HoldsFile (Some f)) (TellsTooLong (Some f)) p lines (uses file) file words
-                  (too_long_to_use file (subst (λ o. IsSomeAnd o (λ bytes. file_limit < length bytes)) (sym holds) long)),
-            ))
+        by : (limit_of of_description < length text) ⊎ (length text ≤ limit_of of_description) → LeadOrStop f (uses file ∷ lines) p
+        by (inl long) = inr (file, codes "TooLong" ∷ [], too_long (subst (λ o. IsSomeAnd o (λ bytes. limit_of of_description < length bytes)) (sym holds) long))
         by (inr short) = read short (text_or_refusal names graphs text)
 
     -- what the run does of itself
-    deed_goes : (what : Statement) → is_file line.body ≡ false → is_start line.body ≡ false → ¬ ¬ LeadOrStop f (does what ∷ lines) p
-    deed_goes what no_use no_start none =
+    deed_goes : (what : Statement) → is_file line.body ≡ false → is_start line.body ≡ false → LeadOrStop f (does what ∷ lines) p
+    deed_goes what no_use no_start =
         rest (with_statement p what) (record { used = λ any. used_still no_use any; named = λ any. named_still no_start any })
-        (λ below. none (below_deed f p lines what below))
 
     line_goes :
-        (body : Body) → line.body ≡ body → is_out_of_order above body ≡ false → HasAll f (lines_of_body body ++ lines) → ¬ ¬ LeadOrStop f (lines_of_body body ++ lines) p
+        (body : Body) → line.body ≡ body → is_out_of_order above body ≡ false → HasAll f (lines_of_body body ++ lines) → LeadOrStop f (lines_of_body body ++ lines) p
     line_goes (bodies.File file) is right held =
         let at = held file (inl refl) in
         use_goes file at.0 (ap is_start is) at.1
@@ -306,8 +182,8 @@ module _ (names : (t : Tree) → NoFault t ⊎ ((e : TypeError) × HasFault t e)
         rest p (record { used = λ any. used_still (ap is_file is) any; named = λ any. named_still (ap is_start is) any })
 
   all_go :
-      (lines above : List ScriptLine) (p : Progress) → Fits above p → EachAfter StandsInOrder above lines → HasAll f (lines_of_script lines) → ¬ ¬ LeadOrStop f (lines_of_script lines) p
-  all_go [] above p fits order held = λ none. none (inl (p, refl))
+      (lines above : List ScriptLine) (p : Progress) → Fits above p → EachAfter StandsInOrder above lines → HasAll f (lines_of_script lines) → LeadOrStop f (lines_of_script lines) p
+  all_go [] above p fits order held = inl (p, here)
   all_go (line ∷ lines) above p fits order held =
       line_goes above line (lines_of_script lines) p fits
       (λ q below. all_go lines (above ++ line ∷ []) q below order.1 (λ file used. held file (used_below line.body (lines_of_script lines) file used)))
@@ -323,13 +199,7 @@ module _ (names : (t : Tree) → NoFault t ⊎ ((e : TypeError) × HasFault t e)
       used_below bodies.Stop below file used = used
 
   pub lead_or_stop :
-      (bytes : List ℕ) (script : Script) → IsScript bytes script → HasAll f (lines_of_script script.lines)
-      → ¬ (((end : Progress) → ¬ LeadTo (HoldsFile (Some f)) begun (lines_of_script script.lines) end)
-      × ((file : List ℕ) (words : List (List ℕ)) → ¬ AreRefused (HoldsFile (Some f)) (TellsTooLong (Some f)) (lines_of_script script.lines) begun file words))
-  lead_or_stop bytes script is held (leads, stops) =
+      (bytes : List ℕ) (script : Script) → IsScript bytes script → HasAll f (lines_of_script script.lines) → LeadOrStop f (lines_of_script script.lines) begun
+  lead_or_stop bytes script is held =
       let at_first : Fits [] begun = record { used = λ any. cc; named = λ any. cc } in
-      all_go script.lines [] begun at_first (script_stands bytes script is) held by
-    where
-      by : LeadOrStop f (lines_of_script script.lines) begun → ⊥
-      by (inl (end, lead)) = leads end lead
-      by (inr (file, words, are)) = stops file words are
+      all_go script.lines [] begun at_first (script_stands bytes script is) held

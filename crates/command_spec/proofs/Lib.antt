@@ -1,31 +1,27 @@
-pub mod Checking
+pub mod AnswerLaws
 pub mod CourseLaws
-pub mod Courses
-pub mod Ending
-pub mod Existence
-pub mod FailureLaws
-pub mod Flattening
 pub mod GraphLaws
-pub mod Inverting
-pub mod LineEnds
-pub mod OneAnswer
-pub mod Planning
-pub mod Readings
-pub mod Reports
+pub mod LineLaws
 pub mod RunLaws
-pub mod Saying
-pub mod ScriptEnds
-pub mod Statuses
-pub mod Stepping
-pub mod FetchTelling
+pub mod ShownLaws
 pub mod TotalityLaws
-pub mod Wanting
-pub mod Watching
 pub mod WayLaws
+mod EachCommand
+mod Existence
 mod FewCreated
 mod LaneLemmas
+mod Leading
 mod LineLemmas
+mod MadeScripts
 mod NumberLemmas
+mod OneAnswer
+mod OneRun
+mod Planning
+mod Prepared
+mod Readings
+mod ReportLemmas
+mod Reported
+mod Saying
 mod TellingLines
 mod TellingLogs
 mod TellingOpens
@@ -34,11 +30,4 @@ mod TellingRuns
 mod TellingScripts
 mod TellingTexts
 mod TextLemmas
-pub mod CheckedRuns
-pub mod Draining
-pub mod Leading
-pub mod MadeScripts
-pub mod OneRun
-pub mod Premises
-pub mod ReportLemmas
-pub mod ScheduledReports
+mod Wanting

@@ -1,10 +1,9 @@
 -- The lines of the script that is made lead to its end, so that none is refused.
-use Rattle.std.proofs.Common.{◌≡◌, ◌*◌, ◌≤◌, ◌⊎◌, inl, inr, ℕ, ℤ, nat_le, true, List, [], Some, codes, length, refl, subst, arith}
+use Rattle.std.proofs.Common.{◌≡◌, ◌*◌, ◌≤◌, ◌⊎◌, inl, inr, ℕ, ℤ, nat_le, true, List, [], Some, codes, length, refl, arith}
 use Rattle.std.specs.List.{list_all, range_with_len}
 use Rattle.std.proofs.lemmas.Bool.{and_parts, leb-true}
 use Rattle.std.proofs.lemmas.List.FromFn.{length-range_with_len}
-use Rattle.command_words.specs.BigFiles.{description, made_files, script}
-use Rattle.cfg_io.specs.Shelf.{Files}
+use Rattle.command_words.specs.BigFiles.{description, made_files, script, script_name}
 use Rattle.config_graph.specs.Graph.{Graph, ports}
 use Rattle.config_graph.specs.Sound.{Sound}
 use Rattle.config_graph.specs.declared.TheConstants.{MAX_NODES, MAX_PORTS}
@@ -15,9 +14,6 @@ use Rattle.change_plan.specs.Differences.{IsGone}
 use Rattle.change_plan.specs.Refusals.{CanPlan, CreatesSoMany}
 use Rattle.change_plan.specs.Room.{HasRoom}
 use Rattle.change_script.specs.ScriptFiles.{IsScript}
-use Rattle.change_script.specs.declared.error.ScriptError.{ScriptError}
-use Rattle.report_types.specs.declared.script.Script.{Script}
-use Rattle.change_script.proofs.ScriptFileLaws as scripts
 use Rattle.darwin_parser.specs.Tree.{Name, Tree}
 use Rattle.darwin_types.specs.Faults.{NoFault}
 use Rattle.elaborator.specs.Elaboration.{HasNoFault, ElaboratesTo}
@@ -25,12 +21,16 @@ use Rattle.elaborator.specs.Faults.{Faults}
 use Rattle.elaborator.specs.declared.error.ElabError.{ElabError}
 use Rattle.change_spec.specs.Scripts.{more_made}
 use Rattle.command_spec.specs.Descriptions.{IsGraphOfCall}
-use Rattle.command_spec.specs.Fetches.{file_limit}
-use Rattle.command_spec.specs.Lines.{RunLine, Progress, CallLeads, begun, changes, starts, with_called_graph, with_description, with_statement}
-use Rattle.command_spec.specs.Outcomes.{HoldsFile, NothingRefusesLines, TellsTooLong}
-use Rattle.command_spec.specs.Scripts.{lines_of_script}
-use Rattle.command_spec.specs.Ways.{AreRefused, LeadTo, UseLeads}
+use Rattle.command_spec.specs.Lines.{Progress, CallLeads, begun, changes, starts, with_called_graph, with_description, with_statement}
+use Rattle.command_spec.specs.Courses.{came, here, leads_on, gives}
+use Rattle.command_spec.specs.Endings.{RefusesNothing}
+use Rattle.command_spec.specs.Files.{IsTold}
+use Rattle.command_spec.specs.Scripts.{LeadTo, lines_of_script, prepares}
+use Rattle.command_spec.specs.Sorts.{limit_of, of_description, of_script}
+use Rattle.command_spec.proofs.GraphLaws.{PlanAlone}
+use Rattle.command_spec.proofs.Prepared.{came_unrefused}
 use Rattle.command_spec.proofs.TotalityLaws.{wanted}
+use Rattle.command_spec.proofs.WayLaws.{prepares_decided}
 use Rattle.command_spec.specs.MadeScripts.{made_script}
 use Rattle.elaborator.proofs.ElaborationTestLaws.{cases, is_clear, none_at_all}
 use Rattle.command_spec.proofs.FewCreated.{few_nodes, few_ports, nodes_below}
@@ -83,7 +83,7 @@ no_faults lanes some few = let may = both_may_run lanes some few in (no_fault la
 -- Laws of the crates below, as they stand there.
 module _
     (graphs : (tree : Tree) (name : Name) (args : List ℤ) → NoFault tree → ((e : ElabError) × Faults tree name args e) ⊎ ((g : Graph) × HasNoFault tree name args × ElaboratesTo tree name args g × Sound g))
-    (never_both : (files : Files) (lines : List RunLine) (end : Progress) (used : List ℕ) (words : List (List ℕ)) → LeadTo (HoldsFile (Some files)) begun lines end → ¬ AreRefused (HoldsFile (Some files)) (TellsTooLong (Some files)) lines begun used words)
+    (alone : PlanAlone)
     (scripts_are : (lanes : ℕ) → 1 ≤ lanes → lanes ≤ 40 → IsScript (script lanes) (made_script lanes))
   where
     graph_of : (lanes k : ℕ) → may_run lanes k ≡ true → (g : Graph) × of_lanes lanes k g
@@ -97,11 +97,8 @@ module _
         by (inr (g, none, elaborates, is_sound)) = (g, (record { no_fault = none; is_graph = elaborates }, few_of lanes k may g elaborates))
 
     module _ (lanes : ℕ) where
-      abbrev Holds : List ℕ → List ℕ → Type 0
-      Holds = HoldsFile (Some (made_files lanes))
-
-      leads_in : UseLeads Holds (codes "big.dar") made_tree
-      leads_in = record { text = description; is_text = (refl, leb-true (length description) file_limit refl); checked = checked }
+      is_told : IsTold (Some (made_files lanes)) (limit_of of_description) (codes "big.dar") description
+      is_told = record { told = refl; within = leb-true (length description) (limit_of of_description) refl }
 
       module _ (old new : Graph) (is_old : of_lanes lanes 1 old) (is_new : of_lanes lanes 2 new) where
         abbrev used : Progress
@@ -156,31 +153,31 @@ module _
               is_next = refl;
             }
 
-        lead : (w : WhatIsCreated) → LeadTo Holds begun (lines_of_script (made_script lanes).lines) (with_statement (changed w) (finish 100000))
-        lead w = (made_tree, leads_in, (started, start_leads, (changed w, change_leads w, refl)))
+        abbrev end : WhatIsCreated → Progress
+        end w = with_statement (changed w) (finish 100000)
 
-        none_refused : (file : List ℕ) (words : List (List ℕ)) → AreRefused Holds (TellsTooLong (Some (made_files lanes))) (lines_of_script (made_script lanes).lines) begun file words → ⊥
-        none_refused file words are =
-            wanted old new (λ (w : WhatIsCreated). never_both (made_files lanes) (lines_of_script (made_script lanes).lines) (with_statement (changed w) (finish 100000)) file words (lead w) are)
+        lead : (w : WhatIsCreated) → LeadTo (Some (made_files lanes)) begun (lines_of_script (made_script lanes).lines) (end w)
+        lead w =
+            leads_on description [] (came (end w)) is_told (gives made_tree [] (came (end w)) checked
+            (gives started [] (came (end w)) start_leads (gives (changed w) [] (came (end w)) (change_leads w) here)))
 
-    pub nothing_refuses : (lanes : ℕ) → 1 ≤ lanes → lanes ≤ 40 → NothingRefusesLines (made_files lanes) (Some (script lanes))
-    nothing_refuses lanes low high = (
-      leb-true (length (script lanes)) file_limit (script_is_short lanes low high),
-      λ (fault : ScriptError) first. scripts.never_both (script lanes) (made_script lanes) fault is_script first,
-      λ (other : Script) used words is_one are.
-          none_refused lanes old.0 new.0 old.1 new.1 used words
-          (subst (λ (s : Script). AreRefused (Holds lanes) (TellsTooLong (Some (made_files lanes))) (lines_of_script s.lines) begun used words)
-          (scripts.one_script (script lanes) other (made_script lanes) is_one is_script) are),
-    )
+    pub nothing_refuses : (lanes : ℕ) → 1 ≤ lanes → lanes ≤ 40 → RefusesNothing (made_files lanes) (prepares script_name)
+    nothing_refuses lanes low high why is refuses = wanted old.0 new.0 by
       where
         may : (may_run lanes 1 ≡ true) × (may_run lanes 2 ≡ true)
         may = both_may_run lanes low high
-
-        is_script : IsScript (script lanes) (made_script lanes)
-        is_script = scripts_are lanes low high
 
         old : (g : Graph) × of_lanes lanes 1 g
         old = graph_of lanes 1 may.0
 
         new : (g : Graph) × of_lanes lanes 2 g
         new = graph_of lanes 2 may.1
+
+        is_told_script : IsTold (Some (made_files lanes)) (limit_of of_script) script_name (script lanes)
+        is_told_script = record { told = refl; within = leb-true (length (script lanes)) (limit_of of_script) (script_is_short lanes low high) }
+
+        by : (nodes : ℕ) × (wanted_ports : ℕ) × CreatesSoMany old.0 new.0 nodes wanted_ports → ⊥
+        by w =
+            let last = came (end lanes old.0 new.0 old.1 new.1 w) in
+            came_unrefused (made_files lanes) (prepares script_name) (prepares_decided graphs alone script_name) (end lanes old.0 new.0 old.1 new.1 w)
+            (leads_on (script lanes) [] last is_told_script (gives (made_script lanes) [] last (scripts_are lanes low high) (lead lanes old.0 new.0 old.1 new.1 w))) why is refuses

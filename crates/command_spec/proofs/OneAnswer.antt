@@ -1,5 +1,5 @@
 -- What bytes give is one: one graph, one plan, one outcome of events, and so one status and one text.
-use Rattle.std.proofs.Common.{◌≡◌, ◌∙◌, ℕ, List, [], Option, sym, ap, subst}
+use Rattle.std.proofs.Common.{◌≡◌, ◌∙◌, ℕ, List, [], Option, refl, sym, ap, subst}
 use Rattle.base.proofs.RisingLaws.{one_rising}
 use Rattle.config_graph.specs.Graph.{Graph, IsGraph}
 use Rattle.config_graph.specs.GraphText.{graph_text}
@@ -15,12 +15,14 @@ use Rattle.change_spec.specs.Statements.{Statement}
 use Rattle.change_parts.specs.Rolls.{IsRoll, roll_statements, stage_left}
 use Rattle.quiesce_replay.specs.Replay.{AreSettled}
 use Rattle.quiesce_replay.proofs.DenialLaws as replaying
-use Rattle.command_answers.specs.Answers.{Answer, denied, replay, roll_status, status_of, text_of}
+use Rattle.quiesce_replay.specs.ReplayText.{replay_text}
+use Rattle.command_answers.specs.Answers.{roll_status}
+use Rattle.command_answers.specs.RefusalLines.{denied_line}
 use Rattle.command_answers.specs.PartTexts.{parts_text, roll_text}
 use Rattle.command_answers.specs.declared.status.Status.{Status}
 use Rattle.command_spec.specs.Plans.{HasChange}
 use Rattle.command_spec.specs.Queries.{AnswersQuery, IsTextBy}
-use Rattle.command_spec.specs.Replays.{IsReplayed, one_denied, all_steps}
+use Rattle.command_spec.specs.Replays.{Replays, one_denied, all_steps}
 use Rattle.command_words.specs.declared.words.TopCall.{TopCall}
 use Rattle.command_spec.specs.declared.query.Cut.{Cut}
 use Rattle.command_spec.specs.declared.query.Cut.TheVariants as cuts
@@ -70,16 +72,20 @@ one_settled : (s : State) (xs ys : List ℕ) → AreSettled s xs → AreSettled 
 one_settled s xs ys x y =
     one_rising xs ys x.rise y.rise (λ n held. (y.are n).1 ((x.are n).0 held)) (λ n held. (x.are n).1 ((y.are n).0 held))
 
-pub one_outcome : (s : State) (events : List Event) (a b : Answer) → IsReplayed s events a → IsReplayed s events b → a ≡ b
-one_outcome s events _ _ (one_denied n r is) (one_denied m q also) =
+one_replay :
+    (s : State) (events : List Event) (own other : Status) (written also : List ℕ) → Replays s events own written → Replays s events other also
+    → (own ≡ other) × (written ≡ also)
+one_replay s events _ _ _ _ (one_denied n r is) (one_denied m q also) =
     let same = replaying.one_denial s events n m r q is also in
-    ap (λ k. denied k r) same.0 ∙ ap (denied m) same.1
-one_outcome s events _ _ (one_denied n r is) (all_steps t settled leads are) = absurd (replaying.never_both s t events n r leads is)
-one_outcome s events _ _ (all_steps t settled leads are) (one_denied n r is) = absurd (replaying.never_both s t events n r leads is)
-one_outcome s events _ _ (all_steps t xs leads are) (all_steps u ys goes also) =
-    let end = replaying.one_end s t u events leads goes in
-    ap (λ v. replay (Rattle.std.specs.Prelude.length events) v xs) end
-    ∙ ap (replay (Rattle.std.specs.Prelude.length events) u) (one_settled u xs ys (subst (λ v. AreSettled v xs) end are) also)
+    (refl, ap (λ k. denied_line k r) same.0 ∙ ap (denied_line m) same.1)
+one_replay s events _ _ _ _ (one_denied n r is) (all_steps t settled leads are) = absurd (replaying.never_both s t events n r leads is)
+one_replay s events _ _ _ _ (all_steps t settled leads are) (one_denied n r is) = absurd (replaying.never_both s t events n r leads is)
+one_replay s events _ _ _ _ (all_steps t xs leads are) (all_steps u ys goes also) =
+    let end = replaying.one_end s t u events leads goes in (
+      refl,
+      ap (λ v. replay_text (Rattle.std.specs.Prelude.length events) v xs) end
+          ∙ ap (replay_text (Rattle.std.specs.Prelude.length events) u) (one_settled u xs ys (subst (λ v. AreSettled v xs) end are) also),
+    )
 
 -- ---- one status and one text
 
@@ -92,6 +98,5 @@ module _ (lists : OneListOfParts) (rolls : OneRoll) (graphs : GraphOrFault) wher
   one_answer (queries.Change cut call target) text own other written also x y = one_text lists rolls graphs cut text call target own other written also x y
   one_answer (queries.Replay events_file) text own other written also x y =
       let graph = one_graph text events_file.name events_file.args x.graph y.graph x.starts.has_graph y.starts.has_graph in
-      let a = subst (λ g. IsReplayed (started g) events_file.events x.replays.answer) graph x.replays.is in
-      let same = one_outcome (started y.graph) events_file.events x.replays.answer y.replays.answer a y.replays.is in
-      (x.replays.has_status ∙ ap status_of same ∙ sym y.replays.has_status, x.replays.has_text ∙ ap text_of same ∙ sym y.replays.has_text)
+      one_replay (started y.graph) events_file.events own other written also
+      (subst (λ g. Replays (started g) events_file.events own written) graph x.replays) y.replays

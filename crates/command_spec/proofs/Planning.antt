@@ -1,22 +1,17 @@
 -- A description isn't both refused a change and given one.
-use Rattle.std.proofs.Common.{◌≡◌, ◌∙◌, inl, inr, ℕ, ℤ, List, [], Some, length, take, slice_get, sym, ap, subst}
-use Rattle.config_graph.specs.Graph.{Graph, PathsRise, ports}
+use Rattle.std.proofs.Common.{◌≡◌, ◌∙◌, inl, inr, ℕ, ℤ, List, [], Some, length, sym, subst}
+use Rattle.config_graph.specs.Graph.{Graph, ports}
 use Rattle.config_graph.specs.declared.node.Made.{Made}
-use Rattle.config_graph.specs.declared.node.Node.{Node}
-use Rattle.change_plan.specs.Moves.{IsFit, IsGoneAt, MayMove}
-use Rattle.change_plan.specs.Refusals.{CanPlan, IsRefusal, KindsDifferIn, MoveFault}
+use Rattle.change_plan.specs.Refusals.{CanPlan, IsRefusal}
 use Rattle.change_plan.specs.Room.{RoomFault, LacksRoomFor}
 use Rattle.change_plan.specs.declared.error.PlanError.{PlanError}
-use Rattle.change_plan.specs.declared.error.PlanError.TheVariants.{NotRemoved, NotCreated, KindsDiffer, MovedTwice, NodesFull, PortsFull, NoMemory}
-use Rattle.change_plan.specs.declared.plan_data.Move.{Move}
-use Rattle.change_plan.proofs.NodeLaws.{one_path}
 use Rattle.change_plan.proofs.RoomLaws.{no_room, one_wanted}
 use Rattle.elaborator.proofs.UniqueLaws as elaborating
 use Rattle.darwin_parser.specs.Tree.{Tree}
 use Rattle.elaborator.specs.Elaboration.{ElaboratesTo}
 use Rattle.elaborator.specs.Graph.{IsElab}
 use Rattle.elaborator.specs.Instances.{Instance, top_instance}
-use Rattle.std.proofs.lemmas.Option.{same_Some, slice_get_within}
+use Rattle.std.proofs.lemmas.Option.{same_Some}
 use Rattle.command_words.specs.declared.words.TopCall.{TopCall}
 use Rattle.command_spec.specs.Descriptions.{HasGraph}
 use Rattle.command_spec.specs.Plans.{Starts, RefusesStart, has_no_graph, is_full, HasChange, RefusesPlan, starts_not, leads_nowhere, gets_full, made_of_graph}
@@ -30,41 +25,6 @@ not_full old new made e can (inl first) = cc (first.at)
 not_full old new made e can (inr (may, (n, p, wanted, fault))) =
     let same = one_wanted old new n p can.nodes can.ports wanted can.wanted in
     no_room made can.nodes can.ports e can.room (subst (λ k. RoomFault made can.nodes k e) same.1 (subst (λ k. RoomFault made k p e) same.0 fault))
-
--- ---- moves may be made or not, where paths rise
-
-one_gone : (g h : Graph) → PathsRise g.nodes → (path : List ℕ) (i j : ℕ) → IsGoneAt g h path i → IsGoneAt g h path j → i ≡ j
-one_gone g h rise path i j a b = one_path g.nodes rise i j a.node b.node a.here b.here (a.named ∙ sym b.named)
-
-same_node : (nodes : List Node) (i j : ℕ) (m n : Node) → i ≡ j → slice_get nodes i ≡ Some m → slice_get nodes j ≡ Some n → m ≡ n
-same_node nodes i j m n same at there = same_Some m n (sym at ∙ ap (slice_get nodes) same ∙ there)
-
-module _ (old new : Graph) (old_rise : PathsRise old.nodes) (new_rise : PathsRise new.nodes) where
-  -- a move's ends have one kind each
-  not_apart : (m : Move) → IsFit old new m → KindsDifferIn old new m → ⊥
-  not_apart m fit apart =
-      let source = one_gone old new old_rise m.from fit.source apart.source fit.leads.removed apart.leads.removed in
-      let target = one_gone new old new_rise m.to fit.target apart.target fit.leads.created apart.leads.created in
-      let removed = same_node old.nodes fit.source apart.source fit.leads.removed.node apart.leads.removed.node source fit.leads.removed.here apart.leads.removed.here in
-      let created = same_node new.nodes fit.target apart.target fit.leads.created.node apart.leads.created.node target fit.leads.created.here apart.leads.created.here in
-      apart.differ (ap (λ (n : Node). n.kind) (sym removed) ∙ fit.same_kind ∙ ap (λ (n : Node). n.kind) created)
-
-  no_fault : (before : List Move) (m : Move) (e : PlanError) → MayMove old new before m → MoveFault old new before m e → ⊥
-  no_fault before m (NotRemoved p) may (is, missing) = missing (may.fit.source, may.fit.leads.removed)
-  no_fault before m (NotCreated p) may (is, gone, missing) = missing (may.fit.target, may.fit.leads.created)
-  no_fault before m (KindsDiffer p q) may (is, also, apart) = not_apart m may.fit apart
-  no_fault before m (MovedTwice p) may (fit, inl (is, from)) = may.other_source from
-  no_fault before m (MovedTwice p) may (fit, inr (is, other, to)) = may.other_target to
-  no_fault before m (NodesFull a w) may fault = fault
-  no_fault before m (PortsFull a w) may fault = fault
-  no_fault before m NoMemory may fault = fault
-
-  pub not_both : (moves : List Move) (made : Made) (e : PlanError) → CanPlan old new moves made → IsRefusal old new moves made e → ⊥
-  not_both moves made e can (inl first) =
-      no_fault (take first.count moves) first.move e (can.may_move first.count first.move (slice_get_within moves first.count first.move first.at) first.at) first.fault
-  not_both moves made e can (inr (may, (n, p, wanted, fault))) =
-      let same = one_wanted old new n p can.nodes can.ports wanted can.wanted in
-      no_room made can.nodes can.ports e can.room (subst (λ k. RoomFault made can.nodes k e) same.1 (subst (λ k. RoomFault made k p e) same.0 fault))
 
 -- ---- a description has one graph
 

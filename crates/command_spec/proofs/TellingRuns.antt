@@ -14,7 +14,6 @@ use Rattle.darwin_lexer.specs.Tokens.{IsTokens}
 use Rattle.darwin_parser.specs.Grammar.{IsUnit}
 use Rattle.darwin_parser.specs.Tree.{Name, Tree}
 use Rattle.elaborator.specs.Elaboration.{ElaboratesTo, HasNoFault}
-use Rattle.report_types.specs.declared.report.Report.{Report}
 use Rattle.report_types.specs.declared.script.Body.{Body}
 use Rattle.report_types.specs.declared.script.Script.{Script}
 use Rattle.change_script.specs.Paths.{is_name}
@@ -26,11 +25,11 @@ use Rattle.report_texts.specs.declared.version.Version.TheVariants as versions
 use Rattle.change_spec.specs.Scripts.{StatementsOf}
 use Rattle.change_spec.specs.Statements.{Statement}
 use Rattle.command_answers.specs.declared.status.Status.{Status}
-use Rattle.command_spec.specs.Outcomes.{HoldsFile, WasRunBy}
+use Rattle.command_spec.specs.Outcomes.{WasRunBy}
 use Rattle.command_spec.specs.Schedules.{Schedule}
-use Rattle.command_spec.specs.Ways.{Elaborates}
+use Rattle.command_spec.specs.Scripts.{Elaborates}
 use Rattle.command_spec.specs.Telling.{AreStated, HasWords, NumbersFit}
-use Rattle.command_spec.proofs.ScheduledReports.{AreConsistent}
+use Rattle.command_spec.proofs.ReportLemmas.{AreConsistent}
 use Rattle.command_spec.proofs.TellingReports.{tells_itself}
 use Rattle.command_spec.proofs.TellingScripts.{paths_words, script_stated}
 
@@ -41,15 +40,15 @@ module _
     (words : (text : List ℕ) (tokens : List Token) (tree : Tree) (name : Name) (args : List ℤ) (g : Graph) → IsTokens text tokens → IsUnit text tokens tree → ElaboratesTo tree name args g → All (λ (n : Node). IsOneWord n.path) g.nodes)
     (paths : (text : List ℕ) (tokens : List Token) (tree : Tree) (name : Name) (args : List ℤ) (g : Graph) → IsTokens text tokens → IsUnit text tokens tree → AllByRecursion IsInteger args → HasNoFault tree name args
     → ElaboratesTo tree name args g → All (λ (n : Node). IsWrittenPath n.path) g.nodes) where
-  elaborated_words : (Holds : List ℕ → List ℕ → Type 0) (file name : List ℕ) (args : List ℤ) (g : Graph) → AllByRecursion IsInteger args → Elaborates Holds file name args g → HasWords g
-  elaborated_words Holds file name args g small e =
+  elaborated_words : (files : Option Files) (file name : List ℕ) (args : List ℤ) (g : Graph) → AllByRecursion IsInteger args → Elaborates files file name args g → HasWords g
+  elaborated_words files file name args g small e =
       let is = e.has_graph in
       let tree = is.checked.is_tree in
       paths_words g.nodes (words e.text tree.tokens is.tree name args g tree.parted tree.spelled is.is.is_graph)
       (paths e.text tree.tokens is.tree name args g tree.parted tree.spelled small is.is.no_fault is.is.is_graph)
 
-  pub stated : (files : Option Files) (bytes : List ℕ) (script : Script) (statements : List Statement) → IsScript bytes script → StatementsOf (Elaborates (HoldsFile files)) script statements → AreStated statements
-  stated files = script_stated spelled named meant (Elaborates (HoldsFile files)) (elaborated_words (HoldsFile files))
+  pub stated : (files : Option Files) (bytes : List ℕ) (script : Script) (statements : List Statement) → IsScript bytes script → StatementsOf (Elaborates files) script statements → AreStated statements
+  stated files = script_stated spelled named meant (Elaborates files) (elaborated_words files)
 
   module _ (consistent : AreConsistent) where
     pub ran_tells :

@@ -1,5 +1,5 @@
 -- What is wanted of a description is refused or answered.
-use Rattle.std.proofs.Common.{◌≡◌, ◌<◌, ◌⊎◌, inl, inr, ℕ, ℤ, false, List, [], Option, Some, None, length, map, sum_by, slice_get, refl, subst, sym, arith, IsTrue}
+use Rattle.std.proofs.Common.{◌≡◌, ◌∙◌, ◌+◌, ◌<◌, ◌⊎◌, inl, inr, ℕ, ℤ, false, List, [], Option, Some, None, length, map, sum_by, slice_get, refl, ap, subst, sym, arith, zero-add, IsTrue}
 use Rattle.std.specs.List.{range_with_len}
 use Rattle.std.specs.Option.{option_map_or}
 use Rattle.base.proofs.ContainsLaws.{Contains-nil}
@@ -36,7 +36,7 @@ use Rattle.change_plan.specs.Moves.{IsShifts}
 use Rattle.change_plan.specs.PlanText.{plan_text}
 use Rattle.change_plan.specs.Plans.{IsPlanOf}
 use Rattle.change_plan.specs.Refusals.{CanPlan, CreatesSoMany, IsRefusal}
-use Rattle.change_plan.specs.Room.{HasRoom, HasRoomFor, LacksRoomFor, RoomFault}
+use Rattle.change_plan.specs.Room.{HasRoomFor, LacksRoomFor}
 use Rattle.change_plan.specs.Touched.{Frozen}
 use Rattle.change_plan.specs.declared.error.PlanError.{PlanError}
 use Rattle.change_plan.specs.declared.plan_data.Move.{Move}
@@ -53,9 +53,9 @@ use Rattle.quiesce_core.specs.declared.state.Slot.{Slot}
 use Rattle.quiesce_replay.specs.Replay.{AreSettled, IsDenied}
 use Rattle.quiesce_replay.proofs.DenialLaws as replaying
 use Rattle.change_script.specs.declared.event_files.EventFile.{EventFile}
-use Rattle.command_answers.specs.Answers as answers_
+use Rattle.quiesce_replay.specs.ReplayText.{replay_text}
 use Rattle.command_answers.specs.PartTexts.{parts_text}
-use Rattle.command_answers.specs.RefusalLines.{lex_words, expected_words, too_nested_words, check_words, elaborate_words, plan_words}
+use Rattle.command_answers.specs.RefusalLines.{denied_line, lex_words, expected_words, too_nested_words, check_words, elaborate_words, plan_words}
 use Rattle.command_answers.specs.declared.status.Status.{Status}
 use Rattle.command_answers.specs.declared.status.Status.TheVariants as status
 use Rattle.command_words.specs.declared.words.TopCall.{TopCall}
@@ -66,16 +66,20 @@ use Rattle.command_answers.specs.Answers.{roll_status}
 use Rattle.command_answers.specs.PartTexts.{roll_text}
 use Rattle.change_spec.specs.Scripts.{more_made, nothing_made}
 use Rattle.change_parts.specs.Rolls.{IsRoll, roll_statements, stage_left}
-use Rattle.command_spec.proofs.Courses.{first_made}
-use Rattle.command_spec.specs.Replays.{IsReplayed, one_denied, all_steps, HasReplay}
+use Rattle.command_spec.specs.Replays.{one_denied, all_steps, HasReplay}
 use Rattle.command_spec.specs.declared.query.Cut.{Cut}
 use Rattle.command_spec.specs.declared.query.Cut.TheVariants as cuts
 use Rattle.command_spec.specs.declared.query.Query.{Query}
 use Rattle.command_spec.specs.declared.query.Query.TheVariants as queries
 use Rattle.command_spec.proofs.Existence.{selected, Those, those}
-use Rattle.command_spec.proofs.GraphLaws.{GraphOrFault, has_bounds, is_sound}
+use Rattle.command_spec.proofs.GraphLaws.{GraphOrFault, PlanOrRefusal, has_bounds, is_sound}
 
 -- ---- room
+
+first_made : (g : Graph) → more_made nothing_made (length g.nodes) (length (ports g.nodes)) ≡ made_of_graph g
+first_made g =
+    let of : ℕ → ℕ → Made = λ n p. record { nodes = n; ports = p } in
+    ap (λ n. of n (0 + length (ports g.nodes))) (zero-add (length g.nodes)) ∙ ap (of (length g.nodes)) (zero-add (length (ports g.nodes)))
 
 pub room_for : (made : Made) (g : Graph) → HasRoomFor made g ⊎ ((e : PlanError) × LacksRoomFor made g e)
 room_for made g = room_or_fault made (length g.nodes) (length (ports g.nodes))
@@ -169,18 +173,6 @@ pub wanted : (old new : Graph) → ¬ ¬ ((nodes : ℕ) × (wanted_ports : ℕ) 
 wanted old new none = selected (IsGone new old) (range_with_len 0 (length new.nodes)) (λ created.
     none (length created.0, sum_by (requires_at new.nodes) created.0, record { created = created.0; gone = created.1; nodes_are = refl; ports_are = refl }))
 
-room_or_refusal :
-    (old new : Graph) (made : Made) (nodes wanted_ports : ℕ) → CreatesSoMany old new nodes wanted_ports
-    → CanPlan old new [] made ⊎ ((e : PlanError) × IsRefusal old new [] made e)
-room_or_refusal old new made nodes wanted_ports creates = by (room_or_fault made nodes wanted_ports)
-  where
-    by :
-        HasRoom made nodes wanted_ports ⊎ ((e : PlanError) × RoomFault made nodes wanted_ports e)
-        → CanPlan old new [] made ⊎ ((e : PlanError) × IsRefusal old new [] made e)
-    by (inl room) =
-        inl (record { may_move = λ k m low at. absurd (omega (arith, low)); nodes = nodes; ports = wanted_ports; wanted = creates; room = room })
-    by (inr (e, fault)) = inr (e, inr (λ k m low at. absurd (omega (arith, low)), (nodes, wanted_ports, creates, fault)))
-
 -- ---- settled nodes
 
 settled_within : (s : State) (n : ℕ) → Settled s n → n < length s.config.slots
@@ -271,9 +263,9 @@ module _ (names : (t : Tree) → NoFault t ⊎ ((e : TypeError) × HasFault t e)
 
   -- that neither an answer nor a refusal stands can't be
   refused_or_changed :
-      SomeListOfParts → SomeRoll → (cut : Cut) (text : List ℕ) (call target : TopCall) → ((words : List (List ℕ)) → ¬ RefusesPlan text call target words)
+      PlanOrRefusal → SomeListOfParts → SomeRoll → (cut : Cut) (text : List ℕ) (call target : TopCall) → ((words : List (List ℕ)) → ¬ RefusesPlan text call target words)
       → ((own : Status) (written : List ℕ) → ¬ HasChange (IsTextBy cut call target own) text call target written) → ⊥
-  refused_or_changed lists rolls cut text call target refuses answers = from (start_or_refusal text call.top call.args)
+  refused_or_changed plans lists rolls cut text call target refuses answers = from (start_or_refusal text call.top call.args)
     where
       stepped :
           (old new : Graph) → Starts text call.top call.args old → Sound old → HasGraph text target.top target.args new
@@ -290,7 +282,8 @@ module _ (names : (t : Tree) → NoFault t ⊎ ((e : TypeError) × HasFault t e)
           (old : Graph) → Starts text call.top call.args old → Sound old
           → ((g : Graph) × HasGraph text target.top target.args g × Sound g) ⊎ ((words : List (List ℕ)) × IsDescriptionRefusal text target.top target.args words) → ⊥
       to old starts sound (inl (new, has, other)) =
-          wanted old new (λ w. stepped old new starts sound has (room_or_refusal old new (made_of_graph old) w.0 w.1 w.2))
+          stepped old new starts sound has
+          (plans old new [] (made_of_graph old) (has_bounds graphs text call.top call.args old starts.has_graph) (has_bounds graphs text target.top target.args new has))
       to old starts sound (inr (words, is)) = refuses words (leads_nowhere old words starts is)
 
       from :
@@ -303,17 +296,14 @@ module _ (names : (t : Tree) → NoFault t ⊎ ((e : TypeError) × HasFault t e)
       → ((own : Status) (written : List ℕ) → ¬ HasReplay text events_file own written) → ⊥
   replays text events_file refuses answers = from (start_or_refusal text events_file.name events_file.args)
     where
-      answered : (g : Graph) → Starts text events_file.name events_file.args g → (a : answers_.Answer) → IsReplayed (started g) events_file.events a → ⊥
-      answered g starts a is =
-          answers (answers_.status_of a) (answers_.text_of a)
-          (record { graph = g; starts = starts; replays = record { answer = a; is = is; has_status = refl; has_text = refl } })
-
       led :
           (g : Graph) → Starts text events_file.name events_file.args g
           → ((t : State) × Steps (started g) events_file.events t) ⊎ ((number : ℕ) × (rule : ℕ) × IsDenied (started g) events_file.events number rule) → ⊥
       led g starts (inl (t, steps)) =
-          settled_nodes t (λ n. answered g starts (answers_.replay (length events_file.events) t n.0) (all_steps t n.0 steps n.1))
-      led g starts (inr (number, rule, denied)) = answered g starts (answers_.denied number rule) (one_denied number rule denied)
+          settled_nodes t (λ n.
+          answers status.Ok (replay_text (length events_file.events) t n.0) (record { graph = g; starts = starts; replays = all_steps t n.0 steps n.1 }))
+      led g starts (inr (number, rule, denied)) =
+          answers status.Denied (denied_line number rule) (record { graph = g; starts = starts; replays = one_denied number rule denied })
 
       from :
           ((g : Graph) × Starts text events_file.name events_file.args g × Sound g) ⊎ ((words : List (List ℕ)) × RefusesStart text events_file.name events_file.args words) → ⊥
@@ -321,12 +311,12 @@ module _ (names : (t : Tree) → NoFault t ⊎ ((e : TypeError) × HasFault t e)
       from (inr (words, is)) = refuses words is
 
   pub refused_or_answered :
-      SomeListOfParts → SomeRoll → (query : Query) (text : List ℕ)
+      PlanOrRefusal → SomeListOfParts → SomeRoll → (query : Query) (text : List ℕ)
       → ¬ (((words : List (List ℕ)) → ¬ IsRefused query text words) × ((own : Status) (written : List ℕ) → ¬ AnswersQuery query text own written))
-  refused_or_answered lists rolls (queries.Graph call) text (refuses, answers) = by (graphs_or_refusals text call.top call.args)
+  refused_or_answered plans lists rolls (queries.Graph call) text (refuses, answers) = by (graphs_or_refusals text call.top call.args)
     where
       by : ((g : Graph) × HasGraph text call.top call.args g) ⊎ ((words : List (List ℕ)) × IsDescriptionRefusal text call.top call.args words) → ⊥
       by (inl (g, has)) = answers status.Ok (graph_text g) (refl, (g, has, refl))
       by (inr (words, is)) = refuses words is
-  refused_or_answered lists rolls (queries.Change cut call target) text (refuses, answers) = refused_or_changed lists rolls cut text call target refuses answers
-  refused_or_answered lists rolls (queries.Replay events_file) text (refuses, answers) = replays text events_file refuses answers
+  refused_or_answered plans lists rolls (queries.Change cut call target) text (refuses, answers) = refused_or_changed plans lists rolls cut text call target refuses answers
+  refused_or_answered plans lists rolls (queries.Replay events_file) text (refuses, answers) = replays text events_file refuses answers

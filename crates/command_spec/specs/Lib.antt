@@ -1,12 +1,13 @@
 pub mod Commands
 pub mod Courses
 pub mod Descriptions
-pub mod Failures
-pub mod Fetches
+pub mod Endings
+pub mod Files
 pub mod Known
-pub mod Leads
 pub mod Lines
-pub mod OneFile
+pub mod MadeScripts
+pub mod MadeTrees
+pub mod Naming
 pub mod Outcomes
 pub mod Plans
 pub mod Queries
@@ -15,7 +16,5 @@ pub mod RunReports
 pub mod Runs
 pub mod Schedules
 pub mod Scripts
-pub mod Ways
-pub mod MadeScripts
-pub mod MadeTrees
+pub mod Sorts
 pub mod Telling

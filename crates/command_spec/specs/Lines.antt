@@ -1,41 +1,25 @@
 -- To be believed (definitions.md).
--- What a run does line by line, whether the lines are those of a script or stand for the words of a command: which
--- description is used from there on, and which graph is drawn, started, or changed to.
+-- What the run of a script does line by line: which description is used from there on, and which graph is started or
+-- changed to.
 use Rattle.std.specs.Prelude.{◌≡◌, ℕ, ℤ, List, [], ◌∷◌, ◌++◌, Option, Some, None, length}
 use Rattle.config_graph.specs.Graph.{Graph, ports}
 use Rattle.config_graph.specs.declared.node.Made.{Made}
 use Rattle.darwin_parser.specs.Tree.{Name, Tree}
 use Rattle.elaborator.specs.Faults.{Faults}
 use Rattle.elaborator.specs.declared.error.ElabError.{ElabError}
-use Rattle.quiesce_core.specs.Start.{started}
-use Rattle.quiesce_core.specs.declared.event.Event.{Event}
-use Rattle.change_plan.specs.Plans.{IsPlanOf}
 use Rattle.change_plan.specs.Refusals.{CanPlan, IsRefusal}
 use Rattle.change_plan.specs.Room.{HasRoomFor, LacksRoomFor}
 use Rattle.change_plan.specs.declared.error.PlanError.{PlanError}
 use Rattle.change_plan.specs.declared.plan_data.Move.{Move}
-use Rattle.change_plan.specs.declared.plan_data.Plan.{Plan}
-use Rattle.change_parts.specs.Parts.{AreParts}
-use Rattle.change_parts.specs.declared.part.Part.{Part}
 use Rattle.change_spec.specs.Scripts.{more_made}
-use Rattle.change_parts.specs.Rolls.{IsRoll, roll_statements, stage_left}
 use Rattle.change_spec.specs.Statements.{Statement, start, change}
-use Rattle.report_types.specs.declared.report.Report.{Report}
-use Rattle.command_answers.specs.Answers.{Answer, refusal, description, graph, parts, plan, ran, rolled}
 use Rattle.command_answers.specs.RefusalLines.{elaborate_words, plan_words}
-use Rattle.command_words.specs.declared.words.TopCall.{TopCall}
-use Rattle.command_spec.specs.Courses.{FetchCourse, SaysAlone, AfterFetch, After, Unrefused}
-use Rattle.command_spec.specs.Descriptions.{IsChecked, IsGraphOfCall, IsTextRefusal}
-use Rattle.command_spec.specs.Fetches.{file_limit}
-use Rattle.command_spec.specs.Replays.{IsReplayed}
-use Rattle.command_spec.specs.Schedules.{Schedule, IsReportBy, IsShownBy}
-use Rattle.command_spec.specs.declared.query.Cut.{Cut}
-use Rattle.command_spec.specs.declared.query.Cut.TheVariants as cuts
+use Rattle.command_spec.specs.Courses.{Course, ends, judges, reads, then_by}
+use Rattle.command_spec.specs.Descriptions.{IsGraphOfCall}
+use Rattle.command_spec.specs.Sorts.{of_description}
 
 -- what is done with the graph of a component
 pub data GraphUse : Type 0 where
-  -- it is drawn, and nothing runs
-  draws : GraphUse
   -- a run starts with it
   starts : GraphUse
   -- what runs is changed to it, within so many rounds, and these states go on
@@ -65,9 +49,8 @@ begun = record { file = []; used = None; graphs = []; statements = []; made = re
 abbrev pub with_description : Progress → List ℕ → Tree → Progress
 with_description p file tree = record p { file = file; used = Some tree }
 
--- the statement that a call is, where something is to run
+-- the statement that a call is
 abbrev pub stated_by : GraphUse → Name → List ℤ → Graph → List Statement
-stated_by draws name args g = []
 stated_by starts name args g = start name args g ∷ []
 stated_by (changes within moves) name args g = change name args g within moves ∷ []
 
@@ -80,7 +63,6 @@ with_statement p what = record p { statements = p.statements ++ what ∷ [] }
 
 -- the deed can be done with the graph, and so much is made then
 abbrev pub Allows : Progress → GraphUse → Graph → Made → Type 0
-Allows p draws g made = made ≡ p.made
 Allows p starts g made = HasRoomFor p.made g × (made ≡ more_made p.made (length g.nodes) (length (ports g.nodes)))
 Allows p (changes within moves) g made =
     (old : Graph) × (earlier : List Graph) × (p.graphs ≡ old ∷ earlier)
@@ -88,7 +70,6 @@ Allows p (changes within moves) g made =
 
 -- it can't be done, and these words say why
 abbrev pub Forbids : Progress → GraphUse → Graph → List (List ℕ) → Type 0
-Forbids p draws g words = ⊥
 Forbids p starts g words = (e : PlanError) × LacksRoomFor p.made g e × (words ≡ plan_words e)
 Forbids p (changes within moves) g words =
     (old : Graph) × (earlier : List Graph) × (p.graphs ≡ old ∷ earlier)
@@ -114,63 +95,10 @@ pub data IsCallRefusal (p : Progress) (deed : GraphUse) (name : Name) (args : Li
       → Forbids p deed g words
       → IsCallRefusal p deed name args words
 
--- what lines are followed for
-pub data Aim : Type 0 where
-  -- the text of the last graph
-  drawing : Aim
-  -- that of the change to the last graph, without moves, from the first call to the second
-  planning : Cut → TopCall → TopCall → Aim
-  -- that of what events come to from a start with it
-  replaying : List Event → Aim
-  -- the report of a run of all that is to be done
-  running : Schedule → Aim
-
--- the answer that is the change from one graph to another: in one plan, in parts, or as a roll
-abbrev pub IsChangeOf : Cut → TopCall → TopCall → Graph → Graph → Answer → Type 0
-IsChangeOf cuts.Whole call target old new answer =
-    (steps : Plan) × IsPlanOf old new [] steps × (answer ≡ plan old new steps)
-IsChangeOf cuts.InParts call target old new answer =
-    (ps : List Part) × AreParts old new [] ps × (answer ≡ parts old ps)
-IsChangeOf (cuts.Rolled run within) call target old new answer =
-    (ps : List Part) × AreParts old new [] ps × (given_up : Option ℕ)
-    × IsRoll (roll_statements call.top call.args old run target.top target.args within ps) given_up
-    × (answer ≡ rolled old ps given_up (stage_left old ps given_up))
-
--- The answer that is the report of a run of these statements. What must be so of them and of it is given, and what of
--- the bytes that show it.
-abbrev pub IsRunAnswer : (List Statement → Report → Type 0) → (Report → List ℕ → Type 0) → List Statement → Answer → Type 0
-IsRunAnswer IsReport Shows statements answer =
-    (r : Report) × IsReport statements r × (shown : List ℕ) × Shows r shown × (answer ≡ ran r shown)
-
--- the answer to what is wanted, from where the lines lead
-abbrev pub Concludes : Aim → Progress → Answer → Type 0
-Concludes drawing p answer = (g : Graph) × (earlier : List Graph) × (p.graphs ≡ g ∷ earlier) × (answer ≡ graph g)
-Concludes (planning cut call target) p answer =
-    (old new : Graph) × (earlier : List Graph) × (p.graphs ≡ new ∷ old ∷ earlier)
-    × IsChangeOf cut call target old new answer
-Concludes (replaying events) p answer =
-    (g : Graph) × (earlier : List Graph) × (p.graphs ≡ g ∷ earlier) × IsReplayed (started g) events answer
-Concludes (running schedule) p answer = IsRunAnswer (IsReportBy schedule) (IsShownBy schedule) p.statements answer
-
--- what follows behind the lines: nothing of what is wanted is refused, and nothing more is fetched for it
-abbrev pub behind : Aim → Progress → FetchCourse
-behind aim p = Unrefused (Concludes aim p) SaysAlone
-
--- Of a run it is a report of what is to be done. By a schedule it is
--- `reporting (IsReportBy schedule) (IsShownBy schedule)`.
-abbrev pub reporting : (List Statement → Report → Type 0) → (Report → List ℕ → Type 0) → Progress → FetchCourse
-reporting IsReport Shows p = Unrefused (IsRunAnswer IsReport Shows p.statements) SaysAlone
-
--- The course of lines, and behind them of what follows from where they lead. A line that uses a file fetches it, and no
--- other line fetches anything.
-abbrev pub FollowsLines : (Progress → FetchCourse) → Progress → List RunLine → FetchCourse
-FollowsLines Then p [] = Then p
-FollowsLines Then p (uses file ∷ lines) =
-    let refuse = λ (words : List (List ℕ)). refusal (description file words) in
-    AfterFetch file file_limit refuse
-    (λ bytes. After (IsTextRefusal bytes) refuse (IsChecked bytes)
-    (λ tree. FollowsLines Then (with_description p file tree) lines))
-FollowsLines Then p (calls deed name args ∷ lines) =
-    After (IsCallRefusal p deed name args) (λ words. refusal (description p.file words)) (CallLeads p deed name args)
-    (λ next. FollowsLines Then next lines)
-FollowsLines Then p (does what ∷ lines) = FollowsLines Then (with_statement p what) lines
+-- The course of lines, to how far they lead. A line that uses a file fetches it, and no other line fetches anything.
+abbrev pub of_lines : Progress → List RunLine → Course Progress
+of_lines p [] = ends p
+of_lines p (uses file ∷ lines) = then_by (reads of_description file) (λ tree. of_lines (with_description p file tree) lines)
+of_lines p (calls deed name args ∷ lines) =
+    judges Progress of_description p.file (IsCallRefusal p deed name args) (CallLeads p deed name args) (λ next. of_lines next lines)
+of_lines p (does what ∷ lines) = of_lines (with_statement p what) lines

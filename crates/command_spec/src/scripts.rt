@@ -1,20 +1,21 @@
 //! Laws of runs of scripts; those of which lines are refused are of a shelf that tells its files.
 
-ghost use Rattle.std.specs.Prelude.{◌≡◌, ◌≢◌, ◌≤◌, ℕ, Bool, List, Option, Some};
+ghost use Rattle.std.specs.Prelude.{◌≡◌, ◌≢◌, ◌⊎◌, ◌≤◌, ℕ, Bool, true, List, [], Option, Some};
 ghost use Rattle.base.specs.Each.{Each};
 ghost use Rattle.command_words.specs.BigFiles.{script};
 ghost use Rattle.command_words.specs.declared.big_texts.TheConstants.{MAX_LANES};
 ghost use Rattle.cfg_io.specs.Shelf.{Files};
 ghost use Rattle.change_script.specs.ScriptFiles.{IsScript};
 ghost use Rattle.report_types.specs.declared.script.Script.{Script};
+ghost use Rattle.command_answers.specs.Answers.{Refusal, description, script as script_refusal};
 ghost use Rattle.command_answers.specs.declared.status.Status.{Status};
-ghost use Rattle.command_spec.specs.Failures.{Uses};
-ghost use Rattle.command_spec.specs.Lines.{RunLine, Progress, begun};
-ghost use Rattle.command_spec.specs.Outcomes.{HoldsFile, Judged, MustRefuseLine, MustRefuseScript, NothingRefusesLines, Ran, SummedUp, TellsTooLong};
+ghost use Rattle.command_spec.specs.Courses.{Follows, came};
+ghost use Rattle.command_spec.specs.Endings.{Refuses, RefusesNothing, is_of_file};
+ghost use Rattle.command_spec.specs.Lines.{RunLine, Progress, begun, of_lines};
+ghost use Rattle.command_spec.specs.Outcomes.{Judged, Ran, SummedUp};
 ghost use Rattle.command_spec.specs.Runs.{Run, Runs};
-ghost use Rattle.command_spec.specs.Scripts.{lines_of_script};
+ghost use Rattle.command_spec.specs.Scripts.{Elaborates, LeadTo, Uses, lines_of_script, prepares};
 ghost use Rattle.command_spec.specs.RunReports.{IsReportOf};
-ghost use Rattle.command_spec.specs.Ways.{AreRefused, Elaborates, LeadTo};
 ghost use Rattle.change_spec.specs.Scripts.{StatementsOf};
 ghost use Rattle.change_spec.specs.Statements.{Statement};
 ghost use Rattle.report_types.specs.declared.report.Report.{Report};
@@ -25,7 +26,8 @@ ghost use Rattle.change_round_laws.specs.SoundStatements.{AreSound};
 ghost use Rattle.command_spec.specs.MadeScripts.{made_script};
 ghost use Rattle.change_round_laws.specs.Waits.{DrainsInTime};
 
-use crate::{scripts_are_refused_for_their_first_fault, what_bytes_give_is_one};
+use crate::{made_runs_are_not_refused, what_bytes_give_is_one};
+use change_plan::a_plan_or_a_refusal;
 use change_round_laws::{
     a_sound_script_has_a_report, changes_drain_within_what_is_left, reports_of_rounds_are_lawful,
 };
@@ -37,10 +39,10 @@ use elaborator::{a_graph_or_a_fault, one_graph};
 pub fn a_script_has_a_report()
     ensures sound { (files : Option Files) (bytes : List ℕ) (script : Script) (statements : List Statement)
         → IsScript bytes script
-        → StatementsOf (Elaborates (HoldsFile files)) script statements → AreSound statements }
+        → StatementsOf (Elaborates files) script statements → AreSound statements }
     ensures exists { (files : Option Files) (bytes : List ℕ) (script : Script) (statements : List Statement)
         → IsScript bytes script
-        → StatementsOf (Elaborates (HoldsFile files)) script statements
+        → StatementsOf (Elaborates files) script statements
         → (report : Report) × IsReportOf statements report }
 {
     a_graph_or_a_fault();
@@ -73,45 +75,48 @@ pub fn a_script_has_one_run()
         → Judged (Some files) name file own taken t → Judged (Some files) name file other taken also
         → (own ≡ other) × (t ≡ also) }
     ensures statements { (files : Files) (script : Script) (first second : List Statement)
-        → StatementsOf (Elaborates (HoldsFile (Some files))) script first
-        → StatementsOf (Elaborates (HoldsFile (Some files))) script second → first ≡ second }
+        → StatementsOf (Elaborates (Some files)) script first
+        → StatementsOf (Elaborates (Some files)) script second → first ≡ second }
 {
     what_bytes_give_is_one();
 }
 
-/// A law: the lines of a script lead to one end at most, and none of them is refused then. That they neither lead on
-/// nor stop can't be, where the shelf has each file that they use.
+/// A law: the lines of a script lead to one end at most, and none of them is refused then. Where the shelf has each file
+/// that they use, they lead on or one of them is refused.
 pub fn lines_lead_or_are_refused()
     ensures one_end { (files : Files) (lines : List RunLine) (end other : Progress)
-        → LeadTo (HoldsFile (Some files)) begun lines end → LeadTo (HoldsFile (Some files)) begun lines other
-        → end ≡ other }
-    ensures never_both { (files : Files) (lines : List RunLine) (end : Progress) (used : List ℕ) (words : List (List ℕ))
-        → LeadTo (HoldsFile (Some files)) begun lines end
-        → ¬ AreRefused (HoldsFile (Some files)) (TellsTooLong (Some files)) lines begun used words }
-    ensures not_neither { (files : Files) (bytes : List ℕ) (script : Script) → IsScript bytes script
+        → LeadTo (Some files) begun lines end → LeadTo (Some files) begun lines other → end ≡ other }
+    ensures never_both { (files : Files) (lines : List RunLine) (end : Progress)
+        → LeadTo (Some files) begun lines end → RefusesNothing files (of_lines begun lines) }
+    ensures always_one { (files : Files) (bytes : List ℕ) (script : Script) → IsScript bytes script
         → ((file : List ℕ) → Uses (lines_of_script script.lines) file → (text : List ℕ) × (files file ≡ Some text))
-        → ¬ (((end : Progress) → ¬ LeadTo (HoldsFile (Some files)) begun (lines_of_script script.lines) end)
-        × ((used : List ℕ) (words : List (List ℕ))
-        → ¬ AreRefused (HoldsFile (Some files)) (TellsTooLong (Some files)) (lines_of_script script.lines)
-        begun used words)) }
+        → ((end : Progress) × LeadTo (Some files) begun (lines_of_script script.lines) end)
+        ⊎ ((file : List ℕ) × (words : List (List ℕ))
+        × Refuses files (of_lines begun (lines_of_script script.lines)) (description file words)) }
 {
     a_fault_or_none();
     a_graph_or_a_fault();
+    a_plan_or_a_refusal();
 }
 
-/// A law: what is asked of a file so that it must be refused as a script, that a line of it must be refused, or that
-/// nothing is refused: no two of these hold of the same bytes, and that none holds can't be. So for each text one of
-/// three answers is due, where memory lasts.
+/// A law: by its files a script is refused as one, or a line of it is, or nothing is: no two of these hold, and that
+/// none holds can't be. So for each script one of three answers is due, where memory lasts.
 pub fn three_things_are_asked_of_a_script()
-    ensures whole_or_line { (files : Files) (bytes : List ℕ) → MustRefuseScript (Some bytes)
-        → ¬ MustRefuseLine files (Some bytes) }
-    ensures whole_or_nothing { (files : Files) (bytes : List ℕ) → MustRefuseScript (Some bytes)
-        → ¬ NothingRefusesLines files (Some bytes) }
-    ensures line_or_nothing { (files : Files) (bytes : List ℕ) → MustRefuseLine files (Some bytes)
-        → ¬ NothingRefusesLines files (Some bytes) }
-    ensures not_neither { (files : Files) (bytes : List ℕ) → ¬ ((¬ MustRefuseScript (Some bytes))
-        × (¬ MustRefuseLine files (Some bytes)) × (¬ NothingRefusesLines files (Some bytes))) }
-{}
+    ensures whole_or_line { (files : Files) (name file used : List ℕ) (words why : List (List ℕ))
+        → Refuses files (prepares name) (script_refusal file words)
+        → ¬ Refuses files (prepares name) (description used why) }
+    ensures refused_or_nothing { (files : Files) (name : List ℕ) (why : Refusal) → is_of_file why ≡ true
+        → Refuses files (prepares name) why → ¬ RefusesNothing files (prepares name) }
+    ensures refused_or_leads { (files : Files) (name : List ℕ) (end : Progress)
+        → Follows (Some files) (prepares name) [] (came end) → RefusesNothing files (prepares name) }
+    ensures not_neither { (files : Files) (name : List ℕ)
+        → ¬ (((file : List ℕ) (words : List (List ℕ)) → ¬ Refuses files (prepares name) (script_refusal file words))
+        × ((used : List ℕ) (why : List (List ℕ)) → ¬ Refuses files (prepares name) (description used why))
+        × (¬ RefusesNothing files (prepares name))) }
+{
+    a_graph_or_a_fault();
+    a_plan_or_a_refusal();
+}
 
 /// A law: the script that is made for so many lanes is one, with the statements that are meant.
 pub fn made_scripts_are_scripts()
@@ -123,5 +128,5 @@ pub fn made_scripts_are_not_refused()
     ensures { (knows : Command → Bool) (r : Run) → Runs knows r
         → (lanes : ℕ) → AsksOf knows r.words (commands.Big lanes) → r.status ≢ Status.Script }
 {
-    scripts_are_refused_for_their_first_fault();
+    made_runs_are_not_refused();
 }

@@ -14,16 +14,18 @@ ghost use Rattle.change_spec.specs.Statements.{Statement};
 ghost use Rattle.command_answers.specs.declared.status.Status.{Status};
 ghost use Rattle.command_words.specs.declared.words.Command.{Command};
 ghost use Rattle.command_words.specs.declared.words.Command.TheVariants as commands;
-ghost use Rattle.command_spec.specs.Fetches.{report_limit};
+ghost use Rattle.command_spec.specs.Endings.{RefusesNothing};
 ghost use Rattle.command_spec.specs.Known.{AsksOf};
-ghost use Rattle.command_spec.specs.Outcomes.{Ends, HoldsFile, Judged, NothingRefusesLines, ReadFrom, WasRunBy};
+ghost use Rattle.command_spec.specs.Outcomes.{Ends, Judged, ReadFrom, WasRunBy};
 ghost use Rattle.command_spec.specs.Runs.{Run, Runs};
 ghost use Rattle.command_spec.specs.Schedules.{Schedule};
-ghost use Rattle.command_spec.specs.Ways.{Elaborates};
+ghost use Rattle.command_spec.specs.Scripts.{Elaborates, prepares};
+ghost use Rattle.command_spec.specs.Sorts.{limit_of, of_report};
 ghost use Rattle.command_spec.specs.Telling.{AreStated, NumbersFit, StillHolds, TellsItself};
 
 use crate::{
-    checks_end_by_what_is_lawful, what_bytes_give_is_one, what_is_not_refused_is_answered,
+    check_promises, checks_end_by_what_is_lawful, runs_answer_their_commands,
+    what_bytes_give_is_one, what_is_not_refused_is_answered,
 };
 use change_script::{lines_mean_what_their_forms_say, names_are_those_of_the_language};
 use change_script_laws::paths_of_nodes_are_paths;
@@ -40,7 +42,7 @@ pub fn runs_tell_their_reports()
     ensures consistent { (statements : List Statement) (report : Report) → TellsItself statements report }
     ensures stated { (files : Option Files) (bytes : List ℕ) (script : Script) (statements : List Statement)
         → IsScript bytes script
-        → StatementsOf (Elaborates (HoldsFile files)) script statements → AreStated statements }
+        → StatementsOf (Elaborates files) script statements → AreStated statements }
     ensures ran { (schedule : Schedule) (files : Option Files) (name : List ℕ) (own : Status)
         → (ran : WasRunBy schedule files name own)
         → NumbersFit ran.report → IsReport versions.Second ran.report }
@@ -70,9 +72,9 @@ pub fn a_check_of_what_was_run_is_consistent()
     ensures ends { (knows : Command → Bool) (schedule : Schedule) (before after : Files) (name file : List ℕ)
         (own : Status) → (ran : WasRunBy schedule (Some before) name own) → NumbersFit ran.report
         → StillHolds before after → after file ≡ Some (report_text ran.report)
-        → length (report_text ran.report) ≤ report_limit
+        → length (report_text ran.report) ≤ limit_of of_report
         → (r : Run) → Runs knows r → ReadFrom r after → AsksOf knows r.words (commands.Check name file)
-        → NothingRefusesLines after (after name)
+        → RefusesNothing after (prepares name)
         → Ends r.status Status.Ok }
 {
     runs_tell_their_reports();
@@ -80,6 +82,8 @@ pub fn a_check_of_what_was_run_is_consistent()
     a_written_report_is_read();
     one_report_or_one_fault();
     what_bytes_give_is_one();
+    runs_answer_their_commands();
+    check_promises();
     checks_end_by_what_is_lawful();
     what_is_not_refused_is_answered();
 }

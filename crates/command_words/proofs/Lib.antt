@@ -1,4 +1,5 @@
 pub mod Asking
+pub mod Bodies
 pub mod Parting
 pub mod Refusals
 pub mod WordsLaws

@@ -1,254 +1,182 @@
--- Words ask for one command at most. A command is its form and what it carries; the first word tells the form, and the
--- words behind it what is carried.
-use Rattle.std.proofs.Common.{◌≡◌, ◌∙◌, ℕ, List, [], ◌∷◌, Option, Some, None, bytes_eq, codes, if◌then◌else◌, refl, sym, ap, subst}
+-- Words ask for one command at most. The first word tells which command takes others behind it, and those behind it tell
+-- what it carries.
+use Rattle.std.proofs.Common.{◌≡◌, ◌∙◌, ◌≤◌, lit≤, ℕ, List, [], ◌∷◌, ◌⊎◌, inl, inr, Option, Some, None, bytes_eq, codes, if◌then◌else◌, refl, sym, ap, subst}
 use Rattle.std.proofs.lemmas.Option.{same_Some}
 use Rattle.std.specs.Str.Parse.{digits_value}
+use Rattle.command_words.specs.declared.keywords.Keyword.{Keyword}
+use Rattle.command_words.specs.declared.keywords.Keyword.TheVariants as keywords
 use Rattle.command_words.specs.declared.words.Command.{Command}
 use Rattle.command_words.specs.declared.words.Command.TheVariants as commands
 use Rattle.command_words.specs.declared.words.TopCall.{TopCall}
-use Rattle.command_words.specs.CommandLine.{keyword, IsBody, IsChange, SaysCounts, SaysObservers, SaysThreads, Asks}
+use Rattle.command_words.specs.Keywords.{word_of}
+use Rattle.command_words.specs.CommandLine.{Asks, for_help, for_version, for_deed, BehindFile, BehindNumber, HasBody, IsBody, IsCall, IsChange, IsEnd, IsHelpOf, keyword, SaysCounts, SaysObservers, SaysThreads}
 use Rattle.command_words.proofs.Asking.{head_is, tail_is, one_call, call_has_parts, one_parting}
 
-pub data Form : Type 0 where
-  help : Form
-  version : Form
-  flat : Form
-  plan : Form
-  parts : Form
-  roll : Form
-  replay : Form
-  upgrade : Form
-  step : Form
-  live : Form
-  check : Form
-  big : Form
+-- the command that a word names
+pub named : List ℕ → Option Keyword
+named word =
+    if bytes_eq word (codes "flat") then Some keywords.Flat else
+    if bytes_eq word (codes "plan") then Some keywords.Plan else
+    if bytes_eq word (codes "parts") then Some keywords.Parts else
+    if bytes_eq word (codes "roll") then Some keywords.Roll else
+    if bytes_eq word (codes "replay") then Some keywords.Replay else
+    if bytes_eq word (codes "step") then Some keywords.Step else
+    if bytes_eq word (codes "live") then Some keywords.Live else
+    if bytes_eq word (codes "check") then Some keywords.Check else
+    if bytes_eq word (codes "big") then Some keywords.Big else
+    if bytes_eq word (codes "upgrade") then Some keywords.Upgrade else None
 
-abbrev pub form : Command → Form
-form commands.Help = help
-form commands.Version = version
-form (commands.Flat file call) = flat
-form (commands.Plan file call target) = plan
-form (commands.Parts file call target) = parts
-form (commands.Roll file run rounds call target) = roll
-form (commands.Replay file events) = replay
-form (commands.Upgrade file) = upgrade
-form (commands.Step script) = step
-form (commands.Live script workers observers) = live
-form (commands.Check script report) = check
-form (commands.Big lanes) = big
+pub named_so : (own : Keyword) → named (word_of own) ≡ Some own
+unfolding named
+named_so keywords.Flat = refl
+named_so keywords.Plan = refl
+named_so keywords.Parts = refl
+named_so keywords.Roll = refl
+named_so keywords.Replay = refl
+named_so keywords.Step = refl
+named_so keywords.Live = refl
+named_so keywords.Check = refl
+named_so keywords.Big = refl
+named_so keywords.Upgrade = refl
 
-abbrev pub Carried : Form → Type 0
-Carried help = Unit {0}
-Carried version = Unit {0}
-Carried flat = List ℕ × TopCall
-Carried plan = List ℕ × TopCall × TopCall
-Carried parts = List ℕ × TopCall × TopCall
-Carried roll = List ℕ × ℕ × ℕ × TopCall × TopCall
-Carried replay = List ℕ × List ℕ
-Carried upgrade = List ℕ
-Carried step = List ℕ
-Carried live = List ℕ × ℕ × ℕ
-Carried check = List ℕ × List ℕ
-Carried big = ℕ
+pub named_none : (named (codes "--help") ≡ None) × (named (codes "-h") ≡ None) × (named (codes "help") ≡ None) × (named (codes "--version") ≡ None)
+unfolding named
+named_none = (refl, refl, refl, refl)
 
-abbrev pub command : (f : Form) → Carried f → Command
-command help p = commands.Help
-command version p = commands.Version
-command flat p = commands.Flat p.0 p.1
-command plan p = commands.Plan p.0 p.1 p.2
-command parts p = commands.Parts p.0 p.1 p.2
-command roll p = commands.Roll p.0 p.1 p.2 p.3 p.4
-command replay p = commands.Replay p.0 p.1
-command upgrade p = commands.Upgrade p
-command step p = commands.Step p
-command live p = commands.Live p.0 p.1 p.2
-command check p = commands.Check p.0 p.1
-command big p = commands.Big p
+-- a word names one command
+pub one_keyword : (a b : Keyword) → word_of a ≡ word_of b → a ≡ b
+one_keyword a b same = same_Some a b (sym (named_so a) ∙ ap named same ∙ named_so b)
 
-abbrev pub carried : (c : Command) → Carried (form c)
-carried commands.Help = tt
-carried commands.Version = tt
-carried (commands.Flat file call) = (file, call)
-carried (commands.Plan file call target) = (file, call, target)
-carried (commands.Parts file call target) = (file, call, target)
-carried (commands.Roll file run rounds call target) = (file, run, rounds, call, target)
-carried (commands.Replay file events) = (file, events)
-carried (commands.Upgrade file) = file
-carried (commands.Step script) = script
-carried (commands.Live script workers observers) = (script, workers, observers)
-carried (commands.Check script report) = (script, report)
-carried (commands.Big lanes) = lanes
+-- no command is named by the words that ask for help, or for the version
+pub no_keyword : (own : Keyword) (word : List ℕ) → word ≡ word_of own → named word ≡ None → ⊥
+no_keyword own word is none = cc (sym none ∙ ap named is ∙ named_so own)
 
-is_command : (c : Command) → c ≡ command (form c) (carried c)
-is_command commands.Help = refl
-is_command commands.Version = refl
-is_command (commands.Flat file call) = refl
-is_command (commands.Plan file call target) = refl
-is_command (commands.Parts file call target) = refl
-is_command (commands.Roll file run rounds call target) = refl
-is_command (commands.Replay file events) = refl
-is_command (commands.Upgrade file) = refl
-is_command (commands.Step script) = refl
-is_command (commands.Live script workers observers) = refl
-is_command (commands.Check script report) = refl
-is_command (commands.Big lanes) = refl
+-- what the first word names, where the words ask for help, or for the version
+pub no_keyword_asks : (words : List (List ℕ)) (own : Keyword) (body : List (List ℕ)) → words ≡ word_of own ∷ body → IsHelpOf words None → ⊥
+no_keyword_asks words own body is (inl asks) = no_keyword own (codes "--help") (head_is _ _ [] body (sym asks ∙ is)) named_none.0
+no_keyword_asks words own body is (inr (inl asks)) = no_keyword own (codes "-h") (head_is _ _ [] body (sym asks ∙ is)) named_none.1
+no_keyword_asks words own body is (inr (inr asks)) = no_keyword own (codes "help") (head_is _ _ [] body (sym asks ∙ is)) named_none.2
 
--- the form that a first word tells
-pub form_of : List ℕ → Option Form
-form_of word =
-    if bytes_eq word (codes "--help") then Some help else
-    if bytes_eq word (codes "--version") then Some version else
-    if bytes_eq word (codes "flat") then Some flat else
-    if bytes_eq word (codes "plan") then Some plan else
-    if bytes_eq word (codes "parts") then Some parts else
-    if bytes_eq word (codes "roll") then Some roll else
-    if bytes_eq word (codes "replay") then Some replay else
-    if bytes_eq word (codes "upgrade") then Some upgrade else
-    if bytes_eq word (codes "step") then Some step else
-    if bytes_eq word (codes "live") then Some live else
-    if bytes_eq word (codes "check") then Some check else
-    if bytes_eq word (codes "big") then Some big else None
+one_topic : (words : List (List ℕ)) (a b : Option Keyword) → IsHelpOf words a → IsHelpOf words b → a ≡ b
+one_topic words None None x y = refl
+one_topic words None (Some b) x y = absurd (no_keyword_asks words b (codes "--help" ∷ []) y x)
+one_topic words (Some a) None x y = absurd (no_keyword_asks words a (codes "--help" ∷ []) x y)
+one_topic words (Some a) (Some b) x y = ap Some (one_keyword a b (head_is (word_of a) (word_of b) (codes "--help" ∷ []) (codes "--help" ∷ []) (sym x ∙ y)))
 
-pub form_is : (c : Command) → form_of (keyword c) ≡ Some (form c)
-unfolding form_of
-form_is commands.Help = refl
-form_is commands.Version = refl
-form_is (commands.Flat file call) = refl
-form_is (commands.Plan file call target) = refl
-form_is (commands.Parts file call target) = refl
-form_is (commands.Roll file run rounds call target) = refl
-form_is (commands.Replay file events) = refl
-form_is (commands.Upgrade file) = refl
-form_is (commands.Step script) = refl
-form_is (commands.Live script workers observers) = refl
-form_is (commands.Check script report) = refl
-form_is (commands.Big lanes) = refl
-
-pub flat_word : form_of (codes "flat") ≡ Some flat
-unfolding form_of
-flat_word = refl
-
-pub plan_word : form_of (codes "plan") ≡ Some plan
-unfolding form_of
-plan_word = refl
-
-pub parts_word : form_of (codes "parts") ≡ Some parts
-unfolding form_of
-parts_word = refl
-
-pub roll_word : form_of (codes "roll") ≡ Some roll
-unfolding form_of
-roll_word = refl
-
-pub same_form : (c d : Command) → keyword c ≡ keyword d → form c ≡ form d
-same_form c d is = same_Some (form c) (form d) (sym (form_is c) ∙ ap form_of is ∙ form_is d)
-
--- a command of a form carries something
-pub of_form : (f : Form) (c : Command) → form c ≡ f → (p : Carried f) × (c ≡ command f p)
-of_form f c is = subst (λ g. (p : Carried g) × (c ≡ command g p)) is (carried c, is_command c)
+no_version : (words : List (List ℕ)) (topic : Option Keyword) → IsHelpOf words topic → words ≡ codes "--version" ∷ [] → ⊥
+no_version words None (inl asks) is = cc (sym asks ∙ is)
+no_version words None (inr (inl asks)) is = cc (sym asks ∙ is)
+no_version words None (inr (inr asks)) is = cc (sym asks ∙ is)
+no_version words (Some own) asks is = no_keyword own (codes "--version") (sym (head_is _ _ (codes "--help" ∷ []) [] (sym asks ∙ is))) named_none.3
 
 -- the words of a change tell its two calls
 one_change :
-    (xs ys : List (List ℕ)) (t v u w : TopCall) → IsChange xs t v → IsChange ys u w → xs ≡ ys → (t ≡ u) × (v ≡ w)
-one_change xs ys t v u w x y same =
-    let split = one_parting x.0 y.0 x.1 y.1 (call_has_parts x.0 t x.3) (call_has_parts y.0 u y.3) (sym x.2 ∙ same ∙ y.2) in
+    (words : List (List ℕ)) (t v u w : TopCall) → IsChange words t v → IsChange words u w → (t ≡ u) × (v ≡ w)
+one_change words t v u w x y =
+    let split = one_parting x.0 y.0 x.1 y.1 (call_has_parts x.0 t x.3) (call_has_parts y.0 u y.3) (sym x.2 ∙ y.2) in
     (one_call x.0 y.0 t u x.3 y.3 split.0, one_call x.1 y.1 v w x.4 y.4 split.1)
 
 -- the options of a run tell its workers and observers
-one_observers : (xs ys : List (List ℕ)) (n m : ℕ) → SaysObservers xs n → SaysObservers ys m → xs ≡ ys → n ≡ m
-one_observers [] [] n m x y same = x ∙ sym y
-one_observers [] (b ∷ ys) n m x y same = cc
-one_observers (a ∷ xs) [] n m x y same = cc
-one_observers (a ∷ xs) (b ∷ ys) n m x y same =
-    let counts = head_is x.1 y.1 [] [] (sym x.2 ∙ tail_is a b xs ys same ∙ y.2) in
-    x.4 ∙ ap (digits_value 10) counts ∙ sym y.4
-
-one_counts :
-    (xs ys : List (List ℕ)) (w n v m : ℕ) → SaysCounts xs w n → SaysCounts ys v m → xs ≡ ys → (w ≡ v) × (n ≡ m)
-one_counts [] ys w n v m x y same = absurd x
-one_counts (a ∷ xs) [] w n v m x y same = absurd y
-one_counts (a ∷ xs) (b ∷ ys) w n v m x y same =
-    (x.1 ∙ ap (digits_value 10) (head_is a b xs ys same) ∙ sym y.1, one_observers xs ys n m x.2 y.2 (tail_is a b xs ys same))
+one_observers : (words : List (List ℕ)) (n m : ℕ) → SaysObservers words n → SaysObservers words m → n ≡ m
+one_observers [] n m x y = x ∙ sym y
+one_observers (a ∷ words) n m x y = x.4 ∙ ap (digits_value 10) (head_is x.1 y.1 [] [] (sym x.2 ∙ y.2)) ∙ sym y.4
 
 one_threads :
-    (xs ys : List (List ℕ)) (w n v m : ℕ) → SaysThreads xs w n → SaysThreads ys v m → xs ≡ ys → (w ≡ v) × (n ≡ m)
-one_threads [] [] w n v m x y same = (x.0 ∙ sym y.0, x.1 ∙ sym y.1)
-one_threads [] (b ∷ ys) w n v m x y same = cc
-one_threads (a ∷ xs) [] w n v m x y same = cc
-one_threads (a ∷ xs) (b ∷ ys) w n v m x y same = one_counts xs ys w n v m x.1 y.1 (tail_is a b xs ys same)
+    (words : List (List ℕ)) (w n v m : ℕ) → SaysThreads words w n → SaysThreads words v m → (w ≡ v) × (n ≡ m)
+one_threads [] w n v m x y = (x.0 ∙ sym y.0, x.1 ∙ sym y.1)
+one_threads (a ∷ []) w n v m x y = absurd x.1
+one_threads (a ∷ b ∷ words) w n v m x y = (x.1.1 ∙ sym y.1.1, one_observers words n m x.1.2 y.1.2)
 
--- the words behind the first tell it
-one_body : (f : Form) (p q : Carried f) (body : List (List ℕ)) → IsBody (command f p) body → IsBody (command f q) body → command f p ≡ command f q
-one_body help p q body x y = refl
-one_body version p q body x y = refl
-one_body flat (f, t) (g, u) body x y =
-    let is = sym x.1 ∙ y.1 in
-    same (head_is f g x.0 y.0 is) (one_call x.0 y.0 t u x.3 y.3 (tail_is f g x.0 y.0 is))
-  where
-    same : f ≡ g → t ≡ u → commands.Flat f t ≡ commands.Flat g u
-    same file call = rw (file, call) refl
-one_body plan (f, t, v) (g, u, w) body x y =
-    let is = sym x.1 ∙ y.1 in
-    let calls = one_change x.0 y.0 t v u w x.3 y.3 (tail_is f g x.0 y.0 is) in
-    same (head_is f g x.0 y.0 is) calls.0 calls.1
-  where
-    same : f ≡ g → t ≡ u → v ≡ w → commands.Plan f t v ≡ commands.Plan g u w
-    same file call target = rw (file, call, target) refl
-one_body parts (f, t, v) (g, u, w) body x y =
-    let is = sym x.1 ∙ y.1 in
-    let calls = one_change x.0 y.0 t v u w x.3 y.3 (tail_is f g x.0 y.0 is) in
-    same (head_is f g x.0 y.0 is) calls.0 calls.1
-  where
-    same : f ≡ g → t ≡ u → v ≡ w → commands.Parts f t v ≡ commands.Parts g u w
-    same file call target = rw (file, call, target) refl
-one_body roll (f, k, n, t, v) (g, m, o, u, w) body x y =
-    let is = sym x.3 ∙ y.3 in
-    let first = tail_is f g (x.0 ∷ x.1 ∷ x.2) (y.0 ∷ y.1 ∷ y.2) is in
-    let second = tail_is x.0 y.0 (x.1 ∷ x.2) (y.1 ∷ y.2) first in
-    let runs = x.6 ∙ ap (digits_value 10) (head_is x.0 y.0 (x.1 ∷ x.2) (y.1 ∷ y.2) first) ∙ sym y.6 in
-    let rounds = x.8 ∙ ap (digits_value 10) (head_is x.1 y.1 x.2 y.2 second) ∙ sym y.8 in
-    let calls = one_change x.2 y.2 t v u w x.9 y.9 (tail_is x.1 y.1 x.2 y.2 second) in
-    same (head_is f g (x.0 ∷ x.1 ∷ x.2) (y.0 ∷ y.1 ∷ y.2) is) runs rounds calls.0 calls.1
-  where
-    same : f ≡ g → k ≡ m → n ≡ o → t ≡ u → v ≡ w → commands.Roll f k n t v ≡ commands.Roll g m o u w
-    same file run rounds call target = rw (file, run, rounds, call, target) refl
-one_body replay (f, e) (g, h) body x y =
-    let is = sym x.0 ∙ y.0 in
-    same (head_is f g (e ∷ []) (h ∷ []) is) (head_is e h [] [] (tail_is f g (e ∷ []) (h ∷ []) is))
-  where
-    same : f ≡ g → e ≡ h → commands.Replay f e ≡ commands.Replay g h
-    same file events = rw (file, events) refl
-one_body upgrade f g body x y = same (head_is f g [] [] (sym x.0 ∙ y.0))
-  where
-    same : f ≡ g → commands.Upgrade f ≡ commands.Upgrade g
-    same file = rw file refl
-one_body step f g body x y = same (head_is f g [] [] (sym x.0 ∙ y.0))
-  where
-    same : f ≡ g → commands.Step f ≡ commands.Step g
-    same script = rw script refl
-one_body live (f, w, n) (g, v, m) body x y =
-    let is = sym x.1 ∙ y.1 in
-    let counts = one_threads x.0 y.0 w n v m x.3 y.3 (tail_is f g x.0 y.0 is) in
-    same (head_is f g x.0 y.0 is) counts.0 counts.1
-  where
-    same : f ≡ g → w ≡ v → n ≡ m → commands.Live f w n ≡ commands.Live g v m
-    same script workers observers = rw (script, workers, observers) refl
-one_body check (f, e) (g, h) body x y =
-    let is = sym x.0 ∙ y.0 in
-    same (head_is f g (e ∷ []) (h ∷ []) is) (head_is e h [] [] (tail_is f g (e ∷ []) (h ∷ []) is))
-  where
-    same : f ≡ g → e ≡ h → commands.Check f e ≡ commands.Check g h
-    same script report = rw (script, report) refl
-one_body big p q body x y = same (x.3 ∙ ap (digits_value 10) (head_is x.0 y.0 [] [] (sym x.1 ∙ y.1)) ∙ sym y.3)
-  where
-    same : p ≡ q → commands.Big p ≡ commands.Big q
-    same lanes = rw lanes refl
+-- the words tell the file that stands first, and the number
+one_file :
+    (f g : List ℕ) (Is Js : List (List ℕ) → Type 0) (body : List (List ℕ)) → BehindFile f Is body → BehindFile g Js body
+    → (f ≡ g) × ((words : List (List ℕ)) × Is words × Js words)
+one_file f g Is Js [] x y = absurd x
+one_file f g Is Js (word ∷ words) x y = (x.0 ∙ sym y.0, (words, x.2, y.2))
+
+one_number :
+    (n m : ℕ) (Is Js : List (List ℕ) → Type 0) (body : List (List ℕ)) → BehindNumber n Is body → BehindNumber m Js body
+    → (n ≡ m) × ((words : List (List ℕ)) × Is words × Js words)
+one_number n m Is Js [] x y = absurd x
+one_number n m Is Js (word ∷ words) x y = (x.0 ∙ sym y.0, (words, x.2, y.2))
+
+-- the words behind the first tell what a command carries
+one_body : (c d : Command) (body : List (List ℕ)) → keyword c ≡ keyword d → IsBody c body → IsBody d body → c ≡ d
+one_body (commands.Help t) d body same x y = absurd x
+one_body commands.Version d body same x y = absurd x
+one_body c (commands.Help t) body same x y = absurd y
+one_body c commands.Version body same x y = absurd y
+one_body (commands.Flat f t) (commands.Flat g u) body same x y =
+    let b = one_file f g (λ ws. IsCall ws t) (λ ws. IsCall ws u) body x y in
+    let call = one_call b.1.0 b.1.0 t u b.1.1 b.1.2 refl in rw (b.0, call) refl
+one_body (commands.Plan f t v) (commands.Plan g u w) body same x y =
+    let b = one_file f g (λ ws. IsChange ws t v) (λ ws. IsChange ws u w) body x y in
+    let calls = one_change b.1.0 t v u w b.1.1 b.1.2 in rw (b.0, calls.0, calls.1) refl
+one_body (commands.Parts f t v) (commands.Parts g u w) body same x y =
+    let b = one_file f g (λ ws. IsChange ws t v) (λ ws. IsChange ws u w) body x y in
+    let calls = one_change b.1.0 t v u w b.1.1 b.1.2 in rw (b.0, calls.0, calls.1) refl
+one_body (commands.Roll f k n t v) (commands.Roll g m o u w) body same x y =
+    let b = one_file f g (BehindNumber k (BehindNumber n (λ ws. IsChange ws t v))) (BehindNumber m (BehindNumber o (λ ws. IsChange ws u w))) body x y in
+    let run = one_number k m (BehindNumber n (λ ws. IsChange ws t v)) (BehindNumber o (λ ws. IsChange ws u w)) b.1.0 b.1.1 b.1.2 in
+    let within = one_number n o (λ ws. IsChange ws t v) (λ ws. IsChange ws u w) run.1.0 run.1.1 run.1.2 in
+    let calls = one_change within.1.0 t v u w within.1.1 within.1.2 in rw (b.0, run.0, within.0, calls.0, calls.1) refl
+one_body (commands.Replay f e) (commands.Replay g h) body same x y =
+    let b = one_file f g (BehindFile e IsEnd) (BehindFile h IsEnd) body x y in
+    let events = one_file e h IsEnd IsEnd b.1.0 b.1.1 b.1.2 in rw (b.0, events.0) refl
+one_body (commands.Upgrade f) (commands.Upgrade g) body same x y =
+    let b = one_file f g IsEnd IsEnd body x y in rw b.0 refl
+one_body (commands.Step f) (commands.Step g) body same x y =
+    let b = one_file f g IsEnd IsEnd body x y in rw b.0 refl
+one_body (commands.Live f w n) (commands.Live g v m) body same x y =
+    let b = one_file f g (λ ws. SaysThreads ws w n) (λ ws. SaysThreads ws v m) body x y in
+    let counts = one_threads b.1.0 w n v m b.1.1 b.1.2 in rw (b.0, counts.0, counts.1) refl
+one_body (commands.Check f e) (commands.Check g h) body same x y =
+    let b = one_file f g (BehindFile e IsEnd) (BehindFile h IsEnd) body x y in
+    let report = one_file e h IsEnd IsEnd b.1.0 b.1.1 b.1.2 in rw (b.0, report.0) refl
+one_body (commands.Big n) (commands.Big m) body same x y =
+    let lanes = x.3 ∙ ap (digits_value 10) (head_is x.0 y.0 [] [] (sym x.1 ∙ y.1)) ∙ sym y.3 in rw lanes refl
+one_body c d body same x y = absurd (cc same)
 
 -- words ask for one command at most
 pub one_command : (words : List (List ℕ)) (c d : Command) → Asks words c → Asks words d → c ≡ d
-one_command [] c d x y = absurd x
-one_command (word ∷ body) c d x y =
-    let f = form c in
-    let p = of_form f c refl in
-    let q = of_form f d (same_form d c (sym y.0 ∙ x.0)) in
-    p.1 ∙ one_body f p.0 q.0 body (subst (λ a. IsBody a body) p.1 x.1) (subst (λ a. IsBody a body) q.1 y.1) ∙ sym q.1
+one_command words _ _ (for_help a x) (for_help b y) = ap commands.Help (one_topic words a b x y)
+one_command words _ _ (for_help a x) (for_version is) = absurd (no_version words a x is)
+one_command words _ _ (for_help None x) (for_deed own body d is other has) = absurd (no_keyword_asks words own body is x)
+one_command words _ _ (for_help (Some a) x) (for_deed own body d is other has) =
+    absurd (other (sym (tail_is (word_of a) (word_of own) (codes "--help" ∷ []) body (sym x ∙ is))))
+one_command words _ _ (for_version is) (for_help b y) = absurd (no_version words b y is)
+one_command words _ _ (for_version x) (for_version y) = refl
+one_command words _ _ (for_version x) (for_deed own body d is other has) =
+    absurd (no_keyword own (codes "--version") (head_is (codes "--version") (word_of own) [] body (sym x ∙ is)) named_none.3)
+one_command words _ _ (for_deed own body c is other has) (for_help None y) = absurd (no_keyword_asks words own body is y)
+one_command words _ _ (for_deed own body c is other has) (for_help (Some b) y) =
+    absurd (other (tail_is (word_of own) (word_of b) body (codes "--help" ∷ []) (sym is ∙ y)))
+one_command words _ _ (for_deed own body c is other has) (for_version y) =
+    absurd (no_keyword own (codes "--version") (head_is (codes "--version") (word_of own) [] body (sym y ∙ is)) named_none.3)
+one_command words _ _ (for_deed a xs c x _ has) (for_deed b ys d y _ also) =
+    let both = sym x ∙ y in
+    let same = one_keyword a b (head_is (word_of a) (word_of b) xs ys both) in
+    one_body c d xs (has.0 ∙ ap Some same ∙ sym also.0) has.1 (subst (IsBody d) (sym (tail_is (word_of a) (word_of b) xs ys both)) also.1)
+
+-- the lanes that may be asked for
+pub lanes_asked : (words : List (List ℕ)) (lanes : ℕ) → Asks words (commands.Big lanes) → (1 ≤ lanes) × (lanes ≤ 40)
+lanes_asked words lanes (for_deed own body _ is other (names, (count, body_is, is_count, value))) =
+    (subst (λ k. 1 ≤ k) (sym value) is_count.1, subst (λ k. k ≤ 40) (sym value) is_count.2)
+
+-- and the threads
+threads_said : (words : List (List ℕ)) (workers observers : ℕ) → SaysThreads words workers observers → (workers ≤ 8) × (observers ≤ 4)
+threads_said [] workers observers (four, none) = (subst (λ k. k ≤ 8) (sym four) (lit≤ tt), subst (λ k. k ≤ 4) (sym none) (lit≤ tt))
+threads_said (option ∷ []) workers observers (says, never) = absurd never
+threads_said (option ∷ count ∷ []) workers observers (says, (is, value, none)) =
+    (subst (λ k. k ≤ 8) (sym value) is.2, subst (λ k. k ≤ 4) (sym none) (lit≤ tt))
+threads_said (option ∷ count ∷ watch ∷ words) workers observers (says, (is, value, (shows, seen, words_are, is_seen, also))) =
+    (subst (λ k. k ≤ 8) (sym value) is.2, subst (λ k. k ≤ 4) (sym also) is_seen.2)
+
+threads_behind : (script : List ℕ) (workers observers : ℕ) (body : List (List ℕ)) → BehindFile script (λ ws. SaysThreads ws workers observers) body → (workers ≤ 8) × (observers ≤ 4)
+threads_behind script workers observers [] never = absurd never
+threads_behind script workers observers (word ∷ words) is = threads_said words workers observers is.2
+
+pub threads_asked :
+    (words : List (List ℕ)) (script : List ℕ) (workers observers : ℕ) → Asks words (commands.Live script workers observers)
+    → (workers ≤ 8) × (observers ≤ 4)
+threads_asked words script workers observers (for_deed own body _ is other has) = threads_behind script workers observers body has.1

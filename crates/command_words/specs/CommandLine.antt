@@ -1,14 +1,17 @@
 -- To be believed (definitions.md).
 -- The words of a command line, and which command they ask for: the first word names it, and the others are its body.
-use Rattle.std.specs.Prelude.{◌≡◌, ◌≢◌, ◌≤◌, ◌<◌, ◌^◌, ℕ, ℤ, List, [], ◌∷◌, ◌++◌, map, codes, slice_index, FitsSigned, Bool, not, bytes_eq}
+use Rattle.std.specs.Prelude.{◌≡◌, ◌≢◌, ◌⊎◌, ◌≤◌, ◌<◌, ◌^◌, ℕ, ℤ, List, [], ◌∷◌, ◌++◌, Option, None, Some, map, codes, slice_index, FitsSigned, Bool, not, bytes_eq}
 use Rattle.std.specs.Int.{w32}
 use Rattle.std.specs.List.{AllByRecursion}
 use Rattle.std.specs.Str.Parse.{IsNumeral, digits_value, signed_digits_value, without_leading_sign}
 use Rattle.command_words.specs.declared.big_texts.TheConstants.{MAX_LANES}
 use Rattle.darwin_lexer.specs.Naming.{IsName}
 use Rattle.command_words.specs.declared.words.TopCall.{TopCall}
+use Rattle.command_words.specs.declared.keywords.Keyword.{Keyword}
+use Rattle.command_words.specs.declared.keywords.Keyword.TheVariants as keywords
 use Rattle.command_words.specs.declared.words.Command.{Command}
 use Rattle.command_words.specs.declared.words.Command.TheVariants as commands
+use Rattle.command_words.specs.Keywords.{word_of}
 
 -- a `-` or none and then digits, with a value from -2147483648 to 2147483647
 abbrev pub IsInteger : List ℕ → Type 0
@@ -19,34 +22,26 @@ IsInteger word =
 abbrev pub integer_of : List ℕ → ℤ
 integer_of word = signed_digits_value 10 word
 
--- one digit or more, and nothing else, with a value from 1 to the most lanes
-abbrev pub IsLaneCount : List ℕ → Type 0
-IsLaneCount word = IsNumeral 10 word × (1 ≤ digits_value 10 word) × (digits_value 10 word ≤ MAX_LANES)
-
 -- one digit or more, and nothing else, with a value up to 4294967295
 abbrev pub IsNumber : List ℕ → Type 0
 IsNumber word = IsNumeral 10 word × (digits_value 10 word < 2 ^ 32)
 
--- one digit or more, and nothing else, with a value from 1 to 8
-abbrev pub IsWorkerCount : List ℕ → Type 0
-IsWorkerCount word = IsNumeral 10 word × (1 ≤ digits_value 10 word) × (digits_value 10 word ≤ 8)
+-- one digit or more, and nothing else, with a value from 1 to the most
+abbrev pub IsCount : ℕ → List ℕ → Type 0
+IsCount most word = IsNumeral 10 word × (1 ≤ digits_value 10 word) × (digits_value 10 word ≤ most)
 
--- one digit or more, and nothing else, with a value from 1 to 4
-abbrev pub IsObserverCount : List ℕ → Type 0
-IsObserverCount word = IsNumeral 10 word × (1 ≤ digits_value 10 word) × (digits_value 10 word ≤ 4)
-
--- the option of observers: none where the words say nothing
+-- the option of observers, of which there are four at most: none where the words say nothing
 abbrev pub SaysObservers : List (List ℕ) → ℕ → Type 0
 SaysObservers [] observers = observers ≡ 0
 SaysObservers (option ∷ words) observers =
     (option ≡ codes "--watch")
-    × (count : List ℕ) × (words ≡ count ∷ []) × IsObserverCount count × (observers ≡ digits_value 10 count)
+    × (count : List ℕ) × (words ≡ count ∷ []) × IsCount 4 count × (observers ≡ digits_value 10 count)
 
--- a number of workers, and what is said of observers
+-- a number of workers, up to eight, and what is said of observers
 abbrev pub SaysCounts : List (List ℕ) → ℕ → ℕ → Type 0
 SaysCounts [] workers observers = ⊥
 SaysCounts (count ∷ words) workers observers =
-    IsWorkerCount count × (workers ≡ digits_value 10 count) × SaysObservers words observers
+    IsCount 8 count × (workers ≡ digits_value 10 count) × SaysObservers words observers
 
 -- the options of a run on threads: four workers and no observers where they say nothing
 abbrev pub SaysThreads : List (List ℕ) → ℕ → ℕ → Type 0
@@ -64,51 +59,80 @@ abbrev pub IsChange : List (List ℕ) → TopCall → TopCall → Type 0
 IsChange words call target =
     (first second : List (List ℕ)) × (words ≡ first ++ codes "--" ∷ second) × IsCall first call × IsCall second target
 
--- the word that names a command
-abbrev pub keyword : Command → List ℕ
-keyword commands.Help = codes "--help"
-keyword commands.Version = codes "--version"
-keyword (commands.Flat file call) = codes "flat"
-keyword (commands.Plan file call target) = codes "plan"
-keyword (commands.Parts file call target) = codes "parts"
-keyword (commands.Roll file run rounds call target) = codes "roll"
-keyword (commands.Replay file events) = codes "replay"
-keyword (commands.Upgrade file) = codes "upgrade"
-keyword (commands.Step script) = codes "step"
-keyword (commands.Live script workers observers) = codes "live"
-keyword (commands.Check script report) = codes "check"
-keyword (commands.Big lanes) = codes "big"
+-- a file is named, by a word that isn't empty, and such words stand behind it
+abbrev pub BehindFile : List ℕ → (List (List ℕ) → Type 0) → List (List ℕ) → Type 0
+BehindFile file Is [] = ⊥
+BehindFile file Is (word ∷ words) = (file ≡ word) × (word ≢ []) × Is words
+
+-- the same of a number
+abbrev pub BehindNumber : ℕ → (List (List ℕ) → Type 0) → List (List ℕ) → Type 0
+BehindNumber n Is [] = ⊥
+BehindNumber n Is (word ∷ words) = (n ≡ digits_value 10 word) × IsNumber word × Is words
+
+-- nothing stands there
+abbrev pub IsEnd : List (List ℕ) → Type 0
+IsEnd words = words ≡ []
+
+-- the word that names a command, where it is one of those that take others behind it
+abbrev pub keyword : Command → Option Keyword
+keyword (commands.Help topic) = None
+keyword commands.Version = None
+keyword (commands.Flat file call) = Some keywords.Flat
+keyword (commands.Plan file call target) = Some keywords.Plan
+keyword (commands.Parts file call target) = Some keywords.Parts
+keyword (commands.Roll file run within call target) = Some keywords.Roll
+keyword (commands.Replay file events) = Some keywords.Replay
+keyword (commands.Upgrade file) = Some keywords.Upgrade
+keyword (commands.Step script) = Some keywords.Step
+keyword (commands.Live script workers observers) = Some keywords.Live
+keyword (commands.Check script report) = Some keywords.Check
+keyword (commands.Big lanes) = Some keywords.Big
 
 -- the words behind it
 abbrev pub IsBody : Command → List (List ℕ) → Type 0
-IsBody commands.Help body = body ≡ []
-IsBody commands.Version body = body ≡ []
-IsBody (commands.Flat file call) body =
-    (parts : List (List ℕ)) × (body ≡ file ∷ parts) × (file ≢ []) × IsCall parts call
-IsBody (commands.Plan file call target) body =
-    (parts : List (List ℕ)) × (body ≡ file ∷ parts) × (file ≢ []) × IsChange parts call target
-IsBody (commands.Parts file call target) body =
-    (parts : List (List ℕ)) × (body ≡ file ∷ parts) × (file ≢ []) × IsChange parts call target
-IsBody (commands.Roll file run rounds call target) body =
-    (first second : List ℕ) × (parts : List (List ℕ)) × (body ≡ file ∷ first ∷ second ∷ parts) × (file ≢ [])
-    × IsNumber first × (run ≡ digits_value 10 first) × IsNumber second × (rounds ≡ digits_value 10 second)
-    × IsChange parts call target
-IsBody (commands.Replay file events) body = (body ≡ file ∷ events ∷ []) × (file ≢ []) × (events ≢ [])
-IsBody (commands.Upgrade file) body = (body ≡ file ∷ []) × (file ≢ [])
-IsBody (commands.Step script) body = (body ≡ script ∷ []) × (script ≢ [])
+IsBody (commands.Help topic) body = ⊥
+IsBody commands.Version body = ⊥
+IsBody (commands.Flat file call) body = BehindFile file (λ words. IsCall words call) body
+IsBody (commands.Plan file call target) body = BehindFile file (λ words. IsChange words call target) body
+IsBody (commands.Parts file call target) body = BehindFile file (λ words. IsChange words call target) body
+IsBody (commands.Roll file run within call target) body =
+    BehindFile file (BehindNumber run (BehindNumber within (λ words. IsChange words call target))) body
+IsBody (commands.Replay file events) body = BehindFile file (BehindFile events IsEnd) body
+IsBody (commands.Upgrade file) body = BehindFile file IsEnd body
+IsBody (commands.Step script) body = BehindFile script IsEnd body
 IsBody (commands.Live script workers observers) body =
-    (options : List (List ℕ)) × (body ≡ script ∷ options) × (script ≢ []) × SaysThreads options workers observers
-IsBody (commands.Check script report) body = (body ≡ script ∷ report ∷ []) × (script ≢ []) × (report ≢ [])
-IsBody (commands.Big lanes) body = (count : List ℕ) × (body ≡ count ∷ []) × IsLaneCount count × (lanes ≡ digits_value 10 count)
+    BehindFile script (λ words. SaysThreads words workers observers) body
+IsBody (commands.Check script report) body = BehindFile script (BehindFile report IsEnd) body
+IsBody (commands.Big lanes) body =
+    (count : List ℕ) × (body ≡ count ∷ []) × IsCount MAX_LANES count × (lanes ≡ digits_value 10 count)
+
+-- such a command has this word, and this body
+abbrev pub HasBody : Keyword → List (List ℕ) → Command → Type 0
+HasBody own body command = (keyword command ≡ Some own) × IsBody command body
+
+-- the words ask for help: for all commands, or for the one whose word stands before `--help`
+abbrev pub IsHelpOf : List (List ℕ) → Option Keyword → Type 0
+IsHelpOf words None = (words ≡ codes "--help" ∷ []) ⊎ (words ≡ codes "-h" ∷ []) ⊎ (words ≡ codes "help" ∷ [])
+IsHelpOf words (Some own) = words ≡ word_of own ∷ codes "--help" ∷ []
 
 -- the words ask for the command
-abbrev pub Asks : List (List ℕ) → Command → Type 0
-Asks [] command = ⊥
-Asks (word ∷ body) command = (word ≡ keyword command) × IsBody command body
+pub data Asks (words : List (List ℕ)) : Command → Type 0 where
+  for_help : (topic : Option Keyword) → IsHelpOf words topic → Asks words (commands.Help topic)
+  for_version : words ≡ codes "--version" ∷ [] → Asks words commands.Version
+  -- What stands behind a command's word isn't `--help` alone, which asks for help.
+  for_deed :
+      (own : Keyword) (body : List (List ℕ)) (command : Command) → words ≡ word_of own ∷ body
+      → body ≢ codes "--help" ∷ [] → HasBody own body command
+      → Asks words command
 
 -- the words ask for nothing
 abbrev pub HasNoForm : List (List ℕ) → Type 0
 HasNoForm words = (command : Command) → Asks words command → ⊥
+
+-- what was found is such; and where nothing was found nothing is
+abbrev pub IsFound : {A : Type 0} → (A → Type 0) → Option A → Type 0
+IsFound Is (Some found) = Is found
+IsFound {A} Is None = (a : A) → Is a → ⊥
 
 -- whether a word doesn't part two calls
 abbrev pub is_part : List ℕ → Bool

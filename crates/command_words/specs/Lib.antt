@@ -1,2 +1,4 @@
 pub mod BigFiles
 pub mod CommandLine
+pub mod HelpTexts
+pub mod Keywords

@@ -4,11 +4,18 @@
 mod big_laws;
 mod big_shelf;
 mod big_texts;
+mod calls;
+mod help;
+mod keywords;
 mod laws;
+mod reading;
 mod words;
 
 pub use big_laws::limit_of_lanes;
 pub use big_shelf::MadeFiles;
 pub use big_texts::{MAX_LANES, SCRIPT_NAME};
+pub use help::{VERSION, help_text, hint};
+pub use keywords::Keyword;
 pub use laws::words_ask_for_one_command;
-pub use words::{Command, MAX_OBSERVERS, MAX_WORKERS, TopCall, USUAL_WORKERS, Word, read_words};
+pub use reading::read_words;
+pub use words::{Command, MAX_OBSERVERS, MAX_WORKERS, TopCall, USUAL_WORKERS, Word};

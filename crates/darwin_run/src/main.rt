@@ -1,4 +1,4 @@
-//! `darwin_run`: the commands over real files and standard output.
+//! `darwin_run`: the commands over real files, standard output and standard error.
 #![tactic(auto)]
 
 use cfg_io::{FileShelf, OutSink};
@@ -15,6 +15,7 @@ fn main(rt: HostRuntime) -> ExitCode {
         env::args(&rt),
         &mut FileShelf::new(&rt, alloc),
         &mut OutSink::new(&rt),
+        &mut OutSink::new(rt.stderr()),
         &Free,
     )
 }

@@ -18,11 +18,13 @@ ghost use Rattle.command_answers.specs.PartTexts.{parts_text, roll_text};
 ghost use Rattle.command_answers.specs.declared.status.Status.{Status};
 ghost use Rattle.command_words.specs.declared.words.Command.{Command};
 ghost use Rattle.command_words.specs.declared.words.Command.TheVariants as commands;
-ghost use Rattle.command_spec.specs.Fetches.{report_limit};
+ghost use Rattle.command_spec.specs.Endings.{RefusesNothing};
 ghost use Rattle.command_spec.specs.Known.{AsksOf};
-ghost use Rattle.command_spec.specs.Outcomes.{Ends, Judged, NothingRefusesLines, ReadFrom, WasRunBy};
+ghost use Rattle.command_spec.specs.Outcomes.{Ends, Judged, ReadFrom, WasRunBy};
 ghost use Rattle.command_spec.specs.Runs.{Run, Runs};
 ghost use Rattle.command_spec.specs.Schedules.{Schedule};
+ghost use Rattle.command_spec.specs.Scripts.{prepares};
+ghost use Rattle.command_spec.specs.Sorts.{limit_of, of_report};
 ghost use Rattle.command_spec.specs.Telling.{CountFits, NumbersFit, StateFits, StillHolds};
 ghost use Rattle.result_laws.specs.PartTelling.{HasWordPaths, HaveWordPaths, plan_texts};
 
@@ -73,9 +75,9 @@ pub fn checks_of_runs_are_consistent()
     ensures ends { (knows : Command → Bool) (schedule : Schedule) (before after : Files) (name file : List ℕ)
         (own : Status) → (ran : WasRunBy schedule (Some before) name own)
         → StillHolds before after → after file ≡ Some (report_text ran.report)
-        → length (report_text ran.report) ≤ report_limit
+        → length (report_text ran.report) ≤ limit_of of_report
         → (r : Run) → Runs knows r → ReadFrom r after → AsksOf knows r.words (commands.Check name file)
-        → NothingRefusesLines after (after name)
+        → RefusesNothing after (prepares name)
         → Ends r.status Status.Ok }
 {
     numbers_of_runs_fit();

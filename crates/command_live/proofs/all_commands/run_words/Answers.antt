@@ -1,32 +1,47 @@
--- A run by one of the two calls is one by the call that knows what both know.
+-- Words of no form, and want of memory, have one answer each, and no seat comes back.
 use Rattle.std.proofs.Common.{map, refl, string_bytes}
-use Rattle.command_answers.specs.Answers.{no_memory, refusal}
+use Rattle.command_answers.specs.Answers.{no_memory, usage}
 use Rattle.command_answers.specs.declared.status.Status.TheVariants as status
-use Rattle.command_spec.specs.Known.{all_commands, on_one_thread, on_threads}
-use Rattle.command_spec.specs.Runs.{not_read, run_of}
+use Rattle.command_spec.specs.Known.{all_commands}
+use Rattle.command_spec.specs.Runs.{no_form, not_read, run_of}
 use Rattle.command_program.proofs.RunningLaws.{runs_alone}
-use Rattle.command_live.proofs.Knowing.{asks_for_none, known_to_all, none_where_live, ones_are_all, threads_are_all}
 use Rattle.command_live.proofs.Returning.{ends_no_run}
 use Rattle.command_live.proofs.all_commands.run_words.Goals as goal
 use Rattle.std.proofs.lemmas.Bool.{false≢true}
 
+pub run_read-requires-clause-asked : goal.run_read-requires-clause-asked
+run_read-requires-clause-asked g c = (map string_bytes c.args.words.now, rw c.in-Ok-Some.field-0-is at c.in-Ok-Some.ensures.found)
+
 pub returns-in-Ok-Some-clause-runs : goal.returns-in-Ok-Some-clause-runs
-returns-in-Ok-Some-clause-runs g c =
-    let words = map string_bytes c.args.words.now in
-    let asked = rw c.in-Ok-Some.field-0-is at c.in-Ok-Some.ensures.found in
-    known_to_all on_threads _ threads_are_all (none_where_live words asked.0 c.in-Ok-Some.request.workers c.in-Ok-Some.request.observers asked.1) c.run_request.ensures.runs
+returns-in-Ok-Some-clause-runs g c = c.run_read.ensures.runs _ (rw c.in-Ok-Some.field-0-is at c.in-Ok-Some.ensures.found)
+
+pub returns-in-Ok-Some-clause-seat : goal.returns-in-Ok-Some-clause-seat
+returns-in-Ok-Some-clause-seat g c = c.run_read.ensures.seat _ (rw c.in-Ok-Some.field-0-is at c.in-Ok-Some.ensures.found)
+
+pub returns-in-Ok-Some-clause-untouched : goal.returns-in-Ok-Some-clause-untouched
+returns-in-Ok-Some-clause-untouched g c none =
+    c.run_read.ensures.untouched (none _ (refl, rw c.in-Ok-Some.field-0-is at c.in-Ok-Some.ensures.found))
 
 pub returns-in-Ok-None-clause-runs : goal.returns-in-Ok-None-clause-runs
 returns-in-Ok-None-clause-runs g c =
-    let words = map string_bytes c.args.words.now in
-    known_to_all on_one_thread _ ones_are_all (λ one. asks_for_none words one (rw c.in-Ok-None.field-0-is at c.in-Ok-None.ensures.none)) c.still.ensures.runs
+    let seen = run_of g.H.Shelf g.K.Sink (map string_bytes c.args.words.now) c.args.shelf.now c.args.shelf.now c.args.out.now c.write_usage.new.out c.write_usage.result in
+    runs_alone all_commands seen usage refl (no_form (λ command asks. (rw c.in-Ok-None.field-0-is at c.in-Ok-None.ensures.none) command asks.1)) (c.write_usage.ensures seen)
+
+pub returns-in-Ok-None-clause-seat : goal.returns-in-Ok-None-clause-seat
+returns-in-Ok-None-clause-seat g c = record {
+  back = (λ some. absurd (false≢true some), λ x. absurd ((rw c.in-Ok-None.field-0-is at c.in-Ok-None.ensures.none) _ x.3));
+  agrees = tt;
+}
 
 pub returns-in-Err-clause-runs : goal.returns-in-Err-clause-runs
 returns-in-Err-clause-runs g c =
     let seen = run_of g.H.Shelf g.K.Sink (map string_bytes c.args.words.now) c.args.shelf.now c.args.shelf.now c.args.out.now c.write_no_memory.new.out c.write_no_memory.result in
-    runs_alone all_commands seen (refusal no_memory) refl not_read (c.write_no_memory.ensures seen)
+    runs_alone all_commands seen no_memory refl not_read (c.write_no_memory.ensures seen)
 
-pub returns-in-Err-clause-back : goal.returns-in-Err-clause-back
-returns-in-Err-clause-back g c =
+pub returns-in-Err-clause-seat : goal.returns-in-Err-clause-seat
+returns-in-Err-clause-seat g c =
     let seen = run_of g.H.Shelf g.K.Sink (map string_bytes c.args.words.now) c.args.shelf.now c.args.shelf.now c.args.out.now c.write_no_memory.new.out c.write_no_memory.result in
-    (λ some. absurd (false≢true some), λ x. absurd (ends_no_run status.NoMemory _ seen refl (c.write_no_memory.ensures seen) x.4))
+    record {
+      back = (λ some. absurd (false≢true some), λ x. absurd (ends_no_run status.NoMemory _ seen refl (c.write_no_memory.ensures seen) x.4));
+      agrees = tt;
+    }

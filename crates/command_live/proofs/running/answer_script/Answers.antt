@@ -1,26 +1,42 @@
 -- What was prepared is run, or refuses the script.
-use Rattle.std.proofs.Common.{subst}
+use Rattle.std.proofs.Common.{Result, Ok, Err, refl}
 use Rattle.std.proofs.lemmas.Result.{err_from_is_err_and}
-use Rattle.command_program.specs.Preparing.{Prepares}
+use Rattle.command_spec.specs.Commands.{IsRunOf}
+use Rattle.command_spec.specs.Courses.{says}
+use Rattle.command_spec.specs.Lines.{Progress}
 use Rattle.command_spec.specs.Schedules.{IsReportBy, IsShownBy, threads}
+use Rattle.command_spec.specs.Scripts.{prepares}
+use Rattle.command_program.specs.Coming.{Shows}
+use Rattle.command_program.specs.Preparing.{IsPrepared}
+use Rattle.command_program.specs.declared.answer.Answer.{Answer}
+use Rattle.command_program.specs.declared.answer.Stop.TheVariants as stops
+use Rattle.command_program.proofs.ComingLaws.{comes_stop, ends_no_run}
+use Rattle.command_program.proofs.ReportingLaws.{ran_of}
 use Rattle.command_live.specs.Agreeing.{AgreesWithSeat}
-use Rattle.command_program.proofs.ReportingLaws.{ran_by, short_by, stopped_by}
 use Rattle.command_live.proofs.running.answer_script.Goals as goal
 
-pub returns-clause-answers : goal.returns-clause-answers
-returns-clause-answers g c =
-    let x = c.in_ok-run_script.field-0 in
-    ran_by (AgreesWithSeat x.1) (IsShownBy (threads c.args.request.observers)) _ c.args.name.now _ _ c.in_ok-asked.asked
-    (subst (Prepares _ c.args.name.now _ _) c.in_ok-asked.was c.prepare.ensures.prepares) x.0 c.in_ok-run_script.ensures.answer
+pub returns-in-Ok-clause-answers : goal.returns-in-Ok-clause-answers
+returns-in-Ok-clause-answers g c =
+    let x = c.in-Ok.ran in
+    ran_of (AgreesWithSeat x.1) (IsShownBy (threads c.args.crew.observers)) _ c.args.name.now _ _ c.in_ok-asked.asked c.in_ok-asked.ensures.prepares
+    (Ok {E = ⊥} x.0) (Ok x.0) refl c.in-Ok.ensures.answer
 
-pub returns-in_err-run_script-clause-answers : goal.returns-in_err-run_script-clause-answers
-returns-in_err-run_script-clause-answers g c =
-    let p = err_from_is_err_and c.from_residual-in_err-run_script.result c.from_residual-in_err-run_script.ensures.1 in
-    rw (p.1, p.2) (short_by (IsReportBy (threads c.args.request.observers)) (IsShownBy (threads c.args.request.observers)) _ c.args.name.now _ _ c.in_ok-asked.asked
-    (subst (Prepares _ c.args.name.now _ _) c.in_ok-asked.was c.prepare.ensures.prepares))
+pub returns-in-Err-clause-answers : goal.returns-in-Err-clause-answers
+returns-in-Err-clause-answers g c =
+    let none : Result Answer (Unit {0}) = Err tt in
+    ran_of (IsReportBy (threads c.args.crew.observers)) (IsShownBy (threads c.args.crew.observers)) _ c.args.name.now _ _ c.in_ok-asked.asked
+    c.in_ok-asked.ensures.prepares none (Err stops.NoMemory) refl tt
 
 pub returns-in_err-asked-clause-answers : goal.returns-in_err-asked-clause-answers
 returns-in_err-asked-clause-answers g c =
     let p = err_from_is_err_and c.from_residual.result c.from_residual.ensures.1 in
-    rw (p.1, p.2) (stopped_by (IsReportBy (threads c.args.request.observers)) (IsShownBy (threads c.args.request.observers)) _ c.args.name.now _ _ c.in_err-asked.field-0.0
-    (subst (Prepares _ c.args.name.now _ _) c.in_err-asked.was c.prepare.ensures.prepares))
+    let on = threads c.args.crew.observers in
+    rw (p.1, p.2)
+    (comes_stop IsPrepared Shows _ (λ (p : Progress). says (IsRunOf (IsReportBy on) (IsShownBy on) p.statements)) (prepares c.args.name.now) _ _ c.in_err-asked.field-0.0
+    c.in_err-asked.ensures.prepares)
+
+pub returns-in_err-asked-clause-no_run : goal.returns-in_err-asked-clause-no_run
+returns-in_err-asked-clause-no_run g c =
+    let p = err_from_is_err_and c.from_residual.result c.from_residual.ensures.1 in
+    let e = c.in_err-asked.ensures.prepares in
+    rw (p.1, p.2) (ends_no_run IsPrepared _ (prepares c.args.name.now) e.failing c.in_err-asked.field-0.0 e.ends)

@@ -1,22 +1,25 @@
--- What was prepared is run, or refuses the script.
-use Rattle.std.proofs.Common.{subst}
+-- What was prepared is run.
+use Rattle.std.proofs.Common.{refl, subst}
 use Rattle.std.proofs.lemmas.Result.{err_from_is_err_and}
+use Rattle.command_spec.specs.Commands.{IsRunOf}
+use Rattle.command_spec.specs.Courses.{says}
+use Rattle.command_spec.specs.Lines.{Progress}
 use Rattle.command_spec.specs.Schedules.{IsReportBy, IsShownBy, rounds}
-use Rattle.command_program.specs.Preparing.{Prepares}
-use Rattle.command_program.proofs.ReportingLaws.{ran_by, short_by, stopped_by}
+use Rattle.command_spec.specs.Scripts.{prepares}
+use Rattle.command_program.specs.Coming.{Comes, Shows}
+use Rattle.command_program.specs.Preparing.{IsPrepared}
+use Rattle.command_program.proofs.ComingLaws.{comes_stop}
+use Rattle.command_program.proofs.ReportingLaws.{ran_of}
 use Rattle.command_program.proofs.answering.answer_script.Goals as goal
-
-pub returns-clause-answers : goal.returns-clause-answers
-returns-clause-answers g c =
-    ran_by (IsReportBy rounds) (IsShownBy rounds) _ c.args.name.now _ _ c.in_ok-asked.asked (subst (Prepares _ c.args.name.now _ _) c.in_ok-asked.was c.prepare.ensures.prepares)
-    c.in_ok-run_script.field-0 c.in_ok-run_script.ensures
-
-pub returns-in_err-run_script-clause-answers : goal.returns-in_err-run_script-clause-answers
-returns-in_err-run_script-clause-answers g c =
-    let p = err_from_is_err_and c.from_residual-in_err-run_script.result c.from_residual-in_err-run_script.ensures.1 in
-    rw (p.1, p.2) (short_by (IsReportBy rounds) (IsShownBy rounds) _ c.args.name.now _ _ c.in_ok-asked.asked (subst (Prepares _ c.args.name.now _ _) c.in_ok-asked.was c.prepare.ensures.prepares))
 
 pub returns-in_err-asked-clause-answers : goal.returns-in_err-asked-clause-answers
 returns-in_err-asked-clause-answers g c =
     let p = err_from_is_err_and c.from_residual.result c.from_residual.ensures.1 in
-    rw (p.1, p.2) (stopped_by (IsReportBy rounds) (IsShownBy rounds) _ c.args.name.now _ _ c.in_err-asked.field-0.0 (subst (Prepares _ c.args.name.now _ _) c.in_err-asked.was c.prepare.ensures.prepares))
+    rw (p.1, p.2)
+    (comes_stop IsPrepared Shows _ (λ (p : Progress). says (IsRunOf (IsReportBy rounds) (IsShownBy rounds) p.statements)) (prepares c.args.name.now) _ _ c.in_err-asked.field-0.0
+    c.in_err-asked.ensures.prepares)
+
+pub returns-clause-answers : goal.returns-clause-answers
+returns-clause-answers g c =
+    ran_of (IsReportBy rounds) (IsShownBy rounds) _ c.args.name.now _ _ c.in_ok-asked.asked c.in_ok-asked.ensures.prepares c.run_script.result c.or_stop.result
+    c.or_stop.ensures c.run_script.ensures

@@ -1,13 +1,26 @@
--- A file that can't be read and one that is too long have lines of their own.
-use Rattle.command_spec.specs.OneFile.{DescriptionAnswers, cannot_read, is_too_long}
-use Rattle.command_program.proofs.Planning.{of_line}
+-- What the bytes give is answered, or refused for what refuses them.
+use Rattle.std.proofs.Common.{[], ap, inl, refl, subst, sym}
+use Rattle.command_answers.specs.Answers.{description}
+use Rattle.command_answers.specs.DescriptionFaults.{fault_words}
+use Rattle.command_spec.specs.Commands.{Shown, shown}
+use Rattle.command_spec.specs.Courses.{came, ends, gives, here, judges, refusal, refused, Follows}
+use Rattle.command_spec.specs.Queries.{AnswersQuery, IsRefused}
+use Rattle.command_spec.specs.Sorts.{of_description}
+use Rattle.command_program.specs.Coming.{Shows}
+use Rattle.command_program.specs.Refusals.{IsFaultOf}
+use Rattle.command_program.proofs.ComingLaws.{stops_in}
 use Rattle.command_program.proofs.describing.describe.Goals as goal
 
-pub returns-in-TooLong : goal.returns-in-TooLong
-returns-in-TooLong c =
-    rw c.in-TooLong.is
-    (of_line (DescriptionAnswers c.args.file.now c.args.query.now _) _ _ c.description_too_long.result is_too_long c.description_too_long.ensures)
+pub returns-in-Ok : goal.returns-in-Ok
+returns-in-Ok c = λ files.
+    let s = shown c.in-Ok.answer.status c.in-Ok.answer.text.items in
+    (s, (refl, refl), gives s [] (came s) c.in-Ok.ensures.gives here)
 
-pub returns-in-Failed : goal.returns-in-Failed
-returns-in-Failed c =
-    rw c.in-Failed.is (of_line (DescriptionAnswers c.args.file.now c.args.query.now _) _ _ c.unreadable.result cannot_read c.unreadable.ensures)
+pub returns-in-Err : goal.returns-in-Err
+returns-in-Err c = λ files.
+    let query = c.args.query.now in
+    let text = c.args.text.now in
+    let file = c.args.file.now in
+    let course = judges Shown of_description file (IsRefused query text) (λ s. AnswersQuery query text s.own s.text) ends in
+    stops_in Shows files course [] (IsFaultOf file c.in-Err.fault) c.refuse_description.result c.refuse_description.ensures
+    (λ why is. subst (λ w. Follows files course [] (refusal w)) (sym is.1) (refused (fault_words c.in-Err.fault) (c.in-Err.ensures.refused is.0))) (inl refl)

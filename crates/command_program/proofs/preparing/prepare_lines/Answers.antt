@@ -1,11 +1,13 @@
 -- The lines lead to what is asked for, or to what refuses it.
 use Rattle.std.proofs.Common.{subst}
 use Rattle.std.proofs.lemmas.Result.{err_from_is_err_and}
-use Rattle.command_spec.specs.Lines.{begun}
+use Rattle.command_spec.specs.Lines.{begun, of_lines}
 use Rattle.command_spec.specs.Scripts.{lines_of_script}
-use Rattle.command_program.specs.Leading.{Took}
+use Rattle.command_program.specs.Leading.{Leads, Took}
+use Rattle.command_program.specs.Preparing.{IsPrepared}
+use Rattle.command_program.proofs.ComingLaws.{still_stops}
 use Rattle.command_program.proofs.Fitting.{script_fits}
-use Rattle.command_program.proofs.Preparations.{at_begin, can_run, lines_prepared, lines_stopped}
+use Rattle.command_program.proofs.Preparations.{at_begin, can_run, lines_prepared}
 use Rattle.command_program.proofs.preparing.prepare_lines.Goals as goal
 
 pub take_lines-requires : goal.take_lines-requires
@@ -33,5 +35,5 @@ returns-in_err-take_lines-clause-prepares g c =
     let way = c.new-way.ensures in
     let took = c.take_lines.ensures.took begun (at_begin c.new-way.result way.file way.used way.start way.steps way.made) in
     rw (q.1, q.2)
-    (lines_stopped _ (lines_of_script c.args.script.lines) _ _ c.take_lines.new.way c.in_err-take_lines.field-0.0
+    (still_stops (Leads c.take_lines.new.way) IsPrepared _ (of_lines begun (lines_of_script c.args.script.lines)) _ _ c.in_err-take_lines.field-0.0
     (subst (Took _ begun (lines_of_script c.args.script.lines) _ _ c.take_lines.new.way) c.in_err-take_lines.was (rw c.into_vec.ensures at took)))

@@ -1,15 +1,19 @@
-use Rattle.command_spec.proofs.Flattening as flattening
-use Rattle.command_spec.proofs.Inverting.{ran}
-use Rattle.command_spec.proofs.Stepping as stepping
+use Rattle.command_answers.specs.Answers.{description}
+use Rattle.std.proofs.Common.{refl}
+use Rattle.command_spec.proofs.EachCommand.{Known, decided}
+use Rattle.command_spec.proofs.RunLaws as runs
 use Rattle.command_spec.proofs.laws.descriptions_are_refused_for_faults_that_hold.Goals as goal
 
 pub returns : goal.returns
 returns c =
-    let graphs = c.a_graph_or_a_fault.ensures in
+    let known : Known = record {
+      graphs = c.a_graph_or_a_fault.ensures;
+      plan_alone = c.a_plan_or_a_refusal.ensures.plan_alone;
+      one_answer = c.what_bytes_give_is_one.ensures.one_answer;
+      one_report = c.what_bytes_give_is_one.ensures.one_report;
+      no_fault_beside = c.what_bytes_give_is_one.ensures.no_fault_beside;
+    } in
     record {
-      only = λ knows seen run. flattening.refuses knows seen (ran knows seen run);
-      always_made_line = λ knows seen run. stepping.must_refuse_made_line knows seen (ran knows seen run) graphs;
-      always = λ knows seen files run read. flattening.must_refuse knows seen (ran knows seen run) files read;
-      always_its_line = λ knows seen files run read. stepping.must_refuse_its_line knows seen (ran knows seen run) files read graphs;
-      always_line = λ knows seen files run read. stepping.must_refuse_line knows seen (ran knows seen run) files read graphs;
+      only = runs.description_only;
+      always = λ command r files a goes file words on. runs.must_refuse command r files a goes (decided known command) (description file words) refl on;
     }

@@ -1,18 +1,19 @@
-use Rattle.command_spec.proofs.Flattening as flattening
-use Rattle.command_spec.proofs.Inverting.{ran}
-use Rattle.command_spec.proofs.Reports as reports
-use Rattle.command_spec.proofs.Stepping as stepping
+use Rattle.command_answers.specs.Answers.{script}
+use Rattle.std.proofs.Common.{refl}
+use Rattle.command_spec.proofs.EachCommand.{Known, decided}
+use Rattle.command_spec.proofs.RunLaws as runs
 use Rattle.command_spec.proofs.laws.scripts_are_refused_for_their_first_fault.Goals as goal
 
 pub returns : goal.returns
 returns c =
-    let never_both = reports.never_both c.one_report_or_one_fault.ensures.never_both in
+    let known : Known = record {
+      graphs = c.a_graph_or_a_fault.ensures;
+      plan_alone = c.a_plan_or_a_refusal.ensures.plan_alone;
+      one_answer = c.what_bytes_give_is_one.ensures.one_answer;
+      one_report = c.what_bytes_give_is_one.ensures.one_report;
+      no_fault_beside = c.what_bytes_give_is_one.ensures.no_fault_beside;
+    } in
     record {
-      only = λ knows seen run. flattening.script knows seen (ran knows seen run);
-      always_report = λ knows seen files run read. flattening.must_refuse_report knows seen (ran knows seen run) files read never_both;
-      always_script = λ knows seen files run read. stepping.must_refuse_script knows seen (ran knows seen run) files read;
-      always_its_script = λ knows seen files run read. stepping.must_refuse_its_script knows seen (ran knows seen run) files read;
-      always_its_report = λ knows seen files run read. stepping.must_refuse_its_report knows seen (ran knows seen run) files read never_both;
-      always_made = λ knows seen run. stepping.must_refuse_made_script knows seen (ran knows seen run);
-      always = λ knows seen files run read. flattening.every_script knows seen (ran knows seen run) files read;
+      only = runs.script_only;
+      always = λ command r files a goes file words on. runs.must_refuse command r files a goes (decided known command) (script file words) refl on;
     }

@@ -1,9 +1,5 @@
-use Rattle.command_spec.proofs.Ending as ending
-use Rattle.command_spec.proofs.Inverting.{ran}
+use Rattle.command_spec.proofs.RunLaws as runs
 use Rattle.command_spec.proofs.laws.usage_is_of_words_without_a_form.Goals as goal
 
 pub returns : goal.returns
-returns c = record {
-  only = λ knows seen run. ending.usage knows seen (ran knows seen run);
-  always = λ knows seen run. ending.every_usage knows seen (ran knows seen run);
-}
+returns c = record { only = runs.usage_only; always = runs.usage_always }

@@ -1,7 +1,7 @@
 use Rattle.command_spec.proofs.OneAnswer.{one_answer}
 use Rattle.change_plan.proofs.PlanLaws.{one_plan}
 use Rattle.std.specs.Prelude.{[]}
-use Rattle.command_spec.proofs.Reports as reports
+use Rattle.command_spec.proofs.ReportLemmas as reports
 use Rattle.command_spec.proofs.Wanting.{never_both}
 use Rattle.command_spec.proofs.laws.what_bytes_give_is_one.Goals as goal
 

@@ -1,17 +1,27 @@
-use Rattle.command_spec.proofs.Flattening as flattening
-use Rattle.command_spec.proofs.Inverting.{ran}
-use Rattle.command_spec.proofs.Stepping as stepping
+use Rattle.std.proofs.Common.{[], refl}
+use Rattle.command_answers.specs.declared.status.Status.TheVariants as status
+use Rattle.command_words.specs.declared.words.Command.TheVariants as commands
+use Rattle.config_graph.specs.GraphText.{graph_text}
+use Rattle.command_spec.specs.Commands.{shown}
+use Rattle.command_spec.specs.Courses.{came, here, leads_on, gives}
+use Rattle.command_spec.proofs.EachCommand.{Known, decided}
+use Rattle.command_spec.proofs.RunLaws as runs
 use Rattle.command_spec.proofs.laws.what_is_not_refused_is_answered.Goals as goal
 
 pub returns : goal.returns
-returns c = record {
-  complete = λ knows seen files run read. flattening.completes knows seen (ran knows seen run) files read;
-  every_answer = λ knows seen files run read file query text own written wants holds within gives.
-      flattening.answers_as knows seen (ran knows seen run) files read file query text own written wants holds within gives
-      (λ other also is. (c.what_bytes_give_is_one.ensures.one_answer query text other own also written is gives).0);
-  complete_report = λ knows seen files run read. flattening.completes_report knows seen (ran knows seen run) files read;
-  complete_script = λ knows seen files run read. stepping.completes knows seen (ran knows seen run) files read;
-  complete_check = λ knows seen files run read. stepping.completes_check knows seen (ran knows seen run) files read;
-  complete_big = λ knows seen run. stepping.completes_big knows seen (ran knows seen run);
-  every_graph = λ knows seen files run read. flattening.every_graph knows seen (ran knows seen run) files read;
-}
+returns c =
+    let known : Known = record {
+      graphs = c.a_graph_or_a_fault.ensures;
+      plan_alone = c.a_plan_or_a_refusal.ensures.plan_alone;
+      one_answer = c.what_bytes_give_is_one.ensures.one_answer;
+      one_report = c.what_bytes_give_is_one.ensures.one_report;
+      no_fault_beside = c.what_bytes_give_is_one.ensures.no_fault_beside;
+    } in
+    record {
+      complete = runs.completes;
+      every_answer = λ command r files a goes alone s on. runs.must_show command r files a goes (decided known command) alone s on;
+      every_graph = λ file call r files a goes text graph told has.
+          let s = shown status.Ok (graph_text graph) in
+          runs.must_show (commands.Flat file call) r files a goes (decided known (commands.Flat file call)) refl s
+          (leads_on text [] (came s) told (gives s [] (came s) (refl, (graph, has, refl)) here));
+    }

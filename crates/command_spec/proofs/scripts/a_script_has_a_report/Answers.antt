@@ -1,4 +1,3 @@
-use Rattle.command_spec.specs.Outcomes.{HoldsFile}
 use Rattle.command_spec.proofs.ReportLemmas.{are_sound, report_there}
 use Rattle.command_spec.proofs.scripts.a_script_has_a_report.Goals as goal
 
@@ -6,6 +5,6 @@ pub returns : goal.returns
 returns c =
     let graphs = c.a_graph_or_a_fault.ensures in
     record {
-      sound = λ files. are_sound graphs c.one_graph.ensures (HoldsFile files);
-      exists = λ files. report_there graphs c.one_graph.ensures (HoldsFile files) c.a_sound_script_has_a_report.ensures.exists c.reports_of_rounds_are_lawful.ensures.lawful;
+      sound = are_sound graphs c.one_graph.ensures;
+      exists = λ files. report_there graphs c.one_graph.ensures files c.a_sound_script_has_a_report.ensures.exists c.reports_of_rounds_are_lawful.ensures.lawful;
     }

@@ -1,6 +1,6 @@
 use Rattle.std.proofs.Common.{Some}
 use Rattle.command_words.specs.BigFiles.{made_files, script_name}
-use Rattle.command_spec.proofs.Draining.{drained}
+use Rattle.command_spec.proofs.ReportLemmas.{drained}
 use Rattle.command_spec.proofs.scripts.changes_of_a_run_drain_in_time.Goals as goal
 
 pub returns : goal.returns

@@ -1,6 +1,5 @@
-use Rattle.command_spec.proofs.MadeScripts.{never_refused}
+use Rattle.command_spec.proofs.Reported.{no_script}
 use Rattle.command_spec.proofs.scripts.made_scripts_are_not_refused.Goals as goal
 
 pub returns : goal.returns
-returns c = λ knows seen run lanes asks is.
-    never_refused knows seen lanes asks (c.scripts_are_refused_for_their_first_fault.ensures.only knows seen run is)
+returns c = λ knows r run lanes asks. no_script r.status (c.made_runs_are_not_refused.ensures knows r run lanes asks)

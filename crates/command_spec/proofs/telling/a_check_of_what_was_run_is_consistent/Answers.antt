@@ -5,12 +5,15 @@ use Rattle.report_writing.specs.Reports.{report_text}
 use Rattle.report_texts.specs.declared.version.Version.TheVariants as versions
 use Rattle.command_answers.specs.declared.status.Status.{Status}
 use Rattle.command_answers.specs.declared.status.Status.TheVariants as status
-use Rattle.command_spec.specs.Commands.{TellsReport}
+use Rattle.command_words.specs.declared.words.Command.TheVariants as commands
+use Rattle.command_spec.specs.Sorts.{TellsReport}
 use Rattle.command_spec.specs.Outcomes.{Judged, WasRunBy}
 use Rattle.command_spec.specs.Schedules.{Schedule}
 use Rattle.command_spec.specs.Telling.{NumbersFit, StillHolds}
-use Rattle.command_spec.proofs.CheckedRuns.{checked_so, ends_well, nothing_refused, read_there}
-use Rattle.command_spec.proofs.ScheduledReports.{consistent_by}
+use Rattle.command_spec.proofs.OneRun.{checked_so, ends_well, read_there}
+use Rattle.command_spec.proofs.Reported.{as_verdict}
+use Rattle.command_spec.proofs.Prepared.{check_refuses_nothing, report_unrefused}
+use Rattle.command_spec.proofs.ReportLemmas.{consistent_by}
 use Rattle.command_spec.proofs.telling.a_check_of_what_was_run_is_consistent.Goals as goal
 
 pub returns : goal.returns
@@ -27,11 +30,14 @@ returns c =
     record {
       judged = verdicts;
       ends = λ knows schedule before after name file own ran fit still wrote short r run read asks nothing.
+          let a = c.runs_answer_their_commands.ensures knows r run (commands.Check name file) asks in
           ends_well r.status (λ is.
-          let j = c.checks_end_by_what_is_lawful.ensures.judged knows r run name file asks is in
+          let j = c.check_promises.ensures r name file a is in
           verdicts schedule before after name file own r.status r.taken r.taken' ran fit still
           (subst (λ fs. Judged fs name file r.status r.taken r.taken') read.tells j) (read_there after r.files read.tells name file r.status r.taken r.taken' j (report_text ran.report) wrote))
-          (c.what_is_not_refused_is_answered.ensures.complete_check knows r after run read name file asks nothing
-          (nothing_refused (after file) (report_text ran.report) wrote short
-          (λ fault first. c.one_report_or_one_fault.ensures.never_both versions.Second (report_text ran.report) ran.report fault (tells schedule before name own ran fit).1 first)));
+          (as_verdict name file r.status
+          (c.what_is_not_refused_is_answered.ensures.complete (commands.Check name file) r after a read
+          (check_refuses_nothing after name file nothing
+          (report_unrefused after file (report_text ran.report) (record { told = wrote; within = short })
+          (λ fault first. c.one_report_or_one_fault.ensures.never_both versions.Second (report_text ran.report) ran.report fault (tells schedule before name own ran fit).1 first)))));
     }

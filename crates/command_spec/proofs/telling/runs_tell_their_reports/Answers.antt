@@ -1,6 +1,6 @@
 use Rattle.std.proofs.Common.{List, ℕ}
 use Rattle.report_types.specs.declared.script.Body.{Body}
-use Rattle.command_spec.proofs.ScheduledReports.{consistent_by}
+use Rattle.command_spec.proofs.ReportLemmas.{consistent_by}
 use Rattle.command_spec.proofs.TellingReports.{tells_itself}
 use Rattle.command_spec.proofs.TellingRuns.{ran_tells, stated}
 use Rattle.command_spec.proofs.telling.runs_tell_their_reports.Goals as goal

@@ -1,0 +1,25 @@
+-- Words of no form, and want of memory, have one answer each; a command has its own.
+use Rattle.std.proofs.Common.{map, refl, string_bytes}
+use Rattle.command_answers.specs.Answers.{no_memory, usage}
+use Rattle.command_spec.specs.Runs.{no_form, not_read, run_of}
+use Rattle.command_spec.specs.Known.{on_one_thread}
+use Rattle.command_program.proofs.RunningLaws.{runs_alone}
+use Rattle.command_program.proofs.commands.run_words.Goals as goal
+
+pub returns-in-Ok-None-clause-runs : goal.returns-in-Ok-None-clause-runs
+returns-in-Ok-None-clause-runs g c =
+    let seen = run_of g.H.Shelf g.K.Sink (map string_bytes c.args.words.now) c.args.shelf.now c.args.shelf.now c.args.out.now c.write_usage.new.out c.write_usage.result in
+    runs_alone on_one_thread seen usage refl (no_form (λ command asks. (rw c.in-Ok-None.field-0-is at c.in-Ok-None.ensures.none) command asks.1))
+    (c.write_usage.ensures seen)
+
+pub returns-in-Ok-Some-clause-runs : goal.returns-in-Ok-Some-clause-runs
+returns-in-Ok-Some-clause-runs g c = c.run_command.ensures.runs (map string_bytes c.args.words.now) (rw c.in-Ok-Some.field-0-is at c.in-Ok-Some.ensures.found)
+
+pub returns-in-Err-clause-runs : goal.returns-in-Err-clause-runs
+returns-in-Err-clause-runs g c =
+    let seen = run_of g.H.Shelf g.K.Sink (map string_bytes c.args.words.now) c.args.shelf.now c.args.shelf.now c.args.out.now c.write_no_memory.new.out c.write_no_memory.result in
+    runs_alone on_one_thread seen no_memory refl not_read (c.write_no_memory.ensures seen)
+
+pub returns-in-Ok-Some-clause-untouched : goal.returns-in-Ok-Some-clause-untouched
+returns-in-Ok-Some-clause-untouched g c none =
+    c.run_command.ensures.untouched (λ known. none _ (known, rw c.in-Ok-Some.field-0-is at c.in-Ok-Some.ensures.found))

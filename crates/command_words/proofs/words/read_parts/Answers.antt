@@ -1,7 +1,0 @@
--- Words that are no change ask for nothing.
-use Rattle.std.proofs.Common.{map, string_bytes}
-use Rattle.command_words.proofs.Refusals.{no_parted_change}
-use Rattle.command_words.proofs.words.read_parts.Goals as goal
-
-pub returns-in-None-clause-none : goal.returns-in-None-clause-none
-returns-in-None-clause-none c = no_parted_change c.args.file.now (map string_bytes c.args.words.now) (rw c.in-None.is at c.in_ok-change.ensures.none)
