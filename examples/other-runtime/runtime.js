@@ -2,19 +2,15 @@
 // A runtime in another language, by the page alone (docs/your-system.md): two fronts of eight loops each call a server, which calls a store.
 // The store is replaced ten times, with its sum, while they go on. At the end each answer is in the store, or the run ends with status 1.
 //
-// Usage: examples/other-runtime/runtime.js [DARWIN_RUN ..]. Where no command is named, it is darwin_run as the shell finds it, or that of this
-// clone, if these have `apply`; else tests/plain.
+// Usage: examples/other-runtime/runtime.js [DARWIN_RUN ..]. Else it takes darwin_run of the shell or of this clone, with `apply`, or tests/plain.
 'use strict';
 const { spawn, spawnSync } = require('child_process');
-const fs = require('fs');
-const os = require('os');
-const path = require('path');
+const fs = require('fs'), os = require('os'), path = require('path');
 
-const TOP = path.join(__dirname, '..', '..');
+const ours = (name) => path.join(__dirname, '..', '..', name);
 const hasSessions = (program) => /^\s*darwin_run apply\b/m.test(spawnSync(program, ['--help'], { encoding: 'utf8' }).stdout);
-const PROGRAM = ['darwin_run', path.join(TOP, 'crates', 'darwin_run', 'out', 'darwin_run')].find(hasSessions);
-const FOUND = PROGRAM ? [PROGRAM] : ['python3', path.join(TOP, 'tests', 'plain')];
-const MANAGER = process.argv.length > 2 ? process.argv.slice(2) : FOUND;
+const FOUND = ['darwin_run', ours('crates/darwin_run/out/darwin_run')].find(hasSessions);
+const MANAGER = process.argv.length > 2 ? process.argv.slice(2) : FOUND ? [FOUND] : ['python3', ours('tests/plain')];
 const ROUNDS = 20;
 const PORTS = { source: ['out'], map: ['next'], account: [] };
 const TEXT = `component source(int n) { require out; }
