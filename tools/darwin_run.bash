@@ -25,7 +25,8 @@ _darwin_run() {
     4:live) COMPREPLY=($(compgen -W $'1\n2\n4\n8' -- "$word")) ;;
     5:live) COMPREPLY=($(compgen -W --watch -- "$word")) ;;
     6:live) COMPREPLY=($(compgen -W $'1\n2\n3\n4' -- "$word")) ;;
-    *:plan | *:parts | *:roll | *:apply) COMPREPLY=($(compgen -W "$(_darwin_run_components "$file")"$'\n--' -- "$word")) ;;
+    *:plan | *:parts | *:roll) COMPREPLY=($(compgen -W "$(_darwin_run_components "$file")"$'\n--' -- "$word")) ;;
+    *:apply) COMPREPLY=($(compgen -W "$(_darwin_run_components "${COMP_WORDS[3]}")"$'\n--' -- "$word")) ;;
     *) COMPREPLY=($(compgen -f -- "$word")) ;;
   esac
 }

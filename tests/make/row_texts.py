@@ -8,11 +8,12 @@ WANTED = ("status", "the", ">", ">:", "..", "has")
 
 
 class Row(NamedTuple):
-    """A row's name, words and files, the lines that say how its text is shown, and those that must come."""
+    """A row's name, words and files, what its input is, the lines that say how its text is shown, and those that must come."""
 
     name: str
     words: list
     files: dict
+    said: str
     options: list
     wanted: list
 
@@ -43,7 +44,7 @@ def piece(line):
 
 def row_of(lines, shared):
     """A row of its lines, over files that it shares with others."""
-    words, files, options, wanted, name = [], dict(shared), [], [], None
+    words, files, said, options, wanted, name = [], dict(shared), "", [], [], None
     for line in lines[1:]:
         word, rest = parted(line)
         if word == "file":
@@ -51,13 +52,15 @@ def row_of(lines, shared):
             files[name] = ""
         elif word in ("words", "word"):
             words += rest.split(" ") if word == "words" else [rest]
+        elif word in ("say", "say:"):
+            said += rest + "\n" * (word == "say")
         elif word in WANTED:
             wanted.append(line)
         elif word in ("room", "fail", "next", "cut"):
             options.append((word, rest))
         elif name is not None:
             files[name] += piece(line)
-    return Row(parted(lines[0])[1], words, files, options, wanted)
+    return Row(parted(lines[0])[1], words, files, said, options, wanted)
 
 
 def rows_of(subject):

@@ -1,5 +1,5 @@
 -- Which seat comes back, when, and with which report.
-use Rattle.std.proofs.Common.{◌≡◌, ◌∙◌, ◌++◌, ℕ, false, List, [], Option, Some, None, Result, Ok, Err, IfSome, IsTrue, is_some, refl, sym, subst, ap}
+use Rattle.std.proofs.Common.{◌≡◌, ◌∙◌, ℕ, false, List, Option, Some, None, Ok, Err, IfSome, IsTrue, is_some, refl, sym, subst, ap}
 use Rattle.std.proofs.lemmas.Bool.{false≢true}
 use Rattle.cfg_io.specs.Shelf.{Files}
 use Rattle.cfg_io.specs.Sink.{with_bytes}
@@ -67,5 +67,5 @@ reports_so IsReport IsText seen name failures failures' answer by (whole took sa
     let none = none_failed seen.files (runs_script IsReport IsText name) by.failing s by.ends.2 in
     subst (λ own. Reported IsReport IsText seen.files name own seen.taken seen.taken') (sym by.ends.1.0 ∙ sym ends)
     (was_reported IsReport IsText seen.files name s seen.taken seen.taken'
-      (subst (λ ns. Follows seen.files (runs_script IsReport IsText name) ns (came s)) none by.ends.2)
-      (subst (λ text. seen.taken' ≡ with_bytes seen.taken text) by.ends.1.1 took))
+    (subst (λ ns. Follows seen.files (runs_script IsReport IsText name) ns (came s)) none by.ends.2)
+    (subst (λ text. seen.taken' ≡ with_bytes seen.taken text) by.ends.1.1 took))

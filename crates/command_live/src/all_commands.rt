@@ -126,7 +126,17 @@ where
             observers,
         } => {
             let crew = Crew { workers, observers };
-            run_live(rt, alloc, script.as_str(), crew, shelf, out, stile, gates, seat)
+            run_live(
+                rt,
+                alloc,
+                script.as_str(),
+                crew,
+                shelf,
+                out,
+                stile,
+                gates,
+                seat,
+            )
         }
         command => (run_command(alloc, shelf, out, command), None),
     }

@@ -134,9 +134,19 @@ where
             observers,
         } => {
             let crew = Crew { workers, observers };
-            run_live(rt, alloc, script.as_str(), crew, shelf, out, stile, gates, seat)
+            run_live(
+                rt,
+                alloc,
+                script.as_str(),
+                crew,
+                shelf,
+                out,
+                stile,
+                gates,
+                seat,
+            )
         }
-        _ => (write_usage(out), None),
+        _command => (write_usage(out), None),
     }
 }
 

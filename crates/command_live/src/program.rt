@@ -8,21 +8,24 @@ ghost use Rattle.command_answers.specs.Answers.{no_memory_line};
 ghost use Rattle.command_answers.specs.Statuses.{status_number};
 ghost use Rattle.command_spec.specs.Runs.{Runs, Written, run_of};
 ghost use Rattle.command_spec.specs.Known.{all_commands};
+ghost use Rattle.command_live.specs.Doing.{Does};
 ghost use Rattle.command_live.specs.Exits.{Exits};
 ghost use Rattle.command_live.specs.Notes.{IsNoted, RunsNoted, Takes};
 ghost use Rattle.command_spec.specs.Naming.{AskForNoFile};
+ghost use Rattle.command_words.specs.SessionWords.{AskForNoSession};
 
 use crate::all_commands::top;
 use cfg_io::{Shelf, Sink, write_all};
 use command_answers::Status;
+use command_apply::carry_out;
 use command_program::write_no_memory;
-use command_words::hint;
+use command_words::{hint, read_session};
 use config_graph::NoMemory;
 use live_run::Turnstile;
 use std::alloc::Global;
 use std::env::Args;
 use std::io;
-use std::io::ErrorKind;
+use std::io::{ErrorKind, Read};
 use std::process::ExitCode;
 use std::sync::Wait;
 use std::thread::Threads;
@@ -30,13 +33,15 @@ use txn_gate::Gates;
 
 /// Does what the words of a command line ask for, of which the first is the program's name, and says with which code
 /// to exit: the number of the status. Words that can't be read, as one that isn't UTF-8, are of no form, as no words
-/// are. The gates of a run on threads are made first; where there is no memory for them, the line says so. Behind `usage`
-/// the notes take the form that is nearest to the words, and nothing else.
-pub fn run_program<H: Shelf, K: Sink, N: Sink, R, T>(
+/// are. Words of `apply` hold a session by the lines of the input, which no other words read. The gates of a run on
+/// threads are made before all other words; where there is no memory for them, the line says so. Behind `usage` the notes
+/// take the form that is nearest to the words, and nothing else.
+pub fn run_program<H: Shelf, I: Read + Drop, K: Sink, N: Sink, R, T>(
     rt: R,
     alloc: Global,
     args: io::Result<Args>,
     shelf: &mut H,
+    input: I,
     out: &mut K,
     notes: &mut N,
     stile: &T,
@@ -45,7 +50,7 @@ where
     R: Threads + Wait + Copy + Send + Sync,
     T: Turnstile + Sync,
     // All words but the first are asked, and none is left out.
-    ensures given { IfOk args (λ args. Exits (λ own. RunsNoted N.Sink notes.old notes.new
+    ensures given { IfOk args (λ args. Exits (λ own. Does (I.remaining input) N.Sink notes.old notes.new
         (run_of H.Shelf K.Sink (map string_bytes (drop 1 (into_iter_items args)))
         shelf.old shelf.new out.old out.new own)) result) }
     ensures unreadable { IfErr args (λ fault. Exits (λ own. RunsNoted N.Sink notes.old notes.new
@@ -57,19 +62,20 @@ where
         × (H.failed shelf.new ≡ H.failed shelf.old)) }
     // No fetch changes the files. Words that name no file fetch none: the shelf is as it was.
     ensures kept { H.files shelf.new ≡ H.files shelf.old }
-    ensures untouched { IfOk args (λ args. AskForNoFile all_commands (map string_bytes (drop 1 (into_iter_items args)))
-        → shelf.new ≡ shelf.old) }
+    ensures untouched { IfOk args (λ args. AskForNoSession (map string_bytes (drop 1 (into_iter_items args)))
+        → AskForNoFile all_commands (map string_bytes (drop 1 (into_iter_items args))) → shelf.new ≡ shelf.old) }
     ensures unread { OnErr args (shelf.new ≡ shelf.old) }
 {
-    exit_code(run_args(rt, alloc, args, shelf, out, notes, stile))
+    exit_code(run_args(rt, alloc, args, shelf, input, out, notes, stile))
 }
 
 /// The same, and the status.
-fn run_args<H: Shelf, K: Sink, N: Sink, R, T>(
+fn run_args<H: Shelf, I: Read + Drop, K: Sink, N: Sink, R, T>(
     rt: R,
     alloc: Global,
     args: io::Result<Args>,
     shelf: &mut H,
+    input: I,
     out: &mut K,
     notes: &mut N,
     stile: &T,
@@ -77,7 +83,7 @@ fn run_args<H: Shelf, K: Sink, N: Sink, R, T>(
 where
     R: Threads + Wait + Copy + Send + Sync,
     T: Turnstile + Sync,
-    ensures given { IfOk args (λ args. RunsNoted N.Sink notes.old notes.new
+    ensures given { IfOk args (λ args. Does (I.remaining input) N.Sink notes.old notes.new
         (run_of H.Shelf K.Sink (map string_bytes (drop 1 (into_iter_items args)))
         shelf.old shelf.new out.old out.new result)) }
     ensures unreadable { IfErr args (λ fault. RunsNoted N.Sink notes.old notes.new
@@ -86,23 +92,24 @@ where
         → Written Status.NoMemory no_memory_line (run_of H.Shelf K.Sink [] shelf.old shelf.new out.old out.new result)
         × (H.failed shelf.new ≡ H.failed shelf.old)) }
     ensures kept { H.files shelf.new ≡ H.files shelf.old }
-    ensures untouched { IfOk args (λ args. AskForNoFile all_commands (map string_bytes (drop 1 (into_iter_items args)))
-        → shelf.new ≡ shelf.old) }
+    ensures untouched { IfOk args (λ args. AskForNoSession (map string_bytes (drop 1 (into_iter_items args)))
+        → AskForNoFile all_commands (map string_bytes (drop 1 (into_iter_items args))) → shelf.new ≡ shelf.old) }
     ensures unread { OnErr args (shelf.new ≡ shelf.old) }
 {
     match args {
-        Ok(args) => run_given(rt, alloc, args, shelf, out, notes, stile),
+        Ok(args) => run_given(rt, alloc, args, shelf, input, out, notes, stile),
         Err(fault) if fault.kind() == ErrorKind::OutOfMemory => write_no_memory(out),
         Err(_) => run_noted(rt, alloc, &[], shelf, out, notes, stile),
     }
 }
 
 /// The same for words that can be read.
-fn run_given<H: Shelf, K: Sink, N: Sink, R, T>(
+fn run_given<H: Shelf, I: Read + Drop, K: Sink, N: Sink, R, T>(
     rt: R,
     alloc: Global,
     args: Args,
     shelf: &mut H,
+    input: I,
     out: &mut K,
     notes: &mut N,
     stile: &T,
@@ -110,15 +117,42 @@ fn run_given<H: Shelf, K: Sink, N: Sink, R, T>(
 where
     R: Threads + Wait + Copy + Send + Sync,
     T: Turnstile + Sync,
-    ensures runs { RunsNoted N.Sink notes.old notes.new
+    ensures does { Does (I.remaining input) N.Sink notes.old notes.new
         (run_of H.Shelf K.Sink (map string_bytes (drop 1 (into_iter_items args)))
         shelf.old shelf.new out.old out.new result) }
     ensures kept { H.files shelf.new ≡ H.files shelf.old }
-    ensures untouched { AskForNoFile all_commands (map string_bytes (drop 1 (into_iter_items args)))
-        → shelf.new ≡ shelf.old }
+    ensures untouched { AskForNoSession (map string_bytes (drop 1 (into_iter_items args)))
+        → AskForNoFile all_commands (map string_bytes (drop 1 (into_iter_items args))) → shelf.new ≡ shelf.old }
 {
     match words_behind_name(alloc, args) {
-        Ok(words) => run_noted(rt, alloc, words.as_slice(), shelf, out, notes, stile),
+        Ok(words) => run_asked(rt, alloc, words.as_slice(), shelf, input, out, notes, stile),
+        Err(_) => write_no_memory(out),
+    }
+}
+
+/// Holds a session where the words ask for one, and else does what they ask for.
+fn run_asked<H: Shelf, I: Read + Drop, K: Sink, N: Sink, R, T>(
+    rt: R,
+    alloc: Global,
+    words: &[String],
+    shelf: &mut H,
+    input: I,
+    out: &mut K,
+    notes: &mut N,
+    stile: &T,
+) -> Status
+where
+    R: Threads + Wait + Copy + Send + Sync,
+    T: Turnstile + Sync,
+    ensures does { Does (I.remaining input) N.Sink notes.old notes.new (run_of H.Shelf K.Sink (map string_bytes words.now)
+        shelf.old shelf.new out.old out.new result) }
+    ensures kept { H.files shelf.new ≡ H.files shelf.old }
+    ensures untouched { AskForNoSession (map string_bytes words.now) → AskForNoFile all_commands (map string_bytes words.now)
+        → shelf.new ≡ shelf.old }
+{
+    match read_session(alloc, words) {
+        Ok(Some(asked)) => carry_out(alloc, &asked, shelf, input, out),
+        Ok(None) => run_noted(rt, alloc, words, shelf, out, notes, stile),
         Err(_) => write_no_memory(out),
     }
 }

@@ -42,4 +42,4 @@ pub ran_of :
 ran_of IsReport IsText files name failures failures' asked first answer r same shows =
     comes_prepared Shows files (λ statements. says (IsRunOf IsReport IsText statements)) name files failures failures' failures' asked r refl first
     (comes_here Shows files (says (IsRunOf IsReport IsText (statements_in asked))) failures' failures' r refl
-      (or_stop_says files (IsRunOf IsReport IsText (statements_in asked)) answer r same shows))
+    (or_stop_says files (IsRunOf IsReport IsText (statements_in asked)) answer r same shows))

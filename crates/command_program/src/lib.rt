@@ -23,12 +23,13 @@ pub use answer::{Answer, Stop};
 pub use command_answers::Status;
 pub use commands::{run_command, still};
 pub use describing::describe;
-pub use description::{checked_of, graph_of};
+pub use description::{checked_of, graph_of, graph_of_call};
 pub use files::{
     FileSort, fetch_file, read_description, read_events, read_report, read_script,
     refuse_description,
 };
 pub use judging::judge;
+pub use plans::{made_of, start_call};
 pub use preparing::{Prepared, prepare};
 pub use reports::{answer_run, answer_summary, upgrade};
 pub use writing::{write_answer, write_no_memory, write_text, write_usage};

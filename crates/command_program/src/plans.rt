@@ -47,7 +47,7 @@ pub fn change_between(
 }
 
 /// The graph with which a run can start with a call's component.
-fn start_call(
+pub fn start_call(
     alloc: Global,
     checked: &Checked,
     call: &TopCall<'_>,

@@ -1,6 +1,5 @@
 -- Words behind a command's own that aren't its body, and words that ask for nothing.
-use Rattle.std.proofs.Common.{◌≡◌, ◌≢◌, ◌∙◌, ◌≤◌, ◌-◌, ◌↔◌, ℕ, Bool, IsTrue, bytes_eq, Result, Ok, Err, IfOk, List, [], ◌∷◌, Option, None, Some, codes, length, map, get_or, take, drop, refl, sym, ap, subst, arith, inl, inr}
-use Rattle.std.specs.Str.Parse.{digits_value}
+use Rattle.std.proofs.Common.{◌≡◌, ◌≢◌, ◌∙◌, ◌≤◌, ◌-◌, ◌↔◌, ℕ, Bool, IsTrue, bytes_eq, Result, Ok, Err, IfOk, List, [], ◌∷◌, Option, None, Some, codes, length, map, get_or, take, drop, sym, ap, subst, arith}
 use Rattle.std.proofs.lemmas.List.{take_rest}
 use Rattle.base.proofs.BytesLaws.{bytes_eq_self, same_bytes}
 use Rattle.command_words.specs.declared.keywords.Keyword.{Keyword}
@@ -9,9 +8,9 @@ use Rattle.command_words.specs.declared.words.Command.{Command}
 use Rattle.command_words.specs.declared.words.Command.TheVariants as commands
 use Rattle.command_words.specs.declared.words.TopCall.{TopCall}
 use Rattle.command_words.specs.Keywords.{word_of}
-use Rattle.command_words.specs.CommandLine.{Asks, for_help, for_version, for_deed, BehindFile, BehindNumber, HasBody, IsCall, IsChange, IsCount, IsEnd, IsFound, SaysThreads}
+use Rattle.command_words.specs.CommandLine.{Asks, for_help, for_version, for_deed, BehindFile, BehindNumber, HasBody, IsCall, IsChange, IsEnd, IsFound, SaysThreads}
 use Rattle.command_words.proofs.Asking.{head_is, tail_is}
-use Rattle.command_words.proofs.WordsLaws.{no_keyword, named_none, no_keyword_asks, one_keyword}
+use Rattle.command_words.proofs.WordsLaws.{no_deed, no_keyword, named_none, no_keyword_asks, one_keyword}
 
 module _ (own : Keyword) (first : List ℕ) (words : List (List ℕ)) where
   pub no_flat : own ≡ keywords.Flat → ((call : TopCall) → IsCall words call → ⊥) → (c : Command) → HasBody own (first ∷ words) c → ⊥
@@ -31,6 +30,9 @@ module _ (own : Keyword) (first : List ℕ) (words : List (List ℕ)) where
       → (c : Command) → HasBody own (first ∷ words) c → ⊥
   no_roll is none (commands.Roll f n m t u) has = none n m t u has.1.2
   no_roll is none c has = cc has.0
+
+  pub no_apply : own ≡ keywords.Apply → (c : Command) → HasBody own (first ∷ words) c → ⊥
+  no_apply is c has = no_deed own c is has.0
 
   pub no_replay : own ≡ keywords.Replay → ((file : List ℕ) → BehindFile file IsEnd words → ⊥) → (c : Command) → HasBody own (first ∷ words) c → ⊥
   no_replay is none (commands.Replay f e) has = none e has.1.2

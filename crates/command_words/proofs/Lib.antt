@@ -2,4 +2,5 @@ pub mod Asking
 pub mod Bodies
 pub mod Parting
 pub mod Refusals
+pub mod SessionLaws
 pub mod WordsLaws

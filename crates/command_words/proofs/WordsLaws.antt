@@ -1,6 +1,6 @@
 -- Words ask for one command at most. The first word tells which command takes others behind it, and those behind it tell
 -- what it carries.
-use Rattle.std.proofs.Common.{◌≡◌, ◌∙◌, ◌≤◌, lit≤, ℕ, List, [], ◌∷◌, ◌⊎◌, inl, inr, Option, Some, None, bytes_eq, codes, if◌then◌else◌, refl, sym, ap, subst}
+use Rattle.std.proofs.Common.{◌≡◌, ◌∙◌, ◌≤◌, lit≤, ℕ, List, [], ◌∷◌, inl, inr, Option, Some, None, bytes_eq, codes, if◌then◌else◌, refl, sym, ap, subst}
 use Rattle.std.proofs.lemmas.Option.{same_Some}
 use Rattle.std.specs.Str.Parse.{digits_value}
 use Rattle.command_words.specs.declared.keywords.Keyword.{Keyword}
@@ -9,7 +9,7 @@ use Rattle.command_words.specs.declared.words.Command.{Command}
 use Rattle.command_words.specs.declared.words.Command.TheVariants as commands
 use Rattle.command_words.specs.declared.words.TopCall.{TopCall}
 use Rattle.command_words.specs.Keywords.{word_of}
-use Rattle.command_words.specs.CommandLine.{Asks, for_help, for_version, for_deed, BehindFile, BehindNumber, HasBody, IsBody, IsCall, IsChange, IsEnd, IsHelpOf, keyword, SaysCounts, SaysObservers, SaysThreads}
+use Rattle.command_words.specs.CommandLine.{Asks, for_help, for_version, for_deed, BehindFile, BehindNumber, IsBody, IsCall, IsChange, IsEnd, IsHelpOf, keyword, SaysObservers, SaysThreads}
 use Rattle.command_words.proofs.Asking.{head_is, tail_is, one_call, call_has_parts, one_parting}
 
 -- the command that a word names
@@ -19,6 +19,7 @@ named word =
     if bytes_eq word (codes "plan") then Some keywords.Plan else
     if bytes_eq word (codes "parts") then Some keywords.Parts else
     if bytes_eq word (codes "roll") then Some keywords.Roll else
+    if bytes_eq word (codes "apply") then Some keywords.Apply else
     if bytes_eq word (codes "replay") then Some keywords.Replay else
     if bytes_eq word (codes "step") then Some keywords.Step else
     if bytes_eq word (codes "live") then Some keywords.Live else
@@ -32,6 +33,7 @@ named_so keywords.Flat = refl
 named_so keywords.Plan = refl
 named_so keywords.Parts = refl
 named_so keywords.Roll = refl
+named_so keywords.Apply = refl
 named_so keywords.Replay = refl
 named_so keywords.Step = refl
 named_so keywords.Live = refl
@@ -50,6 +52,11 @@ one_keyword a b same = same_Some a b (sym (named_so a) ∙ ap named same ∙ nam
 -- no command is named by the words that ask for help, or for the version
 pub no_keyword : (own : Keyword) (word : List ℕ) → word ≡ word_of own → named word ≡ None → ⊥
 no_keyword own word is none = cc (sym none ∙ ap named is ∙ named_so own)
+
+-- words of `apply` ask for a session, and for no command
+pub no_deed : (own : Keyword) (c : Command) → own ≡ keywords.Apply → keyword c ≡ Some own → ⊥
+no_deed own (commands.Help topic) is names = cc names
+no_deed own c is names = cc names
 
 -- what the first word names, where the words ask for help, or for the version
 pub no_keyword_asks : (words : List (List ℕ)) (own : Keyword) (body : List (List ℕ)) → words ≡ word_of own ∷ body → IsHelpOf words None → ⊥
@@ -70,7 +77,7 @@ no_version words None (inr (inr asks)) is = cc (sym asks ∙ is)
 no_version words (Some own) asks is = no_keyword own (codes "--version") (sym (head_is _ _ (codes "--help" ∷ []) [] (sym asks ∙ is))) named_none.3
 
 -- the words of a change tell its two calls
-one_change :
+pub one_change :
     (words : List (List ℕ)) (t v u w : TopCall) → IsChange words t v → IsChange words u w → (t ≡ u) × (v ≡ w)
 one_change words t v u w x y =
     let split = one_parting x.0 y.0 x.1 y.1 (call_has_parts x.0 t x.3) (call_has_parts y.0 u y.3) (sym x.2 ∙ y.2) in

@@ -12,6 +12,7 @@ pub enum Keyword {
     Plan,
     Parts,
     Roll,
+    Apply,
     Replay,
     Step,
     Live,
@@ -21,11 +22,12 @@ pub enum Keyword {
 }
 
 /// All of them, in the order of the help.
-pub const KEYWORDS: [Keyword; 10] = [
+pub const KEYWORDS: [Keyword; 11] = [
     Keyword::Flat,
     Keyword::Plan,
     Keyword::Parts,
     Keyword::Roll,
+    Keyword::Apply,
     Keyword::Replay,
     Keyword::Step,
     Keyword::Live,
@@ -43,6 +45,7 @@ pub fn keyword_of(word: &str) -> Option<Keyword>
         "plan" => Some(Keyword::Plan),
         "parts" => Some(Keyword::Parts),
         "roll" => Some(Keyword::Roll),
+        "apply" => Some(Keyword::Apply),
         "replay" => Some(Keyword::Replay),
         "step" => Some(Keyword::Step),
         "live" => Some(Keyword::Live),
@@ -63,6 +66,7 @@ impl Keyword {
             Keyword::Plan => "plan",
             Keyword::Parts => "parts",
             Keyword::Roll => "roll",
+            Keyword::Apply => "apply",
             Keyword::Replay => "replay",
             Keyword::Step => "step",
             Keyword::Live => "live",
@@ -81,6 +85,7 @@ impl Keyword {
             Keyword::Plan => "darwin_run plan FILE NAME INT* -- NAME INT*\n",
             Keyword::Parts => "darwin_run parts FILE NAME INT* -- NAME INT*\n",
             Keyword::Roll => "darwin_run roll FILE NUM NUM NAME INT* -- NAME INT*\n",
+            Keyword::Apply => "darwin_run apply N FILE NAME INT* -- NAME INT*\n",
             Keyword::Replay => "darwin_run replay FILE EVENTS\n",
             Keyword::Step => "darwin_run step SCRIPT\n",
             Keyword::Live => "darwin_run live SCRIPT [--workers W [--watch N]]\n",
@@ -99,6 +104,9 @@ impl Keyword {
             Keyword::Plan => "    write the change from the first to the second\n",
             Keyword::Parts => "    write the parts into which that change is cut\n",
             Keyword::Roll => "    start the first, run it, and carry those parts out\n",
+            Keyword::Apply => {
+                "    carry that change out on a system elsewhere, by lines of standard input, within N rounds\n"
+            }
             Keyword::Replay => "    apply events to the system that they start\n",
             Keyword::Step => "    run a script on one thread, write its report\n",
             Keyword::Live => {

@@ -123,6 +123,8 @@ fn read_body<'a>(
             call: roll.change.call,
             target: roll.change.target,
         }),
+        // These words ask for a session, which is no command.
+        Keyword::Apply => Ok(None),
         Keyword::Replay => found!(read_file(words), events => Command::Replay { file, events }),
         Keyword::Step => found!(read_end(words), _end => Command::Step { script: file }),
         Keyword::Live => found!(said_threads(words), said => Command::Live {

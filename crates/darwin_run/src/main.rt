@@ -1,4 +1,4 @@
-//! `darwin_run`: the commands over real files, standard output and standard error.
+//! `darwin_run`: the commands over real files, standard input, standard output and standard error.
 #![tactic(auto)]
 
 use cfg_io::{FileShelf, OutSink};
@@ -14,6 +14,7 @@ fn main(rt: HostRuntime) -> ExitCode {
         alloc,
         env::args(&rt),
         &mut FileShelf::new(&rt, alloc),
+        rt.stdin(),
         &mut OutSink::new(&rt),
         &mut OutSink::new(rt.stderr()),
         &Free,

@@ -10,7 +10,8 @@ use running::run_row;
 use std::{fs, io};
 
 /// A file of rows for each subject.
-const SUBJECTS: [&str; 24] = [
+const SUBJECTS: [&str; 25] = [
+    "apply.txt",
     "banks.txt",
     "big.txt",
     "bindings.txt",

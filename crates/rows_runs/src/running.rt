@@ -4,7 +4,9 @@ use crate::files::{add_files, fail_fetches};
 use crate::lines::{number, parted, value_of};
 use crate::showing::push_shown;
 use cfg_io::{MemShelf, MemSink, Shelf};
-use command_program::still;
+use command_apply::carry_out;
+use command_program::{Status, still};
+use command_words::read_session;
 use std::alloc::{AllocError, Global};
 use std::str;
 
@@ -34,6 +36,36 @@ fn words_of(alloc: Global, row: &str) -> Result<Vec<String>, AllocError> {
     Ok(words)
 }
 
+/// The input of a row: `say` has a line of it, `say:` its last piece without a line end.
+fn said_of(alloc: Global, row: &str) -> Result<String, AllocError> {
+    let mut said = String::new(alloc);
+    for line in row.split("\n") {
+        match parted(line) {
+            ("say", rest) => {
+                said.push_str(rest)?;
+                said.push_str("\n")?;
+            }
+            ("say:", rest) => said.push_str(rest)?,
+            _ => {}
+        }
+    }
+    Ok(said)
+}
+
+/// The status of a run: of a session where the words ask for one.
+fn status_of(
+    alloc: Global,
+    words: &[String],
+    shelf: &mut MemShelf,
+    said: &str,
+    sink: &mut MemSink,
+) -> Result<Status, AllocError> {
+    match read_session(alloc, words)? {
+        Some(asked) => Ok(carry_out(alloc, &asked, shelf, said.as_bytes(), sink)),
+        None => Ok(still(alloc, words, shelf, sink)),
+    }
+}
+
 /// The files of a row.
 fn shelf_of(alloc: Global, shared: &str, row: &str) -> Result<MemShelf, AllocError> {
     let mut shelf = MemShelf::new(alloc);
@@ -61,7 +93,14 @@ pub fn run_row(alloc: Global, shared: &str, row: &str) -> Result<String, AllocEr
     fail_fetches(&mut shelf, lines)?;
     let room = value_of(lines, "room").map_or(AMPLE, number);
     let mut sink = MemSink::new(alloc, room)?;
-    let status = still(alloc, words.as_slice(), &mut shelf, &mut sink);
+    let said = said_of(alloc, lines)?;
+    let status = status_of(
+        alloc,
+        words.as_slice(),
+        &mut shelf,
+        said.as_str(),
+        &mut sink,
+    )?;
     let mut shown = format!(in alloc; "row {name}\nstatus {}\n", status.number())?;
     push_next(&mut shown, &mut shelf, lines)?;
     let text = str::from_utf8(sink.bytes()).unwrap_or("?");

@@ -8,7 +8,7 @@ use Rattle.command_live.proofs.all_commands.run_read.Goals as goal
 use Rattle.std.proofs.lemmas.Bool.{false≢true}
 
 pub run_live-requires-clause-crew : goal.run_live-requires-clause-crew
-run_live-requires-clause-crew g c = threads_asked _ _ _ _ (rw c.in-Live.is at c.requires.asked.1)
+run_live-requires-clause-crew g c κs alive = threads_asked _ _ _ _ (rw c.in-Live.is at c.requires.asked.1)
 
 pub returns-in-Live-clause-runs : goal.returns-in-Live-clause-runs
 returns-in-Live-clause-runs g c words asks = (rw c.as_str.ensures at c.run_live.ensures.runs) all_commands words (refl, rw c.in-Live.is at asks)

@@ -10,7 +10,7 @@ use Rattle.command_live.proofs.all_commands.run_words.Goals as goal
 use Rattle.std.proofs.lemmas.Bool.{false≢true}
 
 pub run_read-requires-clause-asked : goal.run_read-requires-clause-asked
-run_read-requires-clause-asked g c = (map string_bytes c.args.words.now, rw c.in-Ok-Some.field-0-is at c.in-Ok-Some.ensures.found)
+run_read-requires-clause-asked g c κs alive = (map string_bytes c.args.words.now, rw c.in-Ok-Some.field-0-is at c.in-Ok-Some.ensures.found)
 
 pub returns-in-Ok-Some-clause-runs : goal.returns-in-Ok-Some-clause-runs
 returns-in-Ok-Some-clause-runs g c = c.run_read.ensures.runs _ (rw c.in-Ok-Some.field-0-is at c.in-Ok-Some.ensures.found)

@@ -10,7 +10,7 @@ use Rattle.command_live.proofs.on_threads.live_words.Goals as goal
 use Rattle.std.proofs.lemmas.Bool.{false≢true}
 
 pub run_asked-requires-clause-asked : goal.run_asked-requires-clause-asked
-run_asked-requires-clause-asked g c = (map string_bytes c.args.words.now, rw c.in-Ok-Some.field-0-is at c.in-Ok-Some.ensures.found)
+run_asked-requires-clause-asked g c κs alive = (map string_bytes c.args.words.now, rw c.in-Ok-Some.field-0-is at c.in-Ok-Some.ensures.found)
 
 pub returns-in-Ok-Some-clause-runs : goal.returns-in-Ok-Some-clause-runs
 returns-in-Ok-Some-clause-runs g c = c.run_asked.ensures.runs _ (rw c.in-Ok-Some.field-0-is at c.in-Ok-Some.ensures.found)

@@ -1,5 +1,5 @@
 -- What was answered is written, and the seat comes back where it is a report.
-use Rattle.std.proofs.Common.{[], Ok, Err, refl}
+use Rattle.std.proofs.Common.{[], Ok, Err}
 use Rattle.command_spec.specs.Runs.{run_of}
 use Rattle.command_spec.specs.Schedules.{IsReportBy, IsShownBy, threads}
 use Rattle.command_words.specs.declared.words.Command.TheVariants as commands
@@ -16,7 +16,7 @@ returns-in-Ok-clause-runs g c knows words asks =
     let seen = run_of g.H.Shelf g.K.Sink words c.args.shelf.now c.answer_script.new.shelf c.args.out.now c.write_text-status.new.out c.write_text-status.result in
     runs_by knows seen (commands.Live name own.workers own.observers) asks (Ok c.in-Ok.answer)
     (comes_wider (AgreesWithSeat c.in-Ok.seat) (IsReportBy (threads own.observers)) (IsShownBy (threads own.observers)) _ name
-      (λ statements r agrees. record { lawful = agrees.lawful; at_once = agrees.at_once; early = agrees.early }) _ _ c.in-Ok.answer c.in-Ok.ensures.answers)
+    (λ statements r agrees. record { lawful = agrees.lawful; at_once = agrees.at_once; early = agrees.early }) _ _ c.in-Ok.answer c.in-Ok.ensures.answers)
     (rw c.as_slice.ensures.value at c.write_text-status.ensures seen)
 
 pub returns-in-Ok-clause-agrees : goal.returns-in-Ok-clause-agrees

@@ -19,3 +19,9 @@ pub returns-in-Err-clause-no_memory : goal.returns-in-Err-clause-no_memory
 returns-in-Err-clause-no_memory g c =
     let seen = run_of g.H.Shelf g.K.Sink [] c.args.shelf.now c.args.shelf.now c.args.out.now c.write_no_memory.new.out c.write_no_memory.result in
     rw c.in-Err.is (λ none. (c.write_no_memory.ensures seen, refl))
+
+pub returns-in-Ok-clause-given : goal.returns-in-Ok-clause-given
+returns-in-Ok-clause-given g c = rw c.in-Ok.is c.run_given.ensures.does
+
+pub returns-in-Ok-clause-untouched : goal.returns-in-Ok-clause-untouched
+returns-in-Ok-clause-untouched g c = rw c.in-Ok.is c.run_given.ensures.untouched

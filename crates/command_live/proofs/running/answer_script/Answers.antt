@@ -9,6 +9,7 @@ use Rattle.command_spec.specs.Scripts.{prepares}
 use Rattle.command_program.specs.Coming.{Shows}
 use Rattle.command_program.specs.Preparing.{IsPrepared}
 use Rattle.command_program.specs.declared.answer.Answer.{Answer}
+use Rattle.command_program.specs.declared.answer.Stop.{Stop}
 use Rattle.command_program.specs.declared.answer.Stop.TheVariants as stops
 use Rattle.command_program.proofs.ComingLaws.{comes_stop, ends_no_run}
 use Rattle.command_program.proofs.ReportingLaws.{ran_of}
@@ -18,8 +19,9 @@ use Rattle.command_live.proofs.running.answer_script.Goals as goal
 pub returns-in-Ok-clause-answers : goal.returns-in-Ok-clause-answers
 returns-in-Ok-clause-answers g c =
     let x = c.in-Ok.ran in
+    let answered : Result Answer Stop = Ok x.0 in
     ran_of (AgreesWithSeat x.1) (IsShownBy (threads c.args.crew.observers)) _ c.args.name.now _ _ c.in_ok-asked.asked c.in_ok-asked.ensures.prepares
-    (Ok {E = ⊥} x.0) (Ok x.0) refl c.in-Ok.ensures.answer
+    answered answered refl c.in-Ok.ensures.answer
 
 pub returns-in-Err-clause-answers : goal.returns-in-Err-clause-answers
 returns-in-Err-clause-answers g c =

@@ -13,14 +13,14 @@ returns-in-Help-clause-answers g c =
     let files = g.H.Shelf.files c.args.shelf.now in
     rw c.in-Help.is
     (comes_here Shows files (course_of (commands.Help c.in-Help.of)) _ _ c.or_stop.result refl
-      (line_says files status.Ok (help_text c.in-Help.of) c.answer_help.result c.or_stop.result c.or_stop.ensures c.answer_help.ensures))
+    (line_says files status.Ok (help_text c.in-Help.of) c.answer_help.result c.or_stop.result c.or_stop.ensures c.answer_help.ensures))
 
 pub returns-in-Version-clause-answers : goal.returns-in-Version-clause-answers
 returns-in-Version-clause-answers g c =
     let files = g.H.Shelf.files c.args.shelf.now in
     rw c.in-Version.is
     (comes_here Shows files (course_of commands.Version) _ _ c.or_stop-in-Version.result refl
-      (line_says files status.Ok version_text c.answer_version.result c.or_stop-in-Version.result c.or_stop-in-Version.ensures c.answer_version.ensures))
+    (line_says files status.Ok version_text c.answer_version.result c.or_stop-in-Version.result c.or_stop-in-Version.ensures c.answer_version.ensures))
 
 pub returns-in-Replay-clause-answers : goal.returns-in-Replay-clause-answers
 returns-in-Replay-clause-answers g c = rw c.in-Replay.is (rw (c.as_str-in-Replay.ensures, c.as_str-in-Replay-2.ensures) at c.answer_replay.ensures.answers)

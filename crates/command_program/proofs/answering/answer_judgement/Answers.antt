@@ -26,6 +26,6 @@ returns-clause-answers g c =
     comes_next Shows files (λ (report : Report). says (λ s. IsJudged statements report s.own s.text)) (reads of_report c.args.file.now) files _ _ _
     report c.or_stop.result refl c.in_ok-report.ensures.comes
     (comes_here Shows files (says Is) _ _ c.or_stop.result refl
-      (or_stop_says files Is c.judge.result c.or_stop.result c.or_stop.ensures
-        (IfOk-weaker c.judge.result (λ answer. IsJudged statements report answer.status answer.text.items) (IsShown Is)
-          (λ answer is_judged. (shown answer.status answer.text.items, is_judged, (refl, refl))) c.judge.ensures)))
+    (or_stop_says files Is c.judge.result c.or_stop.result c.or_stop.ensures
+    (IfOk-weaker c.judge.result (λ answer. IsJudged statements report answer.status answer.text.items) (IsShown Is)
+    (λ answer is_judged. (shown answer.status answer.text.items, is_judged, (refl, refl))) c.judge.ensures)))

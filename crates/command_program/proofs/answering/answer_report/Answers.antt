@@ -25,4 +25,4 @@ returns-clause-answers g c =
     comes_next Shows files (λ (report : Report). ends (shown status.Ok (report_text report))) (reads of_report c.args.file.now) files _ _ _
     c.in_ok-report.report c.or_stop.result refl c.in_ok-report.ensures.comes
     (comes_here Shows files (ends (shown status.Ok text)) _ _ c.or_stop.result refl
-      (line_ends files status.Ok text c.upgrade.result c.or_stop.result c.or_stop.ensures c.upgrade.ensures))
+    (line_ends files status.Ok text c.upgrade.result c.or_stop.result c.or_stop.ensures c.upgrade.ensures))

@@ -45,7 +45,7 @@ returns-clause-took g c = λ p at.
     (comes_on (λ checked tree. description checked ≡ tree) (Leads next) files (λ (tree : Tree). ends (with_description p file tree)) (reads of_description file) files
     (g.H.Shelf.failed c.args.shelf.now) failed failed c.in_ok-checked.checked done refl c.in_ok-checked.ensures.comes
     (λ tree is. comes_here (Leads next) files (ends (with_description p file tree)) failed failed done refl
-      (with_description p file tree, subst (λ t. IsAt next (with_description p file t)) is (used_at c.args.way.now next p file c.in_ok-checked.checked at has), here)))
+    (with_description p file tree, subst (λ t. IsAt next (with_description p file t)) is (used_at c.args.way.now next p file c.in_ok-checked.checked at has), here)))
 
 pub returns-clause-marks : goal.returns-clause-marks
 returns-clause-marks g c = used_marks _ _ _ c.args.name c.in_ok-checked.checked c.describe.ensures

@@ -1,5 +1,5 @@
 -- Where one of the words ends, nothing more is in common.
-use Rattle.std.proofs.Common.{◌≡◌, ◌+◌, ◌∙◌, ℕ, List, [], ◌∷◌, drop, length, refl, sym, ap, arith, add-zero}
+use Rattle.std.proofs.Common.{◌≡◌, ◌+◌, ◌∙◌, ℕ, List, [], ◌∷◌, drop, refl, sym, ap, add-zero}
 use Rattle.std.proofs.Math.ListN.{drop_of_length-le}
 use Rattle.command_words.specs.HelpTexts.{in_common}
 use Rattle.command_words.proofs.help.in_common.Goals as goal

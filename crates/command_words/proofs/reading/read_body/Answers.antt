@@ -20,6 +20,9 @@ returns-in-None-4 c =
     bodies.no_roll c.args.own c.args.first.now (map string_bytes c.args.words.now) c.in-Roll.is
     (λ n m t u is. (rw c.in-None-4.is at c.in_ok-roll-in-Roll.ensures) (record { run = n; within = m; change = record { call = t; target = u } }) is)
 
+pub returns-in-Apply : goal.returns-in-Apply
+returns-in-Apply c = bodies.no_apply c.args.own c.args.first.now (map string_bytes c.args.words.now) c.in-Apply.is
+
 pub returns-in-None-read_file : goal.returns-in-None-read_file
 returns-in-None-read_file c =
     bodies.no_replay c.args.own c.args.first.now (map string_bytes c.args.words.now) c.in-Replay.is c.in-None-read_file.ensures

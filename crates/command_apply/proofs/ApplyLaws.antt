@@ -1,0 +1,162 @@
+-- Requests, sessions and runs, from what the parts of the code say.
+use Rattle.std.proofs.Common.{◌≡◌, ◌∙◌, ◌++◌, ℕ, List, [], Option, Some, None, Ok, Err, inl, inr, length, map, refl, sym, ap, subst, arith}
+use Rattle.std.specs.List.{enumerate_from}
+use Rattle.std.specs.Prelude.{◌==◌, if◌then◌else◌}
+use Rattle.std.specs.Io.Buffered.{reader_buffer, reader_capacity, reader_inner, reader_remaining}
+use Rattle.std.specs.Io.KnownBytes.{prepend_known}
+use Rattle.std.specs.declared.io.buffered.BufReader.{BufReader}
+use Rattle.std.proofs.lemmas.List.{length-map}
+use Rattle.std.proofs.lemmas.List.FromFn.{length-enumerate_from}
+use Rattle.cfg_io.specs.Shelf.{Files}
+use Rattle.config_graph.specs.Graph.{Graph, IsGraph, ports}
+use Rattle.config_graph.specs.Sound.{Sound}
+use Rattle.config_graph.specs.declared.node.Made.{Made}
+use Rattle.change_apply.specs.Sessions.{CanChange, change_in}
+use Rattle.change_apply.specs.Talks.{Bytes, Ends}
+use Rattle.change_apply.specs.declared.request.Request.{Request}
+use Rattle.change_apply.specs.declared.said.Ending.{Ending}
+use Rattle.change_apply.specs.declared.said.Ending.TheVariants as ending
+use Rattle.change_plan.specs.Plans.{IsPlanOf}
+use Rattle.change_plan.specs.Refusals.{CanPlan}
+use Rattle.change_plan.specs.Room.{HasRoomFor}
+use Rattle.change_plan.specs.declared.plan_data.Plan.{Plan}
+use Rattle.change_plan_laws.specs.Committing.{made_in}
+use Rattle.change_spec.specs.Scripts.{nothing_made}
+use Rattle.command_answers.specs.Answers.{no_memory, refusal_text}
+use Rattle.command_answers.specs.DescriptionFaults.{MayRefuse, fault_words}
+use Rattle.command_answers.specs.declared.error.DescriptionFault.{DescriptionFault}
+use Rattle.command_answers.specs.declared.status.Status.{Status}
+use Rattle.command_program.specs.Coming.{Comes, EndsIn, StopsFor, stop_status, stop_text}
+use Rattle.command_program.specs.Refusals.{IsFaultOf}
+use Rattle.command_program.specs.declared.answer.Stop.{Stop}
+use Rattle.command_program.specs.declared.answer.Stop.TheVariants as stops
+use Rattle.command_program.proofs.ComingLaws.{stops_in}
+use Rattle.command_spec.specs.Courses.{came, gives, here, not_fetched, refusal, refused, Follows}
+use Rattle.command_spec.specs.Plans.{RefusesPlan, made_of_graph}
+use Rattle.command_spec.specs.Runs.{Run, Written}
+use Rattle.command_words.specs.declared.sessions.SessionWords.{SessionWords}
+use Rattle.quiesce_core.specs.Start.{gate_of, slot_of, started}
+use Rattle.command_apply.specs.Applying.{AppliesBy, IsRequest, Talks, TalksTo, course_to_session}
+use Rattle.command_apply.specs.Requests.{Asked, CanCarryOut, EndsWith, HasPlan, IsRequestFor, course_of_text}
+use Rattle.command_apply.specs.declared.planning.Planned.{Planned}
+
+-- a start makes what stands behind it
+same_made : (g : Graph) → made_of_graph g ≡ made_in (started g).config
+same_made g =
+    let of : ℕ → ℕ → Made = λ n m. record { nodes = n; ports = m } in
+    ap (λ n. of n (length (ports g.nodes)))
+    (sym (length-map (enumerate_from 0 g.nodes) (slot_of g.nodes) ∙ length-enumerate_from 0 g.nodes))
+    ∙ ap (of (length (map (slot_of g.nodes) (enumerate_from 0 g.nodes)))) (sym (length-map (ports g.nodes) (gate_of g)))
+
+-- a change that is planned from a start may be carried out
+pub can_change :
+    (old new : Graph) (plan : Plan) (within : ℕ) → IsGraph old → Sound old → HasRoomFor nothing_made old → IsGraph new → Sound new
+    → IsPlanOf old new [] plan → CanPlan old new [] (made_of_graph old)
+    → CanChange (record { old = old; new = new; plan = plan; within = within })
+can_change old new plan within old_is old_sound room new_is new_sound is_plan can = record {
+  old_graph = old_is;
+  old_sound = old_sound;
+  few_nodes = omega (arith, room.nodes_fit);
+  few_ports = omega (arith, room.ports_fit);
+  new_graph = new_is;
+  new_sound = new_sound;
+  is_plan = is_plan;
+  can_plan = subst (CanPlan old new []) (same_made old) can;
+}
+
+-- the request of a plan
+pub is_request :
+    (text : List ℕ) (asked : SessionWords) (p : Planned) (r : Request) → HasPlan text asked.call asked.target p → IsRequestFor asked p r
+    → IsRequest text asked r
+is_request text asked p r h f = record {
+  from_name = f.from_name;
+  from_args = f.from_args;
+  starts = rw f.from_graph h.starts;
+  to_name = f.to_name;
+  to_args = f.to_args;
+  has_graph = rw f.to_graph h.has_graph;
+  has_room = rw (f.from_graph, f.to_graph) h.has_room;
+  is_plan = rw (f.from_graph, f.to_graph, f.plan_is) h.is_plan;
+  within_is = f.within_is;
+}
+
+pub can_request : (asked : SessionWords) (p : Planned) (r : Request) → IsRequestFor asked p r → CanCarryOut p → CanChange (change_in r)
+can_request asked p r f can = rw (f.from_graph, f.to_graph, f.plan_is) (can r.within)
+
+-- the input, behind an empty buffer
+none_ahead : (known : Option (List ℕ)) → prepend_known [] known ≡ known
+none_ahead None = refl
+none_ahead (Some xs) = refl
+
+-- A session, and what is done at its end. What the sink took, its faults and the status are given one by one.
+abbrev pub with_sink : Run → Bytes → Bytes → ℕ → ℕ → Status → Run
+with_sink seen k k' n n' own = record seen { taken = k; taken' = k'; faults = n; faults' = n'; status = own }
+
+pub talked :
+    (r : Request) (input : Bytes) (seen : Run) (k k' k'' : Bytes) (n n' n'' : ℕ) (own : Status) (e : Ending) → Ends r input k k' e
+    → EndsWith e (with_sink seen k' k'' n' n'' own) → TalksTo r input (with_sink seen k k'' n n'' own) e
+talked r input seen k k' k'' n n' n'' own ending.NoMemory ends with = (k', n', ends, with)
+talked r input seen k k' k'' n n' n'' own ending.Committed ends with = (rw with.0 ends, with.1)
+talked r input seen k k' k'' n n' n'' own ending.GivenUp ends with = (rw with.0 ends, with.1)
+talked r input seen k k' k'' n n' n'' own ending.Denied ends with = (rw with.0 ends, with.1)
+talked r input seen k k' k'' n n' n'' own ending.Bad ends with = (rw with.0 ends, with.1)
+talked r input seen k k' k'' n n' n'' own ending.Unread ends with = (rw with.0 ends, with.1)
+talked r input seen k k' k'' n n' n'' own ending.Unwritten ends with = (rw with.0 ends, with.1)
+
+-- the request of a plan, and what refuses it
+pub gives_request :
+    (files : Option Files) (text : List ℕ) (asked : SessionWords) (p : Planned) (r : Request) → HasPlan text asked.call asked.target p → IsRequestFor asked p r
+    → EndsIn Asked files (course_of_text asked text) [] (Ok r)
+gives_request files text asked p r h f = (r, refl, gives r [] (came r) (is_request text asked p r h f) here)
+
+pub refuses_request :
+    (files : Option Files) (text : List ℕ) (asked : SessionWords) (e : DescriptionFault) (stop : Stop)
+    → MayRefuse (RefusesPlan text asked.call asked.target) e → StopsFor (IsFaultOf asked.file e) stop
+    → EndsIn Asked files (course_of_text asked text) [] (Err stop)
+refuses_request files text asked e stop refuses_ stops_ =
+    stops_in Asked files (course_of_text asked text) [] (IsFaultOf asked.file e) stop stops_
+    (λ why is. subst (λ w. Follows files (course_of_text asked text) [] (refusal w)) (sym is.1) (refused (fault_words e) (refuses_ is.0))) (inl refl)
+
+-- a run, from the request that it input to, or why it input to none
+pub applied_by :
+    (asked : SessionWords) (input : Bytes) (seen : Run) (r : Request)
+    → Comes Asked seen.files (course_to_session asked) seen.failures seen.failures' (Ok r) → Talks r input seen → AppliesBy asked input seen
+applied_by asked input seen r by talked = record {
+  failing = by.failing;
+  end = came r;
+  by = subst (λ x. Follows seen.files (course_to_session asked) by.failing (came x)) (sym by.ends.1) by.ends.2;
+  noted = by.noted;
+  goes_on = talked;
+}
+
+pub stopped :
+    (asked : SessionWords) (input : Bytes) (seen : Run) (stop : Stop)
+    → Comes Asked seen.files (course_to_session asked) seen.failures seen.failures' (Err stop) → Written (stop_status stop) (stop_text stop) seen
+    → AppliesBy asked input seen
+stopped asked input seen stop by written = of stop by.failing by.noted by.ends written
+  where
+    of : (stop : Stop) (failing : List (List ℕ)) → seen.failures' ≡ seen.failures ++ failing
+        → EndsIn Asked seen.files (course_to_session asked) failing (Err stop) → Written (stop_status stop) (stop_text stop) seen → AppliesBy asked input seen
+    of (stops.Refused answer) failing noted (why, refuses, on) written = record {
+      failing = failing;
+      end = refusal why;
+      by = on;
+      noted = noted;
+      goes_on = subst (λ s. Written s (refusal_text why) seen) refuses.status_is (subst (λ t. Written answer.status t seen) refuses.text_is written);
+    }
+    of stops.NoMemory failing noted (inl none) written = record {
+      failing = [];
+      end = refusal no_memory;
+      by = not_fetched;
+      noted = subst (λ ns. seen.failures' ≡ seen.failures ++ ns) none noted;
+      goes_on = written;
+    }
+    of stops.NoMemory failing noted (inr on) written = record { failing = failing; end = refusal no_memory; by = on; noted = noted; goes_on = written }
+
+-- what is left of a reader that was just made is all of the input
+pub fresh_reader :
+    {T A : Type 0} (left : T → Option (List ℕ)) (r : BufReader T A) (input : T) → reader_inner r ≡ input → reader_buffer r ≡ []
+    → reader_capacity r ≡ 8192 → reader_remaining left r ≡ left input
+fresh_reader left r input inner empty capacity =
+    ap (λ n. if n == 0 then None else prepend_known (reader_buffer r) (left r.inner)) capacity
+    ∙ (ap (λ bytes. prepend_known bytes (left r.inner)) empty ∙ (none_ahead (left r.inner) ∙ ap left inner))

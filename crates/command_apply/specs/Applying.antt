@@ -1,0 +1,80 @@
+-- To be believed (definitions.md).
+-- What a run of `apply` is: a description is fetched, the change that the words ask for is planned of it, and a session
+-- carries it out by the lines that come.
+use Rattle.std.specs.Prelude.{◌≡◌, ℕ, List, [], ◌++◌}
+use Rattle.change_apply.specs.Talks.{Bytes, Ends}
+use Rattle.change_apply.specs.declared.request.Request.{Request}
+use Rattle.change_apply.specs.declared.said.Ending.{Ending}
+use Rattle.change_apply.specs.declared.said.Ending.TheVariants as ending
+use Rattle.change_plan.specs.Plans.{IsPlanOf}
+use Rattle.change_plan.specs.Refusals.{CanPlan}
+use Rattle.command_answers.specs.Answers.{no_memory_line, refusal_status, refusal_text}
+use Rattle.command_answers.specs.declared.status.Status.{Status}
+use Rattle.command_answers.specs.declared.status.Status.TheVariants as status
+use Rattle.command_spec.specs.Courses.{Course, End, came, ends, fetches, judges, refusal, Follows}
+use Rattle.command_spec.specs.Descriptions.{HasGraph}
+use Rattle.command_spec.specs.Plans.{Starts, made_of_graph}
+use Rattle.command_spec.specs.Queries.{IsRefused}
+use Rattle.command_spec.specs.Runs.{Run, Written}
+use Rattle.command_spec.specs.Sorts.{of_description}
+use Rattle.command_spec.specs.declared.query.Cut.TheVariants as cuts
+use Rattle.command_spec.specs.declared.query.Query.{Query}
+use Rattle.command_spec.specs.declared.query.Query.TheVariants as queries
+use Rattle.command_words.specs.declared.sessions.SessionWords.{SessionWords}
+
+-- What is asked of a session by the words, of the description of this text: a run can start with the first component, and
+-- there is room for the change to the second, of which this is the plan.
+pub record IsRequest (text : List ℕ) (asked : SessionWords) (r : Request) : Type 0 where
+  pub from_name : r.from.name ≡ asked.call.top
+  pub from_args : r.from.args ≡ asked.call.args
+  pub starts : Starts text asked.call.top asked.call.args r.from.graph
+  pub to_name : r.to.name ≡ asked.target.top
+  pub to_args : r.to.args ≡ asked.target.args
+  pub has_graph : HasGraph text asked.target.top asked.target.args r.to.graph
+  pub has_room : CanPlan r.from.graph r.to.graph [] (made_of_graph r.from.graph)
+  pub is_plan : IsPlanOf r.from.graph r.to.graph [] r.plan
+  pub within_is : r.within ≡ asked.within
+
+-- what `plan` is asked for by these words
+abbrev pub plan_query : SessionWords → Query
+plan_query asked = queries.Change cuts.Whole asked.call asked.target
+
+-- The course to the request of a session: the description is fetched, and what refuses `plan` refuses the session.
+abbrev pub course_to_session : SessionWords → Course Request
+course_to_session asked =
+    fetches of_description asked.file
+    (λ text. judges Request of_description asked.file (IsRefused (plan_query asked) text) (IsRequest text asked) ends)
+
+-- the status by which a session ends
+abbrev pub session_status : Ending → Status
+session_status ending.Committed = status.Ok
+session_status ending.Bad = status.Script
+session_status ending.Unread = status.ReadFault
+session_status ending.Unwritten = status.WriteFault
+session_status ending.NoMemory = status.NoMemory
+session_status ending.GivenUp = status.Pending
+session_status ending.Denied = status.Denied
+
+-- The session ended so, by what was said and written, and the run by its status. Where memory was wanted, a line behind
+-- what was written says so.
+abbrev pub TalksTo : Request → Bytes → Run → Ending → Type 0
+TalksTo r input seen ending.NoMemory =
+    (between : Bytes) × (faults : ℕ) × Ends r input seen.taken between ending.NoMemory
+    × Written status.NoMemory no_memory_line (record seen { taken = between; faults = faults })
+TalksTo r input seen e = Ends r input seen.taken seen.taken' e × (seen.status ≡ session_status e)
+
+abbrev pub Talks : Request → Bytes → Run → Type 0
+Talks r input seen = (e : Ending) × TalksTo r input seen e
+
+-- what is done at the end of that course: a session is held, or a line says why there is none
+abbrev pub GoesOn : Bytes → Run → End Request → Type 0
+GoesOn input seen (came r) = Talks r input seen
+GoesOn input seen (refusal why) = Written (refusal_status why) (refusal_text why) seen
+
+-- A run of `apply` where this comes of the input. The shelf notes the fetch where it failed.
+pub record AppliesBy (asked : SessionWords) (input : Bytes) (seen : Run) : Type 0 where
+  pub failing : List (List ℕ)
+  pub end : End Request
+  pub by : Follows seen.files (course_to_session asked) failing end
+  pub noted : seen.failures' ≡ seen.failures ++ failing
+  pub goes_on : GoesOn input seen end
