@@ -207,6 +207,7 @@ module _ (S : AnyNode → NodeState) (gates : TableId) (r r1 r2 r3 : List Entry)
         ends = adds;
         at_ports = at_ports ∙ ap all_ports (sym config3);
         idle = ap (λ (c : Configuration). list_all (is_idle_if_live c) looked.found) config3 ∙ sym idle_is ∙ on;
+        all = count ∙ nodes_are ∙ ap (λ (c : Configuration). length c.slots) (sym config3);
         lengths_are = saw.lengths_are;
       })
 

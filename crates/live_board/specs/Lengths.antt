@@ -18,7 +18,8 @@ length_at lengths n = slice_index_or lengths n None
 abbrev pub AreLengths : List Sight → List (Option ℕ) → Type 0
 AreLengths sights lengths = (n : ℕ) → n < length lengths → length_at lengths n ≡ length_in sights n
 
--- the record ends with a scan whose looks at live ports all found them idle, and these are the lengths that it saw
+-- the record ends with a scan whose looks at live ports all found them idle, and these are the lengths that it saw, one
+-- place for each node made
 pub record EndsIdle (r : List Entry) (lengths : List (Option ℕ)) : Type 0 where
   pub front : List Entry
   pub begins : Bool
@@ -28,6 +29,7 @@ pub record EndsIdle (r : List Entry) (lengths : List (Option ℕ)) : Type 0 wher
   pub ends : r ≡ front ++ scan_entries begins moved sights found
   pub at_ports : ports_of found ≡ all_ports (config_of r)
   pub idle : list_all (is_idle_if_live (config_of r)) found ≡ true
+  pub all : length lengths ≡ length (config_of r).slots
   pub lengths_are : AreLengths sights lengths
 
 abbrev pub IsLast : List Entry → Option (List (Option ℕ)) → Type 0
