@@ -1,25 +1,23 @@
--- Each line of a run, of a finish or of an open root tells what the record has before it.
-use Rattle.std.proofs.Common.{◌≡◌, ◌∙◌, ℕ, Bool, true, false, List, [], ◌∷◌, ◌++◌, append_assoc, length, map, Some, refl, sym, ap, subst, ⊎_elim}
-use Rattle.std.specs.Prelude.{⊤, ◌||◌, ℤ, flat_map}
+-- Each line of a run, of a finish or of an open root tells what the transcript has before it.
+use Rattle.std.proofs.Common.{◌≡◌, ◌∙◌, ℕ, Bool, true, false, List, [], ◌∷◌, ◌++◌, append_assoc, length, map, refl, sym, ap, subst, ⊎_elim, inl, inr}
+use Rattle.std.specs.Prelude.{◌||◌, ℤ, flat_map}
 use Rattle.std.specs.List.{cons_option, list_any}
 use Rattle.std.proofs.lemmas.List.Folds.{list_any-append}
 use Rattle.std.specs.Option.{option_map_or}
 use Rattle.std.proofs.lemmas.Bool.{both_ways, cases_Bool, or_parts}
-use Rattle.std.proofs.lemmas.List.{append-nil, map-append}
-use Rattle.std.proofs.lemmas.Option.{none-some, same_Some}
+use Rattle.std.proofs.lemmas.List.{map-append}
 use Rattle.base.specs.Each.{Each, EachAfter}
-use Rattle.base.proofs.EachLaws.{each_at, each_if, each_joined}
-use Rattle.base.proofs.PlaceLaws.{heads_are, tails_are}
-use Rattle.change_board.specs.Scans.{Found, look_entry, scan_entries}
-use Rattle.change_board.specs.Transcripts.{Item, silent, told, said, entries, line_in, lines}
+use Rattle.base.proofs.EachLaws.{each_joined}
+use Rattle.change_board.specs.Scans.{look_entry}
+use Rattle.change_board.specs.Transcripts.{Item, silent, told, said, line_in, lines}
 use Rattle.change_board.specs.Steps.{Deed, events_of}
-use Rattle.change_engine.proofs.ItemLaws.{carried_lines, entries_both, lines_both, sight_lines, silent_lines}
+use Rattle.change_engine.proofs.ItemLaws.{carried_lines, lines_both, sight_lines, silent_lines}
 use Rattle.change_engine.proofs.PassivationLaws.{looks_of, passivation_lines}
 use Rattle.change_engine.specs.Calls.{skip_items}
 use Rattle.change_engine.specs.Carrying.{deed_items, sight_item}
-use Rattle.change_engine.specs.Draining.{root_item}
+use Rattle.change_engine.specs.Draining.{pending_items, root_item}
 use Rattle.change_engine.specs.Finishing.{all_entries, rounds_in}
-use Rattle.change_engine.specs.Passivating.{Passivation, WaitingRound, close_item, last_look, left_after, look_item, passivation_items, round_items, roots_of, silent_items}
+use Rattle.change_engine.specs.Passivating.{IsPassivation, Passivation, left_after, passivation_items, silent_items}
 use Rattle.change_engine.specs.Stopping.{stop_items}
 use Rattle.change_engine.specs.declared.passivating.LeftRoot.{LeftRoot}
 use Rattle.change_plan.specs.declared.plan_data.Move.{Move}
@@ -33,7 +31,7 @@ use Rattle.change_transcript_laws.proofs.FollowLaws.{items_pushed}
 use Rattle.change_transcript_laws.specs.Pieces.{AreAbandonItems, AreChangeItems, AreCommitItems, IsDone, IsTranscript, Piece, items_of, opening_items}
 use Rattle.config_graph.specs.Graph.{Graph}
 use Rattle.live_board.specs.Ended.{AgreesWith}
-use Rattle.live_run.specs.Telling.{IsSeenIn, IsSeenSo}
+use Rattle.live_run.specs.Telling.{EndsWithLine, IsSeenItem, IsSeenSo, IsUpToLine}
 use Rattle.report_types.specs.declared.report.HistoryLine.{HistoryLine}
 use Rattle.report_types.specs.declared.report.HistoryLine.TheVariants as to
 use Rattle.report_types.specs.declared.report.Report.{Report}
@@ -83,11 +81,6 @@ quiet_waiting ports how =
 quiet_entries : (es : List Entry) → tells_looks (silent_items es) ≡ false
 quiet_entries es = ap (list_any is_of_looks) (silent_lines es)
 
-abbrev IsSeenItem : List Item → Item → Type 0
-IsSeenItem before (silent y) = ⊤
-IsSeenItem before (told y l) = IsSeenSo before l
-IsSeenItem before (said l) = IsSeenSo before l
-
 unseen_line : (before : List Item) (l : HistoryLine) → is_of_looks l ≡ false → IsSeenSo before l
 unseen_line before (to.Run k n) h = absurd (both_ways true h refl)
 unseen_line before (to.Finish n k) h = absurd (both_ways true h refl)
@@ -112,37 +105,60 @@ unseen_items before [] h = tt
 unseen_items before (x ∷ u) h =
     let w = or_parts (tells_here x) (tells_looks u) (sym (front_tells x u) ∙ h) in (unseen_item before x w.0, unseen_items (before ++ x ∷ []) u w.1)
 
--- ---- the last look of a passivation
+-- ---- the roots that a change left
 
-last_is_left : (first : List Found) (rounds : List WaitingRound) → roots_of (last_look first rounds) ≡ left_after first rounds
-last_is_left first [] = refl
-last_is_left first (w ∷ rounds) = last_is_left w.found rounds
-
-ends_with_last : (first : List Found) (rounds : List WaitingRound) → (front : List Item) × (map look_item first ++ flat_map round_items rounds ≡ front ++ map look_item (last_look first rounds))
-ends_with_last first [] = ([], append-nil (map look_item first))
-ends_with_last first (w ∷ rounds) =
-    let rest = ends_with_last w.found rounds in
-    let scan = silent_items (scan_entries false w.moved w.sights w.scan) in
-    let last = map look_item (last_look w.found rounds) in (
-      map look_item first ++ (scan ++ rest.0),
-      ap (λ u. map look_item first ++ u) (append_assoc scan (map look_item w.found) (flat_map round_items rounds) ∙ ap (λ u. scan ++ u) rest.1 ∙ sym (append_assoc scan rest.0 last))
-          ∙ sym (append_assoc (map look_item first) (scan ++ rest.0) last),
-    )
-
-module _ (place : List Item) (last : List Found) (rounds : ℕ) where
+module _ (place : List Item) (name : List ℕ) (args : List ℤ) (closed : List ℕ) (within : ℕ) (how : Passivation) (is_passivation : IsPassivation closed within how) (all_rounds : length how.rounds ≡ within) where
   abbrev behind : List LeftRoot → List Item
-  behind front = place ++ map look_item last ++ said (to.Pending rounds) ∷ map root_item front
+  behind front = place ++ opening_items name args closed how ++ pending_items within front
 
-  roots_in_order : (front back : List LeftRoot) → roots_of last ≡ front ++ back → EachAfter IsSeenItem (behind front) (map root_item back)
+  roots_in_order : (front back : List LeftRoot) → left_after how.first how.rounds ≡ front ++ back → EachAfter IsSeenItem (behind front) (map root_item back)
   roots_in_order front [] is = tt
   roots_in_order front (x ∷ back) is =
-      let pending = said (to.Pending rounds) in
+      let opened = place ++ opening_items name args closed how in
+      let pending = said (to.Pending within) in
       let next : behind (front ++ x ∷ []) ≡ behind front ++ root_item x ∷ [] =
-      ap (λ u. place ++ map look_item last ++ pending ∷ u) (map-append root_item front (x ∷ []))
-      ∙ sym (append_assoc (place ++ map look_item last) (pending ∷ map root_item front) (root_item x ∷ [])) in (
-        record { front = place; last = last; rounds = rounds; earlier = front; later = back; parts = refl; roots = is },
+      ap (λ u. opened ++ pending ∷ u) (map-append root_item front (x ∷ [])) ∙ sym (append_assoc opened (pending ∷ map root_item front) (root_item x ∷ [])) in (
+        record {
+          front = place;
+          name = name;
+          args = args;
+          closed = closed;
+          within = within;
+          how = how;
+          is_passivation = is_passivation;
+          all_rounds = all_rounds;
+          earlier = front;
+          later = back;
+          parts = refl;
+          roots = is;
+        },
         subst (λ u. EachAfter IsSeenItem u (map root_item back)) next (roots_in_order (front ++ x ∷ []) back (is ∙ sym (append_assoc front (x ∷ []) back))),
       )
+
+-- ---- the line that each piece ends with
+
+ends_behind : (before u : List Item) → EndsWithLine u → EndsWithLine (before ++ u)
+ends_behind before u h = record { front = before ++ h.front; line = h.line; parts = ap (λ v. before ++ v) h.parts ∙ sym (append_assoc before h.front (said h.line ∷ [])) }
+
+change_ends : (before : List Item) (name : List ℕ) (args : List ℤ) (new : Graph) (within : ℕ) (moves : List Move) (u : List Item) → AreChangeItems before name args new within moves u → EndsWithLine u
+change_ends before name args new within moves u x =
+    let opened = opening_items name args x.closed x.how in
+    let left = left_after x.how.first x.how.rounds in
+    let last : EndsWithLine x.rest =
+    ⊎_elim (λ (y : AreCommitItems (before ++ opened) x.old new x.plan left x.rest). record { front = flat_map deed_items y.deeds; line = to.Commit; parts = y.are })
+    (λ (y : (length x.how.rounds ≡ within) × AreAbandonItems x.closed within left x.rest). record { front = pending_items within left ++ flat_map deed_items y.1.deeds; line = to.Abandon; parts = y.1.are })
+    x.ends in
+    subst EndsWithLine (sym x.are) (ends_behind opened x.rest last)
+
+piece_ends : (before : List Item) (s : Statement) (u : List Item) → IsDone false before s u → EndsWithLine u
+piece_ends before (start name args g) u d = record { front = said (to.Start name args) ∷ flat_map deed_items d.deeds; line = to.Commit; parts = d.are }
+piece_ends before (change name args g within moves) u d = ⊎_elim
+    (λ (skipped : list_any is_pending (lines before) ≡ true). record { front = said (to.Change name args) ∷ []; line = to.Skipped; parts = d.0 skipped })
+    (λ (tried : list_any is_pending (lines before) ≡ false). change_ends before name args g within moves u (d.1 tried))
+    (cases_Bool (list_any is_pending (lines before)))
+piece_ends before (run k) u d = record { front = silent_items (map look_entry d.looks ++ all_entries d.scans); line = to.Run k d.ended; parts = d.are }
+piece_ends before (finish n) u d = record { front = silent_items (all_entries d.scans); line = to.Finish n (rounds_in d.scans); parts = d.are }
+piece_ends before show u d = record { front = []; line = to.Show d.graph; parts = d.are }
 
 -- ---- each piece
 
@@ -164,56 +180,49 @@ module _ (before : List Item) (name : List ℕ) (args : List ℤ) (new : Graph) 
       subst (EachAfter IsSeenItem (before ++ opened)) (sym y.are)
       (unseen_items (before ++ opened) (flat_map deed_items y.deeds ++ said to.Commit ∷ []) (quiet_both (flat_map deed_items y.deeds) (said to.Commit ∷ []) (quiet_deeds y.deeds) refl))
 
-  given_up : AreAbandonItems x.closed within left x.rest → EachAfter IsSeenItem (before ++ opened) x.rest
-  given_up y =
+  given_up : length x.how.rounds ≡ within → AreAbandonItems x.closed within left x.rest → EachAfter IsSeenItem (before ++ opened) x.rest
+  given_up all_rounds y =
       let did = flat_map deed_items y.deeds in
       let pending = said (to.Pending within) in
       let roots = map root_item left in
       let end = said to.Abandon ∷ [] in
-      let shut = said (to.Change name args) ∷ map close_item x.closed in
-      let first = map look_item x.how.first in
-      let rounds = flat_map round_items x.how.rounds in
-      let last = last_look x.how.first x.how.rounds in
-      let w = ends_with_last x.how.first x.how.rounds in
-      let place = before ++ (shut ++ w.0) in
-      let opened_is : before ++ opened ≡ place ++ map look_item last =
-      ap (λ v. before ++ v) (append_assoc shut first rounds ∙ ap (λ v. shut ++ v) w.1 ∙ sym (append_assoc shut w.0 (map look_item last))) ∙ sym (append_assoc before (shut ++ w.0) (map look_item last)) in
-      let told_ : EachAfter IsSeenItem ((before ++ opened) ++ pending ∷ []) roots =
-      subst (λ v. EachAfter IsSeenItem (v ++ pending ∷ []) roots) (sym opened_is) (roots_in_order place last within [] left (last_is_left x.how.first x.how.rounds)) in
+      let told_ : EachAfter IsSeenItem ((before ++ opened) ++ pending ∷ []) roots = roots_in_order before name args x.closed within x.how x.is_passivation all_rounds [] left refl in
       let rest : EachAfter IsSeenItem ((before ++ opened) ++ pending ∷ roots) did = unseen_items ((before ++ opened) ++ pending ∷ roots) did (quiet_deeds y.deeds) in
       subst (EachAfter IsSeenItem (before ++ opened)) (sym y.are)
       (each_joined IsSeenItem (before ++ opened) (pending ∷ roots ++ did) end (each_joined IsSeenItem (before ++ opened) (pending ∷ roots) did (tt, told_) rest) (tt, tt))
 
   change_seen : EachAfter IsSeenItem before u
-  change_seen = joined (⊎_elim committed (λ (y : (length x.how.rounds ≡ within) × AreAbandonItems x.closed within left x.rest). given_up y.1) x.ends)
+  change_seen = joined (⊎_elim committed (λ (y : (length x.how.rounds ≡ within) × AreAbandonItems x.closed within left x.rest). given_up y.0 y.1) x.ends)
 
-piece_tells : (before : List Item) (s : Statement) (u : List Item) → IsDone false before s u → EachAfter IsSeenItem before u
-piece_tells before (start name args g) u d =
+piece_tells : (before : List Item) → IsUpToLine before → (s : Statement) (u : List Item) → IsDone false before s u → EachAfter IsSeenItem before u
+piece_tells before at (start name args g) u d =
     let did = said (to.Start name args) ∷ flat_map deed_items d.deeds in
     subst (EachAfter IsSeenItem before) (sym d.are) (unseen_items before (did ++ said to.Commit ∷ []) (quiet_both did (said to.Commit ∷ []) (quiet_deeds d.deeds) refl))
-piece_tells before (change name args g within moves) u d = ⊎_elim
+piece_tells before at (change name args g within moves) u d = ⊎_elim
     (λ (skipped : list_any is_pending (lines before) ≡ true). subst (EachAfter IsSeenItem before) (sym (d.0 skipped)) (unseen_items before (skip_items name args) refl))
     (λ (tried : list_any is_pending (lines before) ≡ false). change_seen before name args g within moves u (d.1 tried))
     (cases_Bool (list_any is_pending (lines before)))
-piece_tells before (run k) u d =
+piece_tells before at (run k) u d =
     let es = map look_entry d.looks ++ all_entries d.scans in
     subst (EachAfter IsSeenItem before) (sym d.are) (each_joined IsSeenItem before (silent_items es) (said (to.Run k d.ended) ∷ []) (unseen_items before (silent_items es) (quiet_entries es)) (
-      record { front = before; looks = d.looks; scans = d.scans; parts = refl; at_ports = d.at_ports; are_scans = d.are_scans; go_on = d.go_on; ends = d.ends; ended_is = d.ended_is },
+      record { front = before; up_to_line = at; looks = d.looks; scans = d.scans; parts = refl; at_ports = d.at_ports; are_scans = d.are_scans; twice = d.twice refl; go_on = d.go_on; ends = d.ends; ended_is = d.ended_is },
       tt,
     ))
-piece_tells before (finish n) u d =
+piece_tells before at (finish n) u d =
     let es = all_entries d.scans in
     subst (EachAfter IsSeenItem before) (sym d.are) (each_joined IsSeenItem before (silent_items es) (said (to.Finish n (rounds_in d.scans)) ∷ []) (unseen_items before (silent_items es) (quiet_entries es)) (
-      record { front = before; scans = d.scans; parts = refl; are_scans = d.are_scans; rounds_are = refl },
+      record { front = before; up_to_line = at; scans = d.scans; parts = refl; few = d.few; are_scans = d.are_scans; twice = d.twice refl; ends = d.ends; rounds_are = refl },
       tt,
     ))
-piece_tells before show u d = subst (EachAfter IsSeenItem before) (sym d.are) (unseen_items before (said (to.Show d.graph) ∷ []) refl)
+piece_tells before at show u d = subst (EachAfter IsSeenItem before) (sym d.are) (unseen_items before (said (to.Show d.graph) ∷ []) refl)
 
-pieces_tell : (before ps : List Piece) → EachAfter (λ qs (p : Piece). IsDone false (items_of qs) p.statement p.items) before ps → EachAfter IsSeenItem (items_of before) (items_of ps)
-pieces_tell before [] each = tt
-pieces_tell before (p ∷ ps) each =
-    each_joined IsSeenItem (items_of before) p.items (items_of ps) (piece_tells (items_of before) p.statement p.items each.0)
-    (subst (λ v. EachAfter IsSeenItem v (items_of ps)) (items_pushed before p) (pieces_tell (before ++ p ∷ []) ps each.1))
+pieces_tell : (before ps : List Piece) → IsUpToLine (items_of before) → EachAfter (λ qs (p : Piece). IsDone false (items_of qs) p.statement p.items) before ps → EachAfter IsSeenItem (items_of before) (items_of ps)
+pieces_tell before [] at each = tt
+pieces_tell before (p ∷ ps) at each =
+    let ends : EndsWithLine (items_of (before ++ p ∷ [])) =
+    subst EndsWithLine (sym (items_pushed before p)) (ends_behind (items_of before) p.items (piece_ends (items_of before) p.statement p.items each.0)) in
+    each_joined IsSeenItem (items_of before) p.items (items_of ps) (piece_tells (items_of before) at p.statement p.items each.0)
+    (subst (λ v. EachAfter IsSeenItem v (items_of ps)) (items_pushed before p) (pieces_tell (before ++ p ∷ []) ps (inr ends) each.1))
 
 transcript_tells : (statements : List Statement) (t : List Item) → IsTranscript false statements t → Each IsSeenItem t
 transcript_tells statements t x =
@@ -221,48 +230,7 @@ transcript_tells statements t x =
     let none : tells_looks x.stop ≡ false =
     ap tells_looks x.stops.are ∙ quiet_both stopping (map sight_item x.stops.sights) (quiet_waiting x.stops.closed x.stops.how)
     (ap (list_any is_of_looks) (sight_lines x.stops.sights)) in
-    subst (Each IsSeenItem) x.are (each_joined IsSeenItem [] (items_of x.pieces) x.stop (pieces_tell [] x.pieces x.done) (unseen_items (items_of x.pieces) x.stop none))
+    subst (Each IsSeenItem) x.are (each_joined IsSeenItem [] (items_of x.pieces) x.stop (pieces_tell [] x.pieces (inl refl) x.done) (unseen_items (items_of x.pieces) x.stop none))
 
--- ---- a line by its place in the history
-
-record LineAt (t : List Item) (front : List HistoryLine) (l : HistoryLine) : Type 0 where
-  before : List Item
-  here : Item
-  back : List Item
-  parts : t ≡ before ++ here ∷ back
-  lines_are : lines before ≡ front
-  is : line_in here ≡ Some l
-
-told_at : (t : List Item) (front : List HistoryLine) (l : HistoryLine) (later : List HistoryLine) → lines t ≡ front ++ l ∷ later → LineAt t front l
-told_at [] [] l later h = absurd (cc h)
-told_at [] (y ∷ ys) l later h = absurd (cc h)
-told_at (silent e ∷ t) front l later h =
-    let w = told_at t front l later h in record { before = silent e ∷ w.before; here = w.here; back = w.back; parts = ap (λ v. silent e ∷ v) w.parts; lines_are = w.lines_are; is = w.is }
-told_at (told e k ∷ t) [] l later h = record { before = []; here = told e k; back = t; parts = refl; lines_are = refl; is = ap Some (heads_are k l (lines t) later h) }
-told_at (said k ∷ t) [] l later h = record { before = []; here = said k; back = t; parts = refl; lines_are = refl; is = ap Some (heads_are k l (lines t) later h) }
-told_at (told e k ∷ t) (y ∷ ys) l later h =
-    let w = told_at t ys l later (tails_are k y (lines t) (ys ++ l ∷ later) h) in
-    record { before = told e k ∷ w.before; here = w.here; back = w.back; parts = ap (λ v. told e k ∷ v) w.parts; lines_are = ap (λ v. k ∷ v) w.lines_are ∙ ap (λ v. v ∷ ys) (heads_are k y (lines t) (ys ++ l ∷ later) h); is = w.is }
-told_at (said k ∷ t) (y ∷ ys) l later h =
-    let w = told_at t ys l later (tails_are k y (lines t) (ys ++ l ∷ later) h) in
-    record { before = said k ∷ w.before; here = w.here; back = w.back; parts = ap (λ v. said k ∷ v) w.parts; lines_are = ap (λ v. k ∷ v) w.lines_are ∙ ap (λ v. v ∷ ys) (heads_are k y (lines t) (ys ++ l ∷ later) h); is = w.is }
-
-so_told : (before : List Item) (x : Item) (l : HistoryLine) → line_in x ≡ Some l → IsSeenItem before x → IsSeenSo before l
-so_told before (silent y) l h w = absurd (none-some l h)
-so_told before (told y k) l h w = subst (IsSeenSo before) (same_Some k l h) w
-so_told before (said k) l h w = subst (IsSeenSo before) (same_Some k l h) w
-
-pub told_as_seen : (statements : List Statement) (report : Report) (r : List Entry) (nodes : List NodeView) → AgreesWith statements report r nodes → Each (IsSeenIn r) report.history
-told_as_seen statements report r nodes a =
-    let came = a.came in
-    let t = came.transcript in
-    each_if (IsSeenIn r) [] report.history (λ front later l is.
-    let w = told_at t front l later (sym came.history_is ∙ is) in
-    record {
-      before = w.before;
-      later = entries (w.here ∷ w.back) ++ came.seen_behind;
-      lines_are = w.lines_are;
-      entries_are = came.record_is ∙ ap (λ v. entries v ++ came.seen_behind) w.parts ∙ ap (λ q. q ++ came.seen_behind) (entries_both w.before (w.here ∷ w.back))
-          ∙ append_assoc (entries w.before) (entries (w.here ∷ w.back)) came.seen_behind;
-      seen = so_told w.before w.here l w.is (each_at IsSeenItem w.before w.back w.here (subst (Each IsSeenItem) w.parts (transcript_tells statements t came.is_transcript)));
-    })
+pub told_as_seen : (statements : List Statement) (report : Report) (r : List Entry) (nodes : List NodeView) (h : AgreesWith statements report r nodes) → Each IsSeenItem h.came.transcript
+told_as_seen statements report r nodes h = transcript_tells statements h.came.transcript h.came.is_transcript
