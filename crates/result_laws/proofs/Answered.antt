@@ -1,16 +1,14 @@
 -- Which transactions of a row are answered: a Begin is its source's, and a run begins a port's serial once.
 use Rattle.std.proofs.Common.{◌≡◌, ◌∙◌, ℕ, ◌+◌, ◌<◌, ◌≤◌, Bool, true, false, cond, List, [], ◌∷◌, ◌++◌, append_assoc, length, Some, refl, sym, ap, subst, arith, inl, inr, ⊎_elim}
-use Rattle.std.specs.Prelude.{◌⊎◌, ◌==◌}
+use Rattle.std.specs.Prelude.{◌⊎◌, ◌==◌, option_map}
+use Rattle.std.specs.Option.{option_map_or}
 use Rattle.std.specs.List.{count_by}
 use Rattle.std.proofs.lemmas.Bool.{and_from, and_parts, cases_Bool, eq-eqb, eqb-true}
 use Rattle.std.proofs.lemmas.List.{append_cancel_left}
-use Rattle.std.proofs.lemmas.Option.{none-some}
-use Rattle.base.proofs.OptionLaws.{map_or_true}
+use Rattle.std.proofs.lemmas.Option.{same_Some}
 use Rattle.base.proofs.PlaceLaws.{heads_are}
 use Rattle.base.proofs.CountLaws.{one_place_of}
-use Rattle.config_graph.specs.declared.kind.Kind.TheVariants.{Map, Source}
-use Rattle.component_trait.specs.Fold.{after_event}
-use Rattle.component_trait.specs.States.{NodeState}
+use Rattle.config_graph.specs.declared.kind.Kind.TheVariants.{Source}
 use Rattle.quiesce_core.specs.Reach.{IsPortOf}
 use Rattle.quiesce_core.specs.Runs.{IsRun, is_begin_of, state_after}
 use Rattle.quiesce_core.specs.State.{Configuration, State, exchange, is_live, owner, slot}
@@ -31,11 +29,12 @@ use Rattle.quiesce_core.proofs.TableLaws.{gate_place}
 use Rattle.quiesce_laws.proofs.OrderLaws.{begun_count}
 use Rattle.change_round_laws.proofs.FoldLaws.{StatesAreHanded}
 use Rattle.result_laws.proofs.AtRest.{nothing_happens}
+use Rattle.result_laws.specs.Items.{IsOfSource}
+use Rattle.result_laws.specs.Rows.{is_of_row}
 use Rattle.result_laws.specs.Coming.{HasFolds, come}
 use Rattle.result_laws.proofs.ComingLaws.{at_place, facts, fits_of, folds_before, folds_on, stays}
 use Rattle.result_laws.proofs.Course.{Course}
 use Rattle.result_laws.proofs.Ends.{touched}
-use Rattle.result_laws.proofs.FactLaws.{of_parts}
 use Rattle.result_laws.proofs.Resting.{Begun, InRow, on_way_port, source_port}
 use Rattle.result_laws.proofs.Touching.{IsOnWay}
 
@@ -51,30 +50,6 @@ begun_once es run p k v w b c d e h h' =
     few : (q : Bool) → count_by (is_begin_of p k) es ≡ cond q 1 0 → count_by (is_begin_of p k) es ≤ 1
     few true is = omega (arith, is)
     few false is = omega (arith, is)
-
--- ---- a Begin is the source's
-
-module _ (handed : StatesAreHanded) (es : List Event) (p k v : ℕ) (here : IsNext es (Begin p k v)) (run' : IsRun (es ++ Begin p k v ∷ [])) (later : HasFolds (es ++ Begin p k v ∷ [])) (past : List ℕ) where
-  pub begins_at_source : (w : InRow es past) → p ≡ w.p
-  begins_at_source w = by (w.nodes (owner (state_after es).config p) live)
-    where
-      live : is_live (state_after es).config (owner (state_after es).config p) ≡ true
-      live = (and_parts _ (is_live (state_after es).config (owner (state_after es).config p)) here.legal.live).1
-
-      port_there : IsPortOf (state_after es).config (owner (state_after es).config p) p
-      port_there = here.well.sound.ports p (gate_place (state_after es) p here.legal.live)
-
-      by : (owner (state_after es).config p ≡ w.a) ⊎ IsOnWay w.ms w.t (owner (state_after es).config p) → p ≡ w.p
-      by (inl is) = source_port handed es here.run (folds_before handed es (Begin p k v) here run' later) past w.a w.p w.row.src p (subst (λ n. IsPortOf (state_after es).config n p) is port_there)
-      by (inr on) =
-          let m = map_or_true (λ (x : Slot). x.live) (slot (state_after es).config (owner (state_after es).config p)) live in
-          let kind = on_way_port (state_after es).config (come es) w.ms w.p w.t (owner (state_after es).config p) p w.row.way on port_there in
-          let folds = folds_on handed es (Begin p k v) here run' later refl in
-          absurd (map_begins_none_of m.0.first_port p k v (come es (owner (state_after es).config p)) (come (es ++ Begin p k v ∷ []) (owner (state_after es).config p)) kind
-          (folds.mine (owner (state_after es).config p) m.0 m.1 (eq-eqb (owner (state_after es).config p) (owner (state_after es).config p) refl)))
-        where
-          map_begins_none_of : (first p j v : ℕ) (n t : NodeState) → n.kind ≡ Map → after_event first n (Begin p j v) ≡ Some t → ⊥
-          map_begins_none_of first p j v n t kind h = none-some t (sym (ap (λ x. after_event first x (Begin p j v)) (of_parts n Map n.service kind refl)) ∙ h)
 
 -- ---- a port of a source stays one
 
@@ -108,7 +83,7 @@ source_port_stays es more_ run p w = along (λ xs. IsSourcePort xs p) unbarred (
 
 -- so where it is a port of a live node, it is the row's
 pub is_port_of_row : StatesAreHanded → (es : List Event) → IsRun es → HasFolds es → (past : List ℕ) → (w : InRow es past) → (p : ℕ) → IsSourcePort es p → is_live (state_after es).config (owner (state_after es).config p) ≡ true → p ≡ w.p
-is_port_of_row handed es run folds past w p s live = by (w.nodes (owner (state_after es).config p) live)
+is_port_of_row handed es run folds past w p s live = by (w.nodes (owner (state_after es).config p) s.node s.there (sym (ap (λ o. option_map_or (λ (x : Slot). x.live) o false) s.there) ∙ live) (ap is_of_row s.kind))
   where
     port_there : IsPortOf (state_after es).config (owner (state_after es).config p) p
     port_there = (runs_are_well_formed es run).sound.ports p s.made
@@ -139,9 +114,6 @@ untouched_at handed es e here run' later of_node past course = ⊎_elim
     (λ (f : touched es ≡ false). f)
     (cases_Bool (touched es))
 
-pub in_row_at : StatesAreHanded → (es : List Event) (e : Event) → IsNext es e → IsRun (es ++ e ∷ []) → HasFolds (es ++ e ∷ []) → is_of_change e ≡ false → (past : List ℕ) → Course es past → InRow es past
-in_row_at handed es e here run' later of_node past course = course.in_row (untouched_at handed es e here run' later of_node past course)
-
 -- two Begins at one place have one value
 value_here : (before first between after : List Event) (p k v q j w : ℕ) → before ++ Begin p k v ∷ between ≡ first ++ Begin q j w ∷ after → first ≡ before → v ≡ w
 value_here before first between after p k v q j w parts same =
@@ -157,25 +129,23 @@ pub record Answered (es before : List Event) (p v : ℕ) (past : List ℕ) (row 
   pub value : v ≡ length past + 1
 
 module _ (handed : StatesAreHanded) (all : List Event) (run : IsRun all) (folds : HasFolds all) where
-  pub answered : (before between after : List Event) (p k v r : ℕ) → all ≡ before ++ Begin p k v ∷ (between ++ End p k r ∷ after) → (past_0 : List ℕ) → Course before past_0 → (past : List ℕ)
+  pub answered : (before between after : List Event) (p k v r : ℕ) → all ≡ before ++ Begin p k v ∷ (between ++ End p k r ∷ after) → IsOfSource (state_after before).config p → (past : List ℕ)
       → (w : InRow (before ++ Begin p k v ∷ between) past) → Answered (before ++ Begin p k v ∷ between) before p v past w
-  answered before between after p k v r parts past_0 course_0 past w =
+  answered before between after p k v r parts of_source past w =
       let b = Begin p k v in
       let es = before ++ b ∷ between in
       let e = End p k r in
-      let first = at_place handed all run folds before (between ++ e ∷ after) b parts in
       let here_0 = place before (between ++ e ∷ after) b (subst IsRun parts run) in
-      let w_0 = in_row_at handed before b here_0 first.0 first.1 refl past_0 course_0 in
-      let is_0 = begins_at_source handed before p k v here_0 first.0 first.1 past_0 w_0 in
       let parts' : all ≡ es ++ e ∷ after = parts ∙ sym (append_assoc before (b ∷ between) (e ∷ after)) in
       let second = at_place handed all run folds es after e parts' in
       let here = place es after e (subst IsRun parts' run) in
-      let folds_0 = folds_before handed before b here_0 first.0 first.1 in
+      let made = gate_place (state_after before) p here_0.legal.live in
+      let own = here_0.well.sound.ports p made in
       let at_first : IsSourcePort before p = record {
-        made = gate_place (state_after before) p here_0.legal.live;
-        node = w_0.row.src.made;
-        there = ap (slot (state_after before).config) (ap (owner (state_after before).config) is_0 ∙ w_0.row.src.owned) ∙ w_0.row.src.there;
-        kind = sym ((fits_of handed before here_0.run folds_0).kinds w_0.a w_0.row.src.made w_0.row.src.there) ∙ w_0.row.src.kind;
+        made = made;
+        node = own.node;
+        there = own.made;
+        kind = same_Some own.node.node.kind Source (sym (ap (option_map (λ (n : Slot). n.node.kind)) own.made) ∙ of_source);
       } in
       let at_second = source_port_stays before (b ∷ between) here.run p at_first in
       let live = (and_parts _ (is_live (state_after es).config (owner (state_after es).config p)) here.legal.live).1 in

@@ -15,7 +15,7 @@ use Rattle.config_graph.specs.declared.node.Node.{Node}
 use Rattle.quiesce_laws.specs.Commits.{Differ}
 use Rattle.quiesce_laws.proofs.MemberLaws.{contains_in}
 use Rattle.quiesce_laws.specs.Lists.{Apart}
-use Rattle.quiesce_laws.specs.Steps.{change_all}
+use Rattle.quiesce_laws.specs.Steps.{change_all, is_shaping}
 use Rattle.quiesce_laws.specs.Work.{NewNode, Work, link_new, make_new, work_of}
 use Rattle.change_plan.specs.Differences.{IsGone}
 use Rattle.change_plan.specs.Plans.{IsPlanOf}
@@ -37,7 +37,7 @@ use Rattle.result_laws.specs.Keeping.{KeepsEnds, KeepsOrMoves}
 use Rattle.result_laws.specs.Describing.{kind_at}
 use Rattle.result_laws.specs.Rows.{IsRow}
 use Rattle.result_laws.proofs.Ends.{IsMadeWell, OneEach, each_is_last, last_made, same_sink, same_source, touched, touched_more}
-use Rattle.result_laws.proofs.Making.{OnceFrom, Well, calm_well, last_calm, makes_well, none_map, one_sink_at, one_source_at, stays_touched}
+use Rattle.result_laws.proofs.Making.{MayShape, OnceFrom, Well, alone_may, calm_well, last_calm, makes_well, may_behind, none_map, one_sink_at, one_source_at, shape_well, stays_touched}
 use Rattle.result_laws.proofs.Rising.{stand_of}
 use Rattle.result_laws.proofs.Staying.{is_reopen}
 use Rattle.result_laws.proofs.Takings.{none_created, takes_from}
@@ -105,12 +105,22 @@ module _ (es : List Event) (run : IsRun es) (each : Each Well es) (old new : Gra
   commit_well =
       each_joined Well es (work_of w ++ links) reopens
       (each_joined Well es (work_of w) links
-      (each_joined Well es (map event.Unlink w.unlinks) (map event.Remove w.removes ++ map make_new w.makes) (calm_well es (map event.Unlink w.unlinks) (none_map is_make event.Unlink (λ x. refl) w.unlinks))
-      (each_joined Well (es ++ map event.Unlink w.unlinks) (map event.Remove w.removes) (map make_new w.makes) (calm_well (es ++ map event.Unlink w.unlinks) (map event.Remove w.removes) (none_map is_make event.Remove (λ x. refl) w.removes))
+      (each_joined Well es (map event.Unlink w.unlinks) (map event.Remove w.removes ++ map make_new w.makes) (shape_well event.Unlink (λ x. (refl, refl)) es w.unlinks may)
+      (each_joined Well (es ++ map event.Unlink w.unlinks) (map event.Remove w.removes) (map make_new w.makes) (shape_well event.Remove (λ x. (refl, refl)) (es ++ map event.Unlink w.unlinks) w.removes may_remove)
       (by w.unlinks w.removes refl refl)))
-      (calm_well (es ++ work_of w) links (none_map is_make link_new (λ x. refl) (new_links new plan (change_all (state_after es).config (work_of w))))))
-      (calm_well (es ++ (work_of w ++ links)) reopens (none_map is_make event.Reopen (λ x. refl) (reopened_ports old new plan (state_after es).config)))
+      (shape_well link_new (λ x. (refl, refl)) (es ++ work_of w) (new_links new plan (change_all (state_after es).config (work_of w))) may_link))
+      (calm_well (es ++ (work_of w ++ links)) reopens (none_map is_shaping event.Reopen (λ x. refl) (reopened_ports old new plan (state_after es).config)))
     where
+      may : MayShape es
+      may = alone_may es old is keeps.from_alone
+
+      may_remove : MayShape (es ++ map event.Unlink w.unlinks)
+      may_remove = may_behind event.Unlink (λ x. refl) es w.unlinks may
+
+      may_link : MayShape (es ++ work_of w)
+      may_link = subst MayShape (append_assoc es (map event.Unlink w.unlinks) (map event.Remove w.removes ++ map make_new w.makes) ∙ refl) (subst MayShape (append_assoc (es ++ map event.Unlink w.unlinks) (map event.Remove w.removes) (map make_new w.makes))
+          (may_behind make_new (λ x. refl) ((es ++ map event.Unlink w.unlinks) ++ map event.Remove w.removes) w.makes (may_behind event.Remove (λ x. refl) (es ++ map event.Unlink w.unlinks) w.removes may_remove)))
+
       -- the makes, once a line before them touched
       then_ : (us rs : List ℕ) → touched ((es ++ map event.Unlink us) ++ map event.Remove rs) ≡ true → EachAfter Well ((es ++ map event.Unlink us) ++ map event.Remove rs) (map make_new (work old new plan (state_after es).config).makes)
       then_ us rs t = makes_well ((es ++ map event.Unlink us) ++ map event.Remove rs) (work old new plan (state_after es).config).makes t (on Source (once Source one_source (λ i j a b. one_source_at new q i a ∙ sym (one_source_at new q j b)) keeps.source r.source r.is_source))
@@ -136,7 +146,7 @@ module _ (es : List Event) (run : IsRun es) (each : Each Well es) (old new : Gra
       by : (us rs : List ℕ) → (work old new plan (state_after es).config).unlinks ≡ us → (work old new plan (state_after es).config).removes ≡ rs
           → EachAfter Well ((es ++ map event.Unlink (work old new plan (state_after es).config).unlinks) ++ map event.Remove (work old new plan (state_after es).config).removes) (map make_new (work old new plan (state_after es).config).makes)
       by [] [] no_unlinks no_removes =
-          none_made plan.create (λ j there. none_created (state_after es).config old new sound_old sound_new is moves plan is_plan r q no_unlinks no_removes j (gone_there j there)) (length (state_after es).config.slots) _
+          none_made plan.create (λ j there. none_created (state_after es).config old new sound_old sound_new is moves plan is_plan r q keeps.to_alone no_unlinks no_removes j (gone_there j there)) (length (state_after es).config.slots) _
       by (u ∷ us) rs has_unlinks has_removes =
           subst (λ xs. EachAfter Well ((es ++ map event.Unlink xs) ++ map event.Remove (work old new plan (state_after es).config).removes) (map make_new (work old new plan (state_after es).config).makes)) (sym has_unlinks)
           (then_ (u ∷ us) (work old new plan (state_after es).config).removes

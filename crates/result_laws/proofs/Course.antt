@@ -1,11 +1,11 @@
 -- The course of a run of rows: behind each of its events the row stands with what went through it, or a commit is under way, and
 -- all rests.
-use Rattle.std.proofs.Common.{◌≡◌, ◌∙◌, ℕ, ◌+◌, Bool, true, false, cond, List, [], ◌∷◌, ◌++◌, append_assoc, length, Option, None, refl, sym, ap, subst, arith, inl, inr, ⊎_elim}
-use Rattle.std.specs.Prelude.{◌⊎◌, ◌||◌, ◌==◌}
+use Rattle.std.proofs.Common.{◌≡◌, ◌∙◌, ℕ, ◌+◌, Bool, true, false, cond, List, [], ◌∷◌, ◌++◌, append_assoc, length, Option, Some, None, refl, sym, ap, subst, arith, inl, inr, ⊎_elim}
+use Rattle.std.specs.Prelude.{◌⊎◌, ◌||◌, ◌==◌, option_map}
 use Rattle.std.proofs.lemmas.Bool.{both_ways, cases_Bool, eq-eqb, eqb-true}
 use Rattle.std.proofs.lemmas.List.{append-nil}
 use Rattle.quiesce_laws.specs.Steps.{is_shaping}
-use Rattle.quiesce_laws.proofs.TurningLaws.{live_still, same_graph}
+use Rattle.quiesce_laws.proofs.TurningLaws.{same_graph}
 use Rattle.config_graph.specs.Graph.{Graph}
 use Rattle.config_graph.specs.declared.kind.Kind.TheVariants.{Sink, Source}
 use Rattle.config_graph.specs.declared.node.Node.{Node}
@@ -21,7 +21,8 @@ use Rattle.quiesce_core.specs.Legal.{Legal}
 use Rattle.quiesce_core.specs.Live.{IsGraphOf}
 use Rattle.quiesce_core.specs.Rules.{is_settled}
 use Rattle.quiesce_core.specs.Runs.{IsRun, is_doer, state_after}
-use Rattle.quiesce_core.specs.State.{State, exchange, owner, service}
+use Rattle.quiesce_core.specs.State.{State, exchange, owner, service, slot}
+use Rattle.quiesce_core.specs.declared.state.Slot.{Slot}
 use Rattle.quiesce_core.specs.declared.event.Event.{Event}
 use Rattle.quiesce_core.specs.declared.event.Event.TheVariants as event
 use Rattle.quiesce_core.proofs.InductionLaws.{IsNext, place}
@@ -31,8 +32,8 @@ use Rattle.result_laws.specs.Rows.{IsRow}
 use Rattle.result_laws.proofs.AtRest.{nothing_happens}
 use Rattle.result_laws.proofs.Between.{calm_makes_none, one_event}
 use Rattle.result_laws.specs.Coming.{HasFolds, come}
-use Rattle.result_laws.proofs.ComingLaws.{facts, folds_before, folds_on, fronts_fold}
-use Rattle.result_laws.proofs.Ends.{IsMadeWell, MakesWell, OneEach, each_is_last, last_made, last_more, same_sink, same_source, touch_next, touched, touched_more}
+use Rattle.result_laws.proofs.ComingLaws.{facts, fits_of, folds_before, folds_on, fronts_fold}
+use Rattle.result_laws.proofs.Ends.{AreOfRow, IsMadeWell, MakesWell, OneEach, each_is_last, last_made, last_more, same_sink, same_source, touch_next, touched, touched_more}
 use Rattle.result_laws.proofs.Passing.{Stop, passed}
 use Rattle.result_laws.proofs.ReopeningLaws.{links_stay}
 use Rattle.result_laws.proofs.Resting.{Begun, InRow, Rest, rests}
@@ -152,6 +153,8 @@ module _ (handed : StatesAreHanded) (es : List Event) (e : Event) (here : IsNext
             serial = j;
             parts = ap (λ z. es ++ z ∷ []) (is ∙ (λ i. event.Begin (at i) j ((val ∙ ap (λ n. n + 1) v_is) i)));
             stands = w.stands;
+            of_source = ap (λ i. option_map (λ (n : Slot). n.node.kind) (slot (state_after es).config i)) w.row.src.owned ∙ ap (option_map (λ (n : Slot). n.node.kind)) w.row.src.there
+                ∙ ap Some (sym ((fits_of handed es here.run folds).kinds w.a w.row.src.made w.row.src.there) ∙ w.row.src.kind);
             same = ap (λ (x : Exchange). x.serial) (after_is w.p ∙ ap (exchange_next (state_after es) w.p) is
                 ∙ ap (λ b. cond b (record { phase = phase.Asked; serial = j; value = v; within = None }) (exchange (state_after es) w.p)) (eq-eqb q w.p at));
           }
@@ -167,6 +170,7 @@ module _ (handed : StatesAreHanded) (es : List Event) (e : Event) (here : IsNext
             serial = old.serial;
             parts = ap (λ xs. xs ++ e ∷ []) old.parts ∙ append_assoc old.before (event.Begin w.p old.serial (length past + 1) ∷ old.after) (e ∷ []);
             stands = old.stands;
+            of_source = old.of_source;
             same = ap (λ (x : Exchange). x.serial) (after_is w.p) ∙ serial_stays (state_after es) e here.legal w.p was ∙ old.same;
           }
       by true was = ⊎_elim
@@ -201,7 +205,7 @@ module _ (handed : StatesAreHanded) (es : List Event) (e : Event) (here : IsNext
           source = last_more Source es e ∙ calm_last Source (last_made Source es) e lasts ∙ w.source;
           sink = last_more Sink es e ∙ calm_last Sink (last_made Sink es) e lasts ∙ w.sink;
           begun = begun_on past w go.next go.grows;
-          nodes = λ n live. w.nodes n (sym (live_still (state_after es).config (state_after (es ++ e ∷ [])).config same n) ∙ live);
+          nodes = λ n m there live of_row. w.nodes n m (ap (λ (s : List Slot). slot (record { slots = s; gates = [] }) n) (sym same.slots) ∙ there) live of_row;
         };
         grows = ⊎_elim (λ (still : go.next ≡ past). inl still) (λ (more_ : IsEndOf e w.p × (go.next ≡ past ++ passed (length past + 1) w.ms ∷ [])). inr (record { row = w; end_ = more_.0; more_ = more_.1 })) go.grows;
       }
@@ -220,7 +224,7 @@ module _ (handed : StatesAreHanded) (es : List Event) (e : Event) (here : IsNext
     grows = on.grows;
   }
 
-  module _ (well : (n : ℕ) (node : Node) (from : Option ℕ) → e ≡ event.Make n node from → IsMadeWell es node from) (opens : (p : ℕ) → e ≡ event.Reopen p → RowAt es) (one_source : OneEach Source es) (one_sink : OneEach Sink es) where
+  module _ (well : (n : ℕ) (node : Node) (from : Option ℕ) → e ≡ event.Make n node from → IsMadeWell es node from) (alone : is_shaping e ≡ true → touched es ≡ false → AreOfRow (state_after es).config) (opens : (p : ℕ) → e ≡ event.Reopen p → RowAt es) (one_source : OneEach Source es) (one_sink : OneEach Sink es) where
     -- out of a row
     from_row : touched es ≡ false → (past : List ℕ) → InRow es past → CourseNext es e past
     from_row calm past w = by e refl
@@ -228,14 +232,14 @@ module _ (handed : StatesAreHanded) (es : List Event) (e : Event) (here : IsNext
         calmly : is_shaping e ≡ false → CourseNext es e past
         calmly h = in_row_on (ap (λ b. touch_next b e) calm ∙ touch_calm e h) past (row_on h past w)
 
-        ends : (n : ℕ) → is_settled (state_after es) n ≡ true → is_of_change e ≡ true → is_reopen e ≡ false → touch_next (touched es) e ≡ true → CourseNext es e past
-        ends n settled change closed touches = rest_on touches past (rest_stays handed es e here run' later change closed well past (rests handed es here.run (folds_before handed es e here run' later) past w n settled))
+        ends : (n : ℕ) → is_shaping e ≡ true → is_settled (state_after es) n ≡ true → is_of_change e ≡ true → is_reopen e ≡ false → touch_next (touched es) e ≡ true → CourseNext es e past
+        ends n shaping settled change closed touches = rest_on touches past (rest_stays handed es e here run' later change closed well past (rests handed es here.run (folds_before handed es e here run' later) past w (alone shaping calm) n settled))
 
         by : (z : Event) → e ≡ z → CourseNext es e past
         by (event.Make n node from) is = absurd (both_ways (touched es) calm (well n node from is).behind)
-        by (event.Link p n x) is = ends (owner (state_after es).config p) (subst (Legal (state_after es)) is here.legal).settled (ap is_of_change is) (ap is_reopen is) (ap (touch_next (touched es)) is)
-        by (event.Unlink p) is = ends (owner (state_after es).config p) (subst (Legal (state_after es)) is here.legal).settled (ap is_of_change is) (ap is_reopen is) (ap (touch_next (touched es)) is)
-        by (event.Remove n) is = ends n (subst (Legal (state_after es)) is here.legal).settled (ap is_of_change is) (ap is_reopen is) (ap (touch_next (touched es)) is)
+        by (event.Link p n x) is = ends (owner (state_after es).config p) (ap is_shaping is) (subst (Legal (state_after es)) is here.legal).settled (ap is_of_change is) (ap is_reopen is) (ap (touch_next (touched es)) is)
+        by (event.Unlink p) is = ends (owner (state_after es).config p) (ap is_shaping is) (subst (Legal (state_after es)) is here.legal).settled (ap is_of_change is) (ap is_reopen is) (ap (touch_next (touched es)) is)
+        by (event.Remove n) is = ends n (ap is_shaping is) (subst (Legal (state_after es)) is here.legal).settled (ap is_of_change is) (ap is_reopen is) (ap (touch_next (touched es)) is)
         by _ is = calmly (ap is_shaping is)
 
     -- out of a rest
@@ -278,9 +282,9 @@ module _ (handed : StatesAreHanded) (all : List Event) (run : IsRun all) (folds 
       let whole = parts ∙ sym (append_assoc before (e ∷ []) after) in
       let run' = fronts_are_runs (before ++ e ∷ []) after (subst IsRun whole run) in
       step_on handed before e (place before after e (subst IsRun parts run)) run' (fronts_fold handed (before ++ e ∷ []) after (subst IsRun whole run) (subst HasFolds whole folds))
-      (λ n node from is. makes before after n node from (parts ∙ ap (λ z. before ++ z ∷ after) is)) (λ p is. opens before after p (parts ∙ ap (λ z. before ++ z ∷ after) is))
-      (each_is_last Source same_source all run (λ b a n node from p kind. (makes b a n node from p).source kind) before (e ∷ after) parts)
-      (each_is_last Sink same_sink all run (λ b a n node from p kind. (makes b a n node from p).sink kind) before (e ∷ after) parts) past course
+      (λ n node from is. makes.made before after n node from (parts ∙ ap (λ z. before ++ z ∷ after) is)) (makes.alone before after e parts) (λ p is. opens before after p (parts ∙ ap (λ z. before ++ z ∷ after) is))
+      (each_is_last Source same_source all run (λ b a n node from p kind. (makes.made b a n node from p).source kind) before (e ∷ after) parts)
+      (each_is_last Sink same_sink all run (λ b a n node from p kind. (makes.made b a n node from p).sink kind) before (e ∷ after) parts) past course
 
   course_from : (done xs after : List Event) → all ≡ done ++ (xs ++ after) → CourseAt done → CourseAt (done ++ xs)
   course_from done [] after parts at = subst CourseAt (sym (append-nil done)) at

@@ -1,5 +1,5 @@
 -- A lawful report of rows has its items.
-use Rattle.std.proofs.Common.{◌≡◌, ◌∙◌, ℕ, ◌+◌, true, false, List, [], ◌∷◌, ◌++◌, Some, refl, sym, ap, arith}
+use Rattle.std.proofs.Common.{◌≡◌, ◌∙◌, ℕ, ◌+◌, true, false, List, [], ◌∷◌, ◌++◌, Some, refl, sym, ap, subst, arith}
 use Rattle.std.specs.Prelude.{◌==◌, option_map, slice_get}
 use Rattle.std.specs.Option.{option_map_or}
 use Rattle.std.proofs.lemmas.Bool.{both_ways, eq-eqb, ne_eqb}
@@ -12,6 +12,7 @@ use Rattle.config_graph.specs.declared.kind.Kind.{Kind}
 use Rattle.config_graph.specs.declared.kind.Kind.TheVariants.{Sink, Source}
 use Rattle.config_graph.specs.declared.node.Node.{Node}
 use Rattle.quiesce_core.specs.Live.{IsGraphOf}
+use Rattle.quiesce_core.specs.Runs.{state_after}
 use Rattle.quiesce_core.specs.State.{slot}
 use Rattle.quiesce_core.specs.Doers.{is_of_change}
 use Rattle.quiesce_core.specs.declared.event.Event.{Event}
@@ -28,7 +29,7 @@ use Rattle.change_spec.proofs.MemberLaws.{events_parts}
 use Rattle.change_round_laws.specs.SoundStatements.{AreSound}
 use Rattle.change_round_laws.proofs.CommitGraphLaws.{CommitsByConfiguration, CommitsLeaveGraphs, EachMayCommit}
 use Rattle.change_round_laws.proofs.FoldLaws.{StatesAreHanded}
-use Rattle.result_laws.specs.Items.{HasItems, IsItem, IsLogOfLive, WasAnswered}
+use Rattle.result_laws.specs.Items.{HasItems, IsItem, IsLogOfLive, IsOfSource, WasAnswered}
 use Rattle.result_laws.specs.Keeping.{AreRows}
 use Rattle.result_laws.specs.Describing.{kind_at}
 use Rattle.result_laws.specs.Rows.{IsRow, through}
@@ -63,6 +64,7 @@ record NodePlaced (m : List Member) (before after : List Event) (e : Event) : Ty
   front : List Member
   back : List Member
   parts : m ≡ front ++ by_node e ∷ back
+  ahead : events front ≡ before
   behind : events back ≡ after
 
 node_placed : (m : List Member) (before after : List Event) (e : Event) → is_of_change e ≡ false → events m ≡ before ++ e ∷ after → NodePlaced m before after e
@@ -70,7 +72,7 @@ node_placed m before after e of_node parts =
     let w = placed m before after e parts in
     let is = member_is w.member e w.is of_node in
     let split : m ≡ w.front ++ by_node e ∷ w.back = w.parts ∙ ap (λ x. w.front ++ x ∷ w.back) is in
-    record { front = w.front; back = w.back; parts = split; behind = behind w.front w.back split w.events_are }
+    record { front = w.front; back = w.back; parts = split; ahead = w.events_are; behind = behind w.front w.back split w.events_are }
   where
     behind : (front back : List Member) → m ≡ front ++ by_node e ∷ back → events front ≡ before → events back ≡ after
     behind front back split are =
@@ -93,6 +95,7 @@ was_answered m v item w =
       serial = w.serial;
       answer = w.answer;
       parts = first.parts ∙ ap (λ xs. first.front ++ by_node b ∷ xs) second.parts;
+      of_source = subst (λ xs. IsOfSource (state_after xs).config w.port) (sym first.ahead) w.of_source;
       not_0 = λ is. both_ways (w.answer == 0) w.not_0 (eq-eqb w.answer 0 is);
     }
 
@@ -122,7 +125,7 @@ module _ (handed : StatesAreHanded) (each_may : EachMayCommit) (by_config : Comm
   item_of : (j item : ℕ) (b : WasAnswered l.members (j + 1)) → slice_get whole.past j ≡ Some item → IsItem l.members (j + 1) item b
   item_of j item b at =
       let s = served handed (events l.members) l.by_them.runs folds open_rows make_well (events b.before) (events b.between) (events b.after) b.port b.serial (j + 1) b.answer
-      (events_at l.members b.before b.between b.after (event.Begin b.port b.serial (j + 1)) (event.End b.port b.serial b.answer) b.parts) (ne_eqb b.answer 0 b.not_0) in
+      (events_at l.members b.before b.between b.after (event.Begin b.port b.serial (j + 1)) (event.End b.port b.serial b.answer) b.parts) b.of_source (ne_eqb b.answer 0 b.not_0) in
       let same : s.items ≡ whole.past = sym (ends_of s.items s.course).items ∙ ends.items in
       let place = s.value in
       let here : s.place ≡ j = omega (arith, place) in
@@ -137,9 +140,9 @@ module _ (handed : StatesAreHanded) (each_may : EachMayCommit) (by_config : Comm
   items source sink src snk =
       let es = events l.members in
       let first : last_made Source es ≡ Some source.slot =
-      each_is_last Source same_source es l.by_them.runs (λ b a n node from p kind. (make_well b a n node from p).source kind) es [] (sym (append-nil es)) source.slot src.made src.at src.live src.kind in
+      each_is_last Source same_source es l.by_them.runs (λ b a n node from p kind. (make_well.made b a n node from p).source kind) es [] (sym (append-nil es)) source.slot src.made src.at src.live src.kind in
       let second : last_made Sink es ≡ Some sink.slot =
-      each_is_last Sink same_sink es l.by_them.runs (λ b a n node from p kind. (make_well b a n node from p).sink kind) es [] (sym (append-nil es)) sink.slot snk.made snk.at snk.live snk.kind in
+      each_is_last Sink same_sink es l.by_them.runs (λ b a n node from p kind. (make_well.made b a n node from p).sink kind) es [] (sym (append-nil es)) sink.slot snk.made snk.at snk.live snk.kind in
       record {
         items = whole.past;
         source_says = log_ends l.members report l.by_them.merge l.by_them.runs handed l.by_them.folds Source source src
@@ -175,9 +178,9 @@ module _ (handed : StatesAreHanded) (each_may : EachMayCommit) (by_config : Comm
       let second = log_of_kind last_.graph last_.stands Sink row.sink row.is_sink in
       (first.0, second.0, first.1, second.1)
 
-  pub not_0 : (before between after : List Member) (port serial value answer : ℕ) → l.members ≡ before ++ by_node (event.Begin port serial value) ∷ (between ++ by_node (event.End port serial answer) ∷ after) → answer ≡ 0 → ⊥
-  not_0 before between after port serial value answer parts is =
+  pub not_0 : (before between after : List Member) (port serial value answer : ℕ) → l.members ≡ before ++ by_node (event.Begin port serial value) ∷ (between ++ by_node (event.End port serial answer) ∷ after) → IsOfSource (state_at before).config port → answer ≡ 0 → ⊥
+  not_0 before between after port serial value answer parts of_source is =
       both_ways (answer == 0)
       (not_answered_0 handed (events l.members) l.by_them.runs folds open_rows make_well (events before) (events between) (events after) port serial value answer
-      (events_at l.members before between after (event.Begin port serial value) (event.End port serial answer) parts))
+      (events_at l.members before between after (event.Begin port serial value) (event.End port serial answer) parts) of_source)
       (eq-eqb answer 0 is)

@@ -44,7 +44,8 @@ use Rattle.result_laws.specs.Describing.{Describes}
 use Rattle.result_laws.specs.Keeping.{KeepEndsFrom, KeepsEnds}
 use Rattle.result_laws.specs.Rows.{IsRow}
 use Rattle.result_laws.proofs.Committing.{commit_well}
-use Rattle.result_laws.proofs.Making.{OnceFrom, Well, calm_well, makes_well, none_map, one_sink_at, one_source_at}
+use Rattle.result_laws.proofs.Making.{OnceFrom, Well, calm_well, held_well, makes_well, none_map, one_sink_at, one_source_at, stays_touched}
+use Rattle.result_laws.proofs.Staying.{is_reopen}
 use Rattle.result_laws.proofs.ReopeningLaws.{front_runs, graph_on}
 use Rattle.base.proofs.ListLaws.{all_parts, none_both}
 
@@ -131,19 +132,20 @@ start_well g q =
     (each_joined Well [] makes links
     (subst (EachAfter Well []) (sym (makes_of_start 0 g.nodes)) (makes_well [] (news 0 g.nodes) refl
     (start_once Source 0 g.nodes (λ i j a b. one_source_at g q i a ∙ sym (one_source_at g q j b))) (start_once Sink 0 g.nodes (λ i j a b. one_sink_at g q i a ∙ sym (one_sink_at g q j b)))))
-    (calm_well makes links (none_linked g (enumerate_from 0 (ports g.nodes)) is_make (λ p n x. refl))))
-    (calm_well (makes ++ links) (map reopen_of (enumerate_from 0 (ports g.nodes))) (none_map is_make reopen_of (λ x. refl) (enumerate_from 0 (ports g.nodes))))
+    (held_well makes links (none_linked g (enumerate_from 0 (ports g.nodes)) is_make (λ p n x. refl)) (none_linked g (enumerate_from 0 (ports g.nodes)) is_reopen (λ p n x. refl))
+    (stays_touched [] makes (none_map is_reopen make_of (λ x. refl) (enumerate_from 0 g.nodes)) refl)))
+    (calm_well (makes ++ links) (map reopen_of (enumerate_from 0 (ports g.nodes))) (none_map is_shaping reopen_of (λ x. refl) (enumerate_from 0 (ports g.nodes))))
 
 -- ---- statement by statement
 
-pub makeless : (xs ys : List HistoryLine) → list_any is_make (changes xs) ≡ false → list_any is_make (changes ys) ≡ false → list_any is_make (changes (xs ++ ys)) ≡ false
-makeless xs ys h k = ap (list_any is_make) (changes_both xs ys) ∙ none_both is_make (changes xs) (changes ys) h k
+pub makeless : (xs ys : List HistoryLine) → list_any is_shaping (changes xs) ≡ false → list_any is_shaping (changes ys) ≡ false → list_any is_shaping (changes (xs ++ ys)) ≡ false
+makeless xs ys h k = ap (list_any is_shaping) (changes_both xs ys) ∙ none_both is_shaping (changes xs) (changes ys) h k
 
-pub closes_makeless : (ps : List ℕ) → list_any is_make (changes (map to.Close ps)) ≡ false
-closes_makeless ps = ap (list_any is_make) (changes_of_closes ps) ∙ none_map is_make event.Close (λ x. refl) ps
+pub closes_makeless : (ps : List ℕ) → list_any is_shaping (changes (map to.Close ps)) ≡ false
+closes_makeless ps = ap (list_any is_shaping) (changes_of_closes ps) ∙ none_map is_shaping event.Close (λ x. refl) ps
 
-pub looks_makeless : (looks : List Seen) → list_any is_make (changes (map drained_line looks)) ≡ false
-looks_makeless looks = ap (list_any is_make) (changes_of_looks looks)
+pub looks_makeless : (looks : List Seen) → list_any is_shaping (changes (map drained_line looks)) ≡ false
+looks_makeless looks = ap (list_any is_shaping) (changes_of_looks looks)
 
 module _ (each_may : EachMayCommit) (by_config : CommitsByConfiguration) (leaves : CommitsLeaveGraphs) (statements : List Statement) where
   record WellOn (done : List Statement) (s : Statement) (h ls : List HistoryLine) (rest : List Statement) (old : Graph) : Type 0 where
@@ -170,7 +172,7 @@ module _ (each_may : EachMayCommit) (by_config : CommitsByConfiguration) (leaves
       ∙ changes_both (lines_of_events ev) (to.Commit ∷ []) ∙ append-nil (changes (lines_of_events ev)) ∙ changes_of_lines ev ∙ commit_kept old new plan d in
       let all_is : changes ls ≡ closes ++ ev = ap changes are ∙ changes_both o tail ∙ (λ i. o_is i ++ tail_is i) in
       let both : changes (h ++ o) ≡ changes h ++ closes = changes_both h o ∙ ap (λ xs. changes h ++ xs) o_is in
-      let calm = calm_well (changes h) closes (none_map is_make event.Close (λ x. refl) (ports_to_close old plan (config_after h))) in
+      let calm = calm_well (changes h) closes (none_map is_shaping event.Close (λ x. refl) (ports_to_close old plan (config_after h))) in
       let runs = front_runs (h ++ o) tail (subst (λ xs. IsRun (changes xs)) (sym (append_assoc h o tail)) (subst (λ xs. IsRun (changes (h ++ xs))) are goes)) in
       let stands = graph_on h o old runs (ap (list_any is_shaping) o_is ∙ none_map is_shaping event.Close (λ x. refl) (ports_to_close old plan (config_after h))) is in
       let well = commit_well (changes (h ++ o)) runs (subst (Each Well) (sym both) (each_joined Well [] (changes h) closes each calm)) old new moves plan sound_old sound_new
@@ -179,13 +181,13 @@ module _ (each_may : EachMayCommit) (by_config : CommitsByConfiguration) (leaves
       (each_joined Well (changes h) closes ev calm (subst (λ xs. EachAfter Well xs ev) both (subst (λ c. EachAfter Well (changes (h ++ o)) (commit_events old new plan c)) (config_of (h ++ o)) well)))
 
   given_up : (h : List HistoryLine) (name : List ℕ) (args : List ℤ) (old : Graph) (plan : Plan) (within : ℕ) (looks : List (List Seen)) (left : List Seen) (closed : List ℕ) (ls : List HistoryLine) (c : Configuration)
-      → ls ≡ opening_lines name args old plan c ++ (drained_lines looks ++ pending_lines within left closed) → list_any is_make (changes ls) ≡ false
+      → ls ≡ opening_lines name args old plan c ++ (drained_lines looks ++ pending_lines within left closed) → list_any is_shaping (changes ls) ≡ false
   given_up h name args old plan within looks left closed ls c are =
-      ap (λ xs. list_any is_make (changes xs)) are
+      ap (λ xs. list_any is_shaping (changes xs)) are
       ∙ makeless (opening_lines name args old plan c) (drained_lines looks ++ pending_lines within left closed) (closes_makeless (ports_to_close old plan c))
       (makeless (drained_lines looks) (pending_lines within left closed) (looks_makeless (seen_in_all looks))
       (makeless (to.Pending within ∷ map root_line left ++ map to.Reopen closed) (to.Abandon ∷ [])
-      (makeless (to.Pending within ∷ map root_line left) (map to.Reopen closed) (ap (list_any is_make) (changes_of_roots left)) (ap (list_any is_make) (changes_of_reopens closed) ∙ none_map is_make event.Reopen (λ x. refl) closed)) refl))
+      (makeless (to.Pending within ∷ map root_line left) (map to.Reopen closed) (ap (list_any is_shaping) (changes_of_roots left)) (ap (list_any is_shaping) (changes_of_reopens closed) ∙ none_map is_shaping event.Reopen (λ x. refl) closed)) refl))
 
   well_statement : (done : List Statement) (s : Statement) (h ls : List HistoryLine) (rest : List Statement) (g : Graph) (made : Made) → statements ≡ done ++ s ∷ rest → IsRight h s ls → IsRun (changes (h ++ ls))
       → Fits done h g made → GoOnSoundly (s ∷ rest) g made → IsRow g → All (Describes IsRow) statements → KeepEndsFrom g (s ∷ rest) → Each Well (changes h) → WellOn done s h ls rest g
@@ -196,7 +198,7 @@ module _ (each_may : EachMayCommit) (by_config : CommitsByConfiguration) (leaves
       record {
         onward = first;
         well = ⊎_elim
-            (λ (skipped : list_any is_pending h ≡ true). calm_well (changes h) (changes ls) (ap (λ xs. list_any is_make (changes xs)) (right.0 skipped)))
+            (λ (skipped : list_any is_pending h ≡ true). calm_well (changes h) (changes ls) (ap (λ xs. list_any is_shaping (changes xs)) (right.0 skipped)))
             (λ (tried : list_any is_pending h ≡ false). tried_well new_has tried (right.1 tried))
             (cases_Bool (list_any is_pending h));
         has = subst IsRow (sym first.named) new_has;
@@ -215,13 +217,13 @@ module _ (each_may : EachMayCommit) (by_config : CommitsByConfiguration) (leaves
           w.ends
   well_statement done (run k) h ls rest g made parts right goes fits says has all ends each =
       let first = onward each_may by_config leaves statements done (run k) h ls rest g made parts right (front_runs h ls goes) fits says in
-      record { onward = first; well = calm_well (changes h) (changes ls) (ap (λ xs. list_any is_make (changes xs)) right.are); has = subst IsRow (sym first.named) has }
+      record { onward = first; well = calm_well (changes h) (changes ls) (ap (λ xs. list_any is_shaping (changes xs)) right.are); has = subst IsRow (sym first.named) has }
   well_statement done (finish n) h ls rest g made parts right goes fits says has all ends each =
       let first = onward each_may by_config leaves statements done (finish n) h ls rest g made parts right (front_runs h ls goes) fits says in
-      record { onward = first; well = calm_well (changes h) (changes ls) (ap (λ xs. list_any is_make (changes xs)) right.are); has = subst IsRow (sym first.named) has }
+      record { onward = first; well = calm_well (changes h) (changes ls) (ap (λ xs. list_any is_shaping (changes xs)) right.are); has = subst IsRow (sym first.named) has }
   well_statement done show h ls rest g made parts right goes fits says has all ends each =
       let first = onward each_may by_config leaves statements done show h ls rest g made parts right (front_runs h ls goes) fits says in
-      record { onward = first; well = calm_well (changes h) (changes ls) (ap (λ xs. list_any is_make (changes xs)) right.are); has = subst IsRow (sym first.named) has }
+      record { onward = first; well = calm_well (changes h) (changes ls) (ap (λ xs. list_any is_shaping (changes xs)) right.are); has = subst IsRow (sym first.named) has }
 
   ends_on : (s : Statement) (rest : List Statement) (g : Graph) → KeepEndsFrom g (s ∷ rest) → KeepEndsFrom (named_by s g) rest
   ends_on (start name args new) rest g ends = ends

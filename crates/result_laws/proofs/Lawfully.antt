@@ -11,9 +11,10 @@ use Rattle.config_graph.specs.Graph.{Graph}
 use Rattle.config_graph.specs.declared.kind.Kind.{Kind}
 use Rattle.config_graph.specs.declared.kind.Kind.TheVariants.{Sink, Source}
 use Rattle.config_graph.specs.declared.node.Made.{Made}
-use Rattle.quiesce_laws.specs.Steps.{live_ports}
-use Rattle.quiesce_core.specs.Doers.{is_make, is_of_change}
-use Rattle.quiesce_core.specs.Runs.{IsRun}
+use Rattle.quiesce_laws.specs.Steps.{is_shaping, live_ports}
+use Rattle.quiesce_core.specs.Doers.{is_of_change}
+use Rattle.config_graph.specs.declared.node.Node.{Node}
+use Rattle.quiesce_core.specs.Runs.{IsRun, state_after}
 use Rattle.quiesce_core.specs.declared.event.Event.{Event}
 use Rattle.quiesce_core.specs.declared.event.Event.TheVariants as event
 use Rattle.quiesce_core.proofs.RunLaws.{fronts_are_runs}
@@ -28,7 +29,7 @@ use Rattle.change_spec.specs.Scene.{config_after, drained_line}
 use Rattle.change_spec.specs.Statements.{Statement, start, change, run, finish, show}
 use Rattle.change_spec.proofs.MemberLaws.{changes_are_lines, events_without_roots}
 use Rattle.change_round_laws.specs.SoundStatements.{AreSound, GoOnSoundly}
-use Rattle.change_round_laws.proofs.AloneLaws.{changes_run}
+use Rattle.change_round_laws.proofs.AloneLaws.{alone, changes_run}
 use Rattle.change_round_laws.proofs.CommitGraphLaws.{AreRightAfter, CommitsByConfiguration, CommitsLeaveGraphs, EachMayCommit, Fits, begun}
 use Rattle.change_round_laws.proofs.FoldLaws.{StatesAreHanded}
 use Rattle.change_round_laws.proofs.LineLaws.{changes, changes_both, changes_of_lines}
@@ -37,7 +38,7 @@ use Rattle.result_laws.specs.Keeping.{AreRows, KeepEndsFrom}
 use Rattle.result_laws.specs.Rows.{IsRow}
 use Rattle.result_laws.specs.Coming.{HasFolds}
 use Rattle.result_laws.proofs.Course.{CourseAt, CourseNext, Course, RowAt, course_at, course_next}
-use Rattle.result_laws.proofs.Ends.{IsMadeWell, MakesWell, last_next, touch_next}
+use Rattle.result_laws.proofs.Ends.{AreOfRow, IsMadeWell, MakesWell, last_next, touch_next, touched}
 use Rattle.result_laws.proofs.Histories.{all_well, closes_makeless, described_has, looks_makeless, makeless, start_kept, start_well}
 use Rattle.result_laws.proofs.Making.{Well, calm_well}
 use Rattle.result_laws.proofs.PlacedLaws.{opened_at}
@@ -77,8 +78,8 @@ module _ (each_may : EachMayCommit) (by_config : CommitsByConfiguration) (leaves
       let first = lines_of f.parts in
       let both : changes history ≡ changes first ++ changes f.stop = ap changes (sym f.history_is) ∙ changes_both first f.stop in
       let live = live_ports (config_after first) in
-      let calm : list_any is_make (changes f.stop) ≡ false =
-      ap (λ xs. list_any is_make (changes xs)) f.stops.are ∙ makeless (map to.Close live) (map drained_line f.stops.seen) (closes_makeless live) (looks_makeless f.stops.seen) in
+      let calm : list_any is_shaping (changes f.stop) ≡ false =
+      ap (λ xs. list_any is_shaping (changes xs)) f.stops.are ∙ makeless (map to.Close live) (map drained_line f.stops.seen) (closes_makeless live) (looks_makeless f.stops.seen) in
       subst (Each Well) (sym both)
       (each_joined Well [] (changes first) (changes f.stop)
       (from_start f.parts (sym f.statements_are) (right_after each_may by_config leaves statements IsRow [] f.parts f.right) (subst AreSound (sym f.statements_are) sound) (fronts_are_runs (changes first) (changes f.stop) (subst IsRun both goes)) rows.rows
@@ -110,23 +111,49 @@ last_nothing k o _ h = refl
 kept_make : (xs : List Event) (e : Event) → is_of_change e ≡ true → filter is_of_change (e ∷ xs) ≡ e ∷ filter is_of_change xs
 kept_make xs e h = rw h refl
 
-makes_all : (es : List Event) → Each Well (filter is_of_change es) → MakesWell es
-makes_all es each before after n node from parts =
-    let e = event.Make n node from in
-    let split : filter is_of_change es ≡ filter is_of_change before ++ e ∷ filter is_of_change after = ap (filter is_of_change) parts ∙ filter-append is_of_change before (e ∷ after) ∙ ap (λ xs. filter is_of_change before ++ xs) (kept_make after e refl) in
-    let w : IsMadeWell (filter is_of_change before) node from = each_at Well (filter is_of_change before) (filter is_of_change after) e (subst (Each Well) split each) in
-    record {
-      behind = sym (kept_fold touch_next touch_nothing true before) ∙ w.behind;
-      source = λ kind. w.source kind ∙ kept_fold (last_next Source) (last_nothing Source) None before;
-      sink = λ kind. w.sink kind ∙ kept_fold (last_next Sink) (last_nothing Sink) None before;
-    }
+module _ (es : List Event) (goes : IsRun es) (each : Each Well (filter is_of_change es)) where
+  well_among : (before after : List Event) (e : Event) → es ≡ before ++ e ∷ after → is_of_change e ≡ true → Well (filter is_of_change before) e
+  well_among before after e parts of_change =
+      let split : filter is_of_change es ≡ filter is_of_change before ++ e ∷ filter is_of_change after = ap (filter is_of_change) parts ∙ filter-append is_of_change before (e ∷ after) ∙ ap (λ xs. filter is_of_change before ++ xs) (kept_make after e of_change) in
+      each_at Well (filter is_of_change before) (filter is_of_change after) e (subst (Each Well) split each)
+
+  made_among : (before after : List Event) (n : ℕ) (node : Node) (from : Option ℕ) → es ≡ before ++ event.Make n node from ∷ after → IsMadeWell before node from
+  made_among before after n node from parts =
+      let w : IsMadeWell (filter is_of_change before) node from = well_among before after (event.Make n node from) parts refl in
+      record {
+        behind = sym (kept_fold touch_next touch_nothing true before) ∙ w.behind;
+        source = λ kind. w.source kind ∙ kept_fold (last_next Source) (last_nothing Source) None before;
+        sink = λ kind. w.sink kind ∙ kept_fold (last_next Sink) (last_nothing Sink) None before;
+      }
+
+  alone_among : (before after : List Event) (e : Event) → es ≡ before ++ e ∷ after → is_shaping e ≡ true → touched before ≡ false → AreOfRow (state_after before).config
+  alone_among before after e parts shaping calm = by e refl
+    where
+      calm_then : touched (filter is_of_change before) ≡ false
+      calm_then = kept_fold touch_next touch_nothing true before ∙ calm
+
+      so : AreOfRow (state_after (filter is_of_change before)).config → AreOfRow (state_after before).config
+      so h = subst AreOfRow (alone before (fronts_are_runs before (e ∷ after) (subst IsRun parts goes))).config h
+
+      at : (z : Event) → e ≡ z → es ≡ before ++ z ∷ after
+      at z is = parts ∙ ap (λ y. before ++ y ∷ after) is
+
+      by : (z : Event) → e ≡ z → AreOfRow (state_after before).config
+      by (event.Make n node from) is = absurd (both_ways (touched before) calm (made_among before after n node from (at (event.Make n node from) is)).behind)
+      by (event.Link p n x) is = so (well_among before after (event.Link p n x) (at (event.Link p n x) is) refl refl calm_then)
+      by (event.Unlink p) is = so (well_among before after (event.Unlink p) (at (event.Unlink p) is) refl refl calm_then)
+      by (event.Remove n) is = so (well_among before after (event.Remove n) (at (event.Remove n) is) refl refl calm_then)
+      by _ is = absurd (both_ways false refl (sym (ap is_shaping is) ∙ shaping))
+
+  makes_all : MakesWell es
+  makes_all = record { made = made_among; alone = alone_among }
 
 module _ (handed : StatesAreHanded) (each_may : EachMayCommit) (by_config : CommitsByConfiguration) (leaves : CommitsLeaveGraphs) (statements : List Statement) (report : Report) (m : List Member) (sound : AreSound statements) (rows : AreRows statements)
     (follows : Follows statements report.history) (merge : Merge m report) (goes : IsRun (events m)) (folds : HasFolds (events m)) where
   pub makes : MakesWell (events m)
   makes =
       let changed : filter is_of_change (events m) ≡ changes report.history = changes_are_lines m merge.by_nodes ∙ ap changes merge.history ∙ events_without_roots report.history in
-      makes_all (events m) (subst (Each Well) (sym changed) (history_well each_may by_config leaves statements report.history sound rows follows (subst IsRun changed (changes_run (events m) goes))))
+      makes_all (events m) goes (subst (Each Well) (sym changed) (history_well each_may by_config leaves statements report.history sound rows follows (subst IsRun changed (changes_run (events m) goes))))
 
   pub opens : (before after : List Event) (p : ℕ) → events m ≡ before ++ event.Reopen p ∷ after → RowAt before
   opens before after p parts =

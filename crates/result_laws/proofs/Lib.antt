@@ -36,6 +36,7 @@ pub mod Adding
 pub mod Offices
 pub mod Moving
 pub mod Balance
+pub mod Beginning
 pub mod Serials
 pub mod Leading
 pub mod Ledger

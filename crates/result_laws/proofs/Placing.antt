@@ -15,6 +15,7 @@ use Rattle.quiesce_core.specs.declared.event.Event.{Event}
 use Rattle.quiesce_core.specs.declared.event.Event.TheVariants.{Begin, End, Reopen}
 use Rattle.quiesce_core.proofs.InductionLaws.{IsNext, place}
 use Rattle.change_round_laws.proofs.FoldLaws.{StatesAreHanded}
+use Rattle.result_laws.specs.Items.{IsOfSource}
 use Rattle.result_laws.specs.Rows.{IsRow, through}
 use Rattle.result_laws.specs.Coming.{HasFolds}
 use Rattle.result_laws.proofs.Course.{Course, CourseNext, Grown, RowAt, course_next, start_course}
@@ -30,6 +31,7 @@ pub record ItemAt (es : List Event) (v item : ℕ) : Type 0 where
   pub answer : ℕ
   pub parts : es ≡ before ++ Begin port serial v ∷ (between ++ End port serial answer ∷ after)
   pub not_0 : (answer == 0) ≡ false
+  pub of_source : IsOfSource (state_after before).config port
   pub graph : Graph
   pub stands : IsGraphOf (state_after before).config graph
   pub row : IsRow graph
@@ -49,6 +51,7 @@ further es e v item w = record {
   parts = ap (λ xs. xs ++ e ∷ []) w.parts ∙ append_assoc w.before (Begin w.port w.serial v ∷ (w.between ++ End w.port w.serial w.answer ∷ w.after)) (e ∷ [])
       ∙ ap (λ xs. w.before ++ Begin w.port w.serial v ∷ xs) (append_assoc w.between (End w.port w.serial w.answer ∷ w.after) (e ∷ []));
   not_0 = w.not_0;
+  of_source = w.of_source;
   graph = w.graph;
   stands = w.stands;
   row = w.row;
@@ -79,6 +82,7 @@ new_item es e here past next g =
       parts = ap (λ xs. xs ++ e ∷ []) b.parts ∙ append_assoc b.before (Begin w.p b.serial (length past + 1) ∷ b.after) (e ∷ [])
           ∙ ap (λ z. b.before ++ Begin w.p b.serial (length past + 1) ∷ (b.after ++ z ∷ [])) (g.end_.is ∙ ap (λ k. End w.p k g.end_.answer) serial);
       not_0 = g.end_.not_0;
+      of_source = b.of_source;
       graph = w.graph;
       stands = b.stands;
       row = w.is_row;

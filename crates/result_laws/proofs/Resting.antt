@@ -25,12 +25,14 @@ use Rattle.quiesce_core.proofs.RunLaws.{runs_are_consistent, runs_are_well_forme
 use Rattle.quiesce_core.proofs.SettledLaws.{settled_if}
 use Rattle.quiesce_core.proofs.StabilityLaws.{busy_is_live}
 use Rattle.change_round_laws.proofs.FoldLaws.{StatesAreHanded}
-use Rattle.result_laws.specs.Rows.{IsRow, through}
+use Rattle.base.proofs.OptionLaws.{map_or_true}
+use Rattle.result_laws.specs.Items.{IsOfSource}
+use Rattle.result_laws.specs.Rows.{IsRow, is_of_row, through}
 use Rattle.result_laws.proofs.AtRest.{IsStill, all_idle}
 use Rattle.result_laws.proofs.Between.{Row}
 use Rattle.result_laws.specs.Coming.{HasFolds, come}
 use Rattle.result_laws.proofs.ComingLaws.{facts, fits_of}
-use Rattle.result_laws.proofs.Ends.{last_made}
+use Rattle.result_laws.proofs.Ends.{AreOfRow, last_made}
 use Rattle.result_laws.proofs.Onward.{way_busy}
 use Rattle.result_laws.proofs.Passing.{Few, Stop, ToMap, Way, passed}
 use Rattle.result_laws.proofs.Rounds.{IsSource, Stands, resting, under_way}
@@ -55,6 +57,7 @@ pub record Begun (es : List Event) (p v : ℕ) (g : Graph) : Type 0 where
   pub parts : es ≡ before ++ event.Begin p serial v ∷ after
   pub stands : IsGraphOf (state_after before).config g
   pub same : (exchange (state_after es) p).serial ≡ serial
+  pub of_source : IsOfSource (state_after before).config p
 
 -- the graph that stands is a row, and it stands there with what went through it
 pub record InRow (es : List Event) (past : List ℕ) : Type 0 where
@@ -69,7 +72,7 @@ pub record InRow (es : List Event) (past : List ℕ) : Type 0 where
   pub same : (v : ℕ) → passed v ms ≡ through graph is_row.maps v
   pub source : last_made Source es ≡ Some a
   pub sink : last_made Sink es ≡ Some t
-  pub nodes : (n : ℕ) → is_live (state_after es).config n ≡ true → (n ≡ a) ⊎ IsOnWay ms t n
+  pub nodes : (n : ℕ) (m : Slot) → slot (state_after es).config n ≡ Some m → m.live ≡ true → is_of_row m.node.kind ≡ true → (n ≡ a) ⊎ IsOnWay ms t n
   pub begun : is_idle (exchange (state_after es) p).phase ≡ false → Begun es p (length past + 1) graph
 
 -- ---- ports of the nodes of a row
@@ -137,9 +140,9 @@ module _ (handed : StatesAreHanded) (es : List Event) (run : IsRun es) (folds : 
       few (resting idle' count items f) = f
       few (under_way d room going count items) = absurd (way_busy (state_after es) (come es) (come es) (facts handed es run folds) (length past) room w.ms w.p (length past + 1) w.t d going idle)
 
-  -- where a node of a row is settled the row rests
-  pub rests : (w : InRow es past) → (n : ℕ) → is_settled (state_after es) n ≡ true → Rest es past
-  rests w n settled = record {
+  -- where a row stands alone and a node of it is settled the row rests
+  pub rests : (w : InRow es past) → AreOfRow (state_after es).config → (n : ℕ) → is_settled (state_after es) n ≡ true → Rest es past
+  rests w alone n settled = record {
     still = record { idle = idle; opened = opened };
     ends = row_ends w quiet.1;
     few = few;
@@ -148,9 +151,12 @@ module _ (handed : StatesAreHanded) (es : List Event) (run : IsRun es) (folds : 
       s : State
       s = state_after es
 
+      all_nodes : (n : ℕ) → is_live (state_after es).config n ≡ true → (n ≡ w.a) ⊎ IsOnWay w.ms w.t n
+      all_nodes n live = let m = map_or_true (λ (x : Slot). x.live) (slot (state_after es).config n) live in w.nodes n m.0 m.1 m.2 (alone n m.0 m.1 m.2)
+
       quiet : ((gate (state_after es).config w.p).closed ≡ true) × (is_idle (exchange (state_after es) w.p).phase ≡ true)
       quiet = quiet_where_settled (state_after es) (come es) w.a w.p w.ms w.t n (runs_are_well_formed es run) w.row.src.owned (source_made w.a w.p w.row.src) w.row.way settled
-          (w.nodes n (settled_if (state_after es) (runs_are_well_formed es run).sound n settled).live)
+          (all_nodes n (settled_if (state_after es) (runs_are_well_formed es run).sound n settled).live)
 
       port_there : (q : ℕ) → q < length (state_after es).config.gates → IsPortOf (state_after es).config (owner (state_after es).config q) q
       port_there q made = (runs_are_well_formed es run).sound.ports q made
@@ -160,7 +166,7 @@ module _ (handed : StatesAreHanded) (es : List Event) (run : IsRun es) (folds : 
 
       few : (q : ℕ) → is_live (state_after es).config (owner (state_after es).config q) ≡ true → (come es (owner (state_after es).config q)).kind ≡ Map → (exchange (state_after es) q).serial ≤ length past
       few q live kind = ⊎_elim
-          (λ (made : q < length (state_after es).config.gates). by made (w.nodes (owner (state_after es).config q) live))
+          (λ (made : q < length (state_after es).config.gates). by made (all_nodes (owner (state_after es).config q) live))
           (λ (beyond : length (state_after es).config.gates ≤ q).
           let fresh = ap (λ (x : Exchange). x.serial) (get_or_past (state_after es).traffic.exchanges q fresh_exchange (let n = (runs_are_well_formed es run).exchanges in omega (arith, n, beyond))) in omega (arith, fresh))
           (cases_lt q (length (state_after es).config.gates))
@@ -173,7 +179,7 @@ module _ (handed : StatesAreHanded) (es : List Event) (run : IsRun es) (folds : 
       idle q = true_from_ne_false (is_idle (exchange (state_after es) q).phase) (λ busy.
           let live = and_parts (nat_lt q (length (state_after es).config.gates)) (is_live (state_after es).config (owner (state_after es).config q)) (busy_is_live (state_after es) q (runs_are_consistent es run) busy) in
           let made = ltb-true q (length (state_after es).config.gates) live.0 in
-          both_ways (is_idle (exchange (state_after es) q).phase) busy (by made (w.nodes (owner (state_after es).config q) live.1)))
+          both_ways (is_idle (exchange (state_after es) q).phase) busy (by made (all_nodes (owner (state_after es).config q) live.1)))
         where
           by : q < length (state_after es).config.gates → (owner (state_after es).config q ≡ w.a) ⊎ IsOnWay w.ms w.t (owner (state_after es).config q) → is_idle (exchange (state_after es) q).phase ≡ true
           by made (inl here) = ap (λ i. is_idle (exchange (state_after es) i).phase) (at_source q made here) ∙ quiet.1
@@ -185,7 +191,7 @@ module _ (handed : StatesAreHanded) (es : List Event) (run : IsRun es) (folds : 
       opened : (q : ℕ) → (gate (state_after es).config q).closed ≡ false → (come es (owner (state_after es).config q)).kind ≡ Map
       opened q open_ = ⊎_elim
           (λ (made : q < length (state_after es).config.gates). ⊎_elim
-          (λ (live : is_live (state_after es).config (owner (state_after es).config q) ≡ true). by made (w.nodes (owner (state_after es).config q) live))
+          (λ (live : is_live (state_after es).config (owner (state_after es).config q) ≡ true). by made (all_nodes (owner (state_after es).config q) live))
           (λ (dead : is_live (state_after es).config (owner (state_after es).config q) ≡ false). absurd (both_ways (gate (state_after es).config q).closed open_ ((runs_are_consistent es run).removed q dead).0))
           (cases_Bool (is_live (state_after es).config (owner (state_after es).config q))))
           (λ (beyond : length (state_after es).config.gates ≤ q). absurd (both_ways (gate (state_after es).config q).closed open_ (ap (λ (g : Gate). g.closed) (get_or_past (state_after es).config.gates q fresh_gate beyond))))

@@ -6,7 +6,7 @@ use Rattle.std.proofs.lemmas.Bool.{both_ways}
 use Rattle.quiesce_word.specs.Phases.{is_idle}
 use Rattle.quiesce_word.specs.declared.word.TheConstants.{LAST_SERIAL}
 use Rattle.config_graph.specs.declared.TheConstants.{VALUE_LIMIT}
-use Rattle.std.proofs.lemmas.Option.{same_Some, slice_get_within}
+use Rattle.std.proofs.lemmas.Option.{same_Some}
 use Rattle.base.proofs.ContainsLaws.{Contains-at, at_some_place}
 use Rattle.base.proofs.OptionLaws.{map_or_true, option_map_some}
 use Rattle.config_graph.specs.Graph.{Graph}
@@ -108,13 +108,12 @@ module _ (handed : StatesAreHanded) (es : List Event) (run : IsRun es) (folds : 
         same = w.same;
         source = last_source;
         sink = last_sink;
-        nodes = λ n live.
-            let m = map_or_true (λ (s : Slot). s.live) (slot c n) live in
-            let listed = at_some_place g.nodes m.0.node ((is.nodes_are m.0.node).1 (n, record { made = m.0; there = m.1; live = m.2; is_node = refl })) in
-            let here : StandsAt c g.nodes n listed.0 = record { made = m.0; there = m.1; live = m.2; stands = listed.1 } in
+        nodes = λ n m there live of_row.
+            let listed = at_some_place g.nodes m.node ((is.nodes_are m.node).1 (n, record { made = m; there = there; live = live; is_node = refl })) in
+            let here : StandsAt c g.nodes n listed.0 = record { made = m; there = there; live = live; stands = listed.1 } in
             ⊎_elim
             (λ (s : listed.0 ≡ r.source). inl (one_stand c sound named alive.from f fits g is r n a r.source (subst (StandsAt c g.nodes n) s here) at))
             (λ (others : Contains r.maps listed.0 ⊎ (listed.0 ≡ r.sink)). inr (w.on_way n listed.0 here others))
-            (r.no_others listed.0 (slice_get_within g.nodes listed.0 m.0.node listed.1));
+            (r.no_others listed.0 m.node.kind (ap (option_map (λ (x : Node). x.kind)) listed.1) of_row);
         begun = λ busy. absurd (both_ways (is_idle (exchange (state_after es) p).phase) busy (rest.still.idle p));
       }

@@ -2,7 +2,7 @@
 -- freezes the source, and finds its port closed and idle before it makes one.
 use Rattle.std.proofs.Common.{◌≡◌, ◌∙◌, ℕ, List, [], ◌∷◌, Option, Some, None, refl, sym, ap, subst, inl, inr}
 use Rattle.std.specs.Prelude.{◌⊎◌, All, Contains, option_map, slice_get}
-use Rattle.std.proofs.lemmas.Option.{none-some, same_Some, slice_get_within}
+use Rattle.std.proofs.lemmas.Option.{none-some, same_Some}
 use Rattle.std.proofs.lemmas.List.Elements.{All-head, All-tail}
 use Rattle.base.proofs.ContainsLaws.{Contains-at, Contains-cons_cases, Contains-nil, at_some_place}
 use Rattle.config_graph.specs.Cycles.{IsLinked}
@@ -17,10 +17,10 @@ use Rattle.config_graph.proofs.PathLaws.{one_place}
 use Rattle.change_plan.specs.Differences.{IsGone, IsKeptLink, IsTwin}
 use Rattle.change_plan.proofs.StepLaws.{has_node}
 use Rattle.result_laws.specs.Describing.{kind_at}
-use Rattle.result_laws.specs.Rows.{IsRow, LeadsThrough}
+use Rattle.result_laws.specs.Rows.{IsAlone, IsRow, LeadsThrough}
 use Rattle.result_laws.proofs.RowLinks.{one_end}
 
-module _ (old new : Graph) (sound_old : Sound old) (sound_new : Sound new) (r : IsRow old) (q : IsRow new) (nodes_kept : (i : ℕ) → IsGone old new i → ⊥) (links_kept : (l : Link) → Contains old.links l → ¬ (¬ IsKeptLink old new l)) where
+module _ (old new : Graph) (sound_old : Sound old) (sound_new : Sound new) (r : IsRow old) (q : IsRow new) (alone : IsAlone new) (nodes_kept : (i : ℕ) → IsGone old new i → ⊥) (links_kept : (l : Link) → Contains old.links l → ¬ (¬ IsKeptLink old new l)) where
   twin_kind : (i j : ℕ) (k : Kind) → IsTwin old new i j → kind_at old i ≡ Some k → kind_at new j ≡ Some k
   twin_kind i j k t h = ap (option_map (λ (n : Node). n.kind)) t.there ∙ sym (ap (option_map (λ (n : Node). n.kind)) t.here) ∙ h
 
@@ -82,7 +82,7 @@ module _ (old new : Graph) (sound_old : Sound old) (sound_new : Sound new) (r : 
           absurd (cc (sym k ∙ ap (kind_at new) is ∙ q.is_sink))
 
       held : (n : Node) → slice_get old.nodes r.source ≡ Some n → Contains new.nodes n ⊎ (¬ Contains new.nodes n) → IsTwin old new r.source q.source
-      held n here (inl c) = let p = at_some_place new.nodes n c in at_source n here p.0 p.1 (q.no_others p.0 (slice_get_within new.nodes p.0 n p.1))
+      held n here (inl c) = let p = at_some_place new.nodes n c in at_source n here p.0 p.1 (q.no_others p.0 Source (ap (option_map (λ (x : Node). x.kind)) (p.1 ∙ sym here) ∙ r.is_source) refl)
       held n here (inr none_) = absurd (nodes_kept r.source (record { node = n; here = here; gone = none_ }))
 
       by : (o : Option Node) → slice_get old.nodes r.source ≡ o → IsTwin old new r.source q.source
@@ -91,7 +91,7 @@ module _ (old new : Graph) (sound_old : Sound old) (sound_new : Sound new) (r : 
 
   -- so nothing is created
   pub nothing_created : (x : ℕ) → IsGone new old x → ⊥
-  nothing_created x gone = by (q.no_others x (slice_get_within new.nodes x gone.node gone.here))
+  nothing_created x gone = let kind = ap (option_map (λ (n : Node). n.kind)) gone.here in by (q.no_others x gone.node.kind kind (alone x gone.node.kind kind))
     where
       no_twin : (j : ℕ) → IsTwin old new j x → ⊥
       no_twin j t = gone.gone (subst (Contains old.nodes) (same_Some t.node gone.node (sym t.there ∙ gone.here)) (Contains-at old.nodes j t.node t.here))

@@ -1,8 +1,8 @@
 -- Where the graph of a configuration is a row, its ports lead one way, from the source through all maps to the sink.
 use Rattle.std.proofs.Common.{◌≡◌, ◌∙◌, ℕ, ◌+◌, ◌-◌, ◌%◌, ◌<◌, ◌≤◌, true, List, [], ◌∷◌, length, Some, refl, sym, ap, subst, arith, inl, inr, ⊎_elim}
-use Rattle.std.specs.Prelude.{◌⊎◌, All, Contains, option_map}
+use Rattle.std.specs.Prelude.{◌⊎◌, ◌||◌, not, All, Contains, option_map}
 use Rattle.std.specs.Option.{option_map_or}
-use Rattle.std.proofs.lemmas.Option.{same_Some, slice_get_within}
+use Rattle.std.proofs.lemmas.Option.{same_Some}
 use Rattle.base.proofs.ContainsLaws.{Contains-here, Contains-there, Contains-cons_cases, Contains-nil, at_some_place}
 use Rattle.base.proofs.OptionLaws.{map_or_true}
 use Rattle.config_graph.specs.Cycles.{IsLinked}
@@ -24,7 +24,7 @@ use Rattle.quiesce_core.proofs.LiveLinkLaws.{IsLiveLink, linked_at}
 use Rattle.change_spec.specs.Opening.{argument_of}
 use Rattle.result_laws.proofs.FactLaws.{Fits}
 use Rattle.result_laws.specs.Describing.{kind_at}
-use Rattle.result_laws.specs.Rows.{IsRow, LeadsThrough, argument_at, through}
+use Rattle.result_laws.specs.Rows.{IsRow, LeadsThrough, argument_at, is_of_row, through}
 use Rattle.result_laws.proofs.Passing.{Stop, Way, passed}
 use Rattle.result_laws.proofs.Touching.{IsOnWay}
 use Rattle.result_laws.proofs.RowLinks.{On, first_of, on_map, on_source, one_before}
@@ -71,8 +71,8 @@ module _ (c : Configuration) (sound : IsSound c) (named : AreNamed c) (owners : 
   map_kind maps all i at = ap (kind_at g) (sym at.2) ∙ all at.0 i at.1
 
   -- a port that leads to a node on the way is the one port of the node before it
-  only_port : (p i j n to : ℕ) → IsOn i → IsLinked g i 0 j 0 → (a : StandsAt c g.nodes n i) → p ≡ a.made.first_port → StandsAt c g.nodes to j → (q x : ℕ) → target c q ≡ Some (record { node = to; provide = x }) → q ≡ p
-  only_port p i j n to on l a first b q x leads =
+  only_port : (p i j n to : ℕ) (kind_j : Kind) → kind_at g j ≡ Some kind_j → is_of_row kind_j ≡ true → IsOn i → IsLinked g i 0 j 0 → (a : StandsAt c g.nodes n i) → p ≡ a.made.first_port → StandsAt c g.nodes to j → (q x : ℕ) → target c q ≡ Some (record { node = to; provide = x }) → q ≡ p
+  only_port p i j n to kind_j at_j of_row on l a first b q x leads =
       let m = map_or_true (λ (s : Slot). s.live) (slot c (owner c q)) (owners q (record { node = to; provide = x }) leads) in
       let listed = at_some_place g.nodes m.0.node ((is.nodes_are m.0.node).1 (owner c q, record { made = m.0; there = m.1; live = m.2; is_node = refl })) in
       let i' = listed.0 in
@@ -81,7 +81,9 @@ module _ (c : Configuration) (sound : IsSound c) (named : AreNamed c) (owners : 
       (is.links_are i' (gate c q).require j x).1 ((linked_at c g.nodes i' (gate c q).require j x).0
       (record { port = q; to = to; leads = leads; requirement = refl; from_there = here; to_there = b })) in
       let port = port_is q (owner c q) m.0 (record { node = to; provide = x }) leads refl m.1 in
-      by i' here linked port (r.no_others i' (slice_get_within g.nodes i' m.0.node listed.1))
+      let kind : kind_at g i' ≡ Some m.0.node.kind = ap (option_map (λ (y : Node). y.kind)) listed.1 in
+      let from_row : is_of_row m.0.node.kind ≡ true = sym (ap (λ b. not b || is_of_row m.0.node.kind) of_row) ∙ r.links i' (gate c q).require j x m.0.node.kind kind_j linked kind at_j in
+      by i' here linked port (r.no_others i' m.0.node.kind kind from_row)
     where
       one : (i' : ℕ) → (here : StandsAt c g.nodes (owner c q) i') → IsLinked g i' (gate c q).require j x → PortIs q (owner c q) here.made → IsOn i' → (kind_at g i' ≡ Some Source) ⊎ (kind_at g i' ≡ Some Map) → q ≡ p
       one i' here linked port on' kind =
@@ -133,7 +135,7 @@ module _ (c : Configuration) (sound : IsSound c) (named : AreNamed c) (owners : 
         way = record {
           to = record {
             leads = sym (ap (target c) here) ∙ k.leads;
-            only = only_port p i r.sink n k.to on l a first k.to_there;
+            only = only_port p i r.sink n k.to Sink r.is_sink refl on l a first k.to_there;
             made = k.to_there.made;
             there = k.to_there.there;
             kind = kind_there k.to r.sink Sink k.to_there r.is_sink;
@@ -160,7 +162,7 @@ module _ (c : Configuration) (sound : IsSound c) (named : AreNamed c) (owners : 
           record {
             to = record {
               leads = sym (ap (target c) here) ∙ k.leads;
-              only = only_port p i m n k.to on l.0 a first k.to_there;
+              only = only_port p i m n k.to Map own.1 refl on l.0 a first k.to_there;
               made = k.to_there.made;
               there = k.to_there.there;
               kind = kind;

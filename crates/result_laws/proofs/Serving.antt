@@ -18,6 +18,7 @@ use Rattle.quiesce_core.specs.declared.event.Event.{Event}
 use Rattle.quiesce_core.specs.declared.event.Event.TheVariants.{Begin, End, Reopen}
 use Rattle.quiesce_core.proofs.InductionLaws.{IsNext, place}
 use Rattle.change_round_laws.proofs.FoldLaws.{StatesAreHanded}
+use Rattle.result_laws.specs.Items.{IsOfSource}
 use Rattle.result_laws.specs.Rows.{IsRow, through}
 use Rattle.result_laws.proofs.Answered.{answered, untouched_at}
 use Rattle.result_laws.specs.Coming.{HasFolds, come}
@@ -105,12 +106,11 @@ module _ (handed : StatesAreHanded) (all : List Event) (run : IsRun all) (folds 
       grew es e past next (inl same) j x at = ap (λ (xs : List ℕ). slice_get xs j) same ∙ at
       grew es e past next (inr g) j x at = ap (λ (xs : List ℕ). slice_get xs j) g.more_ ∙ slice_get-front past (passed (length past + 1) g.row.ms ∷ []) j x at
 
-  pub served : (before between after : List Event) (p k v r : ℕ) → all ≡ before ++ Begin p k v ∷ (between ++ End p k r ∷ after) → (r == 0) ≡ false → Served all before v
-  served before between after p k v r parts not_0 =
+  pub served : (before between after : List Event) (p k v r : ℕ) → all ≡ before ++ Begin p k v ∷ (between ++ End p k r ∷ after) → IsOfSource (state_after before).config p → (r == 0) ≡ false → Served all before v
+  served before between after p k v r parts of_source not_0 =
       let es = before ++ Begin p k v ∷ between in
       let e = End p k r in
       let parts' : all ≡ es ++ e ∷ after = parts ∙ sym (append_assoc before (Begin p k v ∷ between) (e ∷ after)) in
-      let first = course_at handed all run folds opens makes before (Begin p k v ∷ (between ++ e ∷ after)) parts in
       let second = course_at handed all run folds opens makes es (e ∷ after) parts' in
       let at = at_place handed all run folds es after e parts' in
       let here = place es after e (subst IsRun parts' run) in
@@ -118,10 +118,10 @@ module _ (handed : StatesAreHanded) (all : List Event) (run : IsRun all) (folds 
       let calm = untouched_at handed es e here at.0 at.1 refl past second.course in
       let on = course_next handed all run folds opens makes es after e parts' past second.course in
       let w = second.course.in_row calm in
-      let a = answered handed all run folds before between after p k v r parts first.past first.course past w in
+      let a = answered handed all run folds before between after p k v r parts of_source past w in
       let g = grown handed es e here at.0 at.1 past w k r (ap (λ q. End q k r) a.port) not_0 calm on in
       let u = g.row in
-      let b = answered handed all run folds before between after p k v r parts first.past first.course past u in
+      let b = answered handed all run folds before between after p k v r parts of_source past u in
       let whole : all ≡ (es ++ e ∷ []) ++ after = parts' ∙ sym (append_assoc es (e ∷ []) after) in
       let rest = onto_from (es ++ e ∷ []) after [] (whole ∙ ap (λ xs. (es ++ e ∷ []) ++ xs) (sym (append-nil after))) on.next on.course in
       record {
@@ -136,15 +136,14 @@ module _ (handed : StatesAreHanded) (all : List Event) (run : IsRun all) (folds 
       }
 
   -- no transaction of a source is answered 0
-  pub not_answered_0 : (before between after : List Event) (p k v r : ℕ) → all ≡ before ++ Begin p k v ∷ (between ++ End p k r ∷ after) → (r == 0) ≡ false
-  not_answered_0 before between after p k v r parts =
+  pub not_answered_0 : (before between after : List Event) (p k v r : ℕ) → all ≡ before ++ Begin p k v ∷ (between ++ End p k r ∷ after) → IsOfSource (state_after before).config p → (r == 0) ≡ false
+  not_answered_0 before between after p k v r parts of_source =
       let es = before ++ Begin p k v ∷ between in
       let e = End p k r in
       let parts' : all ≡ es ++ e ∷ after = parts ∙ sym (append_assoc before (Begin p k v ∷ between) (e ∷ after)) in
-      let first = course_at handed all run folds opens makes before (Begin p k v ∷ (between ++ e ∷ after)) parts in
       let second = course_at handed all run folds opens makes es (e ∷ after) parts' in
       let at = at_place handed all run folds es after e parts' in
       let here = place es after e (subst IsRun parts' run) in
       let w = second.course.in_row (untouched_at handed es e here at.0 at.1 refl second.past second.course) in
-      let a = answered handed all run folds before between after p k v r parts first.past first.course second.past w in
+      let a = answered handed all run folds before between after p k v r parts of_source second.past w in
       answered_well (state_after es) (come es) (facts handed es here.run (folds_before handed es e here at.0 at.1)) w.a w.p w.ms w.t second.past w.row.stands k r (subst (λ q. Legal (state_after es) (End q k r)) a.port here.legal)

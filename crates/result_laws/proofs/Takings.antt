@@ -33,7 +33,7 @@ use Rattle.quiesce_core.proofs.LiveLinkLaws.{linked_at}
 use Rattle.change_round_laws.specs.SoundStatements.{IsSoundGraph}
 use Rattle.result_laws.specs.Keeping.{KeepsOrMoves}
 use Rattle.result_laws.specs.Describing.{kind_at}
-use Rattle.result_laws.specs.Rows.{IsRow}
+use Rattle.result_laws.specs.Rows.{IsAlone, IsRow}
 use Rattle.result_laws.proofs.Rising.{stand_of}
 use Rattle.result_laws.proofs.RowChanges.{nothing_created}
 use Rattle.result_laws.proofs.Takeovers.{taken_over}
@@ -44,8 +44,8 @@ any_listed f xs x there passes = let w = at_some_place xs x there in any_passes_
 
 module _ (c : Configuration) (old new : Graph) (sound_old : IsSoundGraph old) (sound_new : IsSoundGraph new) (is : IsGraphOf c old) (moves : List Move) (plan : Plan) (is_plan : IsPlanOf old new moves plan) where
   -- where no node is removed and no port unlinked, none is created
-  pub none_created : IsRow old → IsRow new → ports_where (is_unlinked_by old plan c) c ≡ [] → slots_where (is_one_of old plan.remove c) c ≡ [] → (x : ℕ) → IsGone new old x → ⊥
-  none_created r q no_unlinks no_removes x gone = nothing_created old new sound_old.sound sound_new.sound r q nodes_kept links_kept x gone
+  pub none_created : IsRow old → IsRow new → IsAlone new → ports_where (is_unlinked_by old plan c) c ≡ [] → slots_where (is_one_of old plan.remove c) c ≡ [] → (x : ℕ) → IsGone new old x → ⊥
+  none_created r q alone no_unlinks no_removes x gone = nothing_created old new sound_old.sound sound_new.sound r q alone nodes_kept links_kept x gone
     where
       nodes_kept : (i : ℕ) → IsGone old new i → ⊥
       nodes_kept i w =

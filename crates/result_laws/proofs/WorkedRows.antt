@@ -10,7 +10,8 @@ use Rattle.base.proofs.PlaceLaws.{heads_are, tails_are}
 use Rattle.config_graph.specs.declared.node.Target.{Target}
 use Rattle.config_graph.specs.Graph.{Graph, target_of}
 use Rattle.config_graph.specs.Cycles.{IsLinked}
-use Rattle.config_graph.specs.declared.kind.Kind.TheVariants.{Map, Sink, Source}
+use Rattle.config_graph.specs.declared.kind.Kind.{Kind}
+use Rattle.config_graph.specs.declared.kind.Kind.TheVariants.{Account, Branch, Map, Sink, Source, Teller}
 use Rattle.quiesce_core.specs.Live.{IsGraphOf}
 use Rattle.quiesce_core.specs.State.{Configuration}
 use Rattle.quiesce_core.specs.declared.event.Event.TheVariants as event
@@ -20,8 +21,10 @@ use Rattle.change_spec.specs.Members.{Member, by_node, state_at}
 use Rattle.change_spec.specs.Standing.{is_graph_of}
 use Rattle.result_laws.specs.Items.{HasItems, IsItem, WasAnswered}
 use Rattle.result_laws.specs.Describing.{kind_at}
-use Rattle.result_laws.specs.Rows.{IsRow, LeadsThrough, through}
-use Rattle.result_laws.specs.Worked.{members, row_of_none, row_of_one, row_of_two, sink_log, source_log, under_way, until_begun, with_one_aside}
+use Rattle.result_laws.specs.Rows.{IsRow, LeadsThrough, is_of_row, rows_serve_rows, through}
+use Rattle.result_laws.specs.WorkedBanks.{bank_beside_row}
+use Rattle.result_laws.proofs.Testing.{links_pass}
+use Rattle.result_laws.specs.Worked.{members, row_of_none, row_of_one, row_of_two, row_with_teller, sink_log, source_log, under_way, until_begun, with_one_aside}
 
 two_is_row : IsRow row_of_two
 two_is_row = record {
@@ -32,15 +35,16 @@ two_is_row = record {
   are_maps = All-cons (λ i. kind_at row_of_two i ≡ Some Map) 3 (0 ∷ []) refl (All-cons (λ i. kind_at row_of_two i ≡ Some Map) 0 [] refl (All-nil (λ i. kind_at row_of_two i ≡ Some Map)));
   is_sink = refl;
   no_others = each;
+  links = links_pass rows_serve_rows row_of_two refl;
   leads = (refl, (refl, refl));
 }
   where
-    each : (i : ℕ) → i < length row_of_two.nodes → (i ≡ 2) ⊎ Contains (3 ∷ 0 ∷ []) i ⊎ (i ≡ 1)
-    each zero h = inr (inl (1, omega arith, refl))
-    each (suc zero) h = inr (inr refl)
-    each (suc (suc zero)) h = inl refl
-    each (suc (suc (suc zero))) h = inr (inl (0, omega arith, refl))
-    each (suc (suc (suc (suc i)))) h = absurd (omega (arith, h))
+    each : (i : ℕ) (k : Kind) → kind_at row_of_two i ≡ Some k → is_of_row k ≡ true → (i ≡ 2) ⊎ Contains (3 ∷ 0 ∷ []) i ⊎ (i ≡ 1)
+    each zero k h of_row = inr (inl (1, omega arith, refl))
+    each (suc zero) k h of_row = inr (inr refl)
+    each (suc (suc zero)) k h of_row = inl refl
+    each (suc (suc (suc zero))) k h of_row = inr (inl (0, omega arith, refl))
+    each (suc (suc (suc (suc i)))) k h of_row = absurd (none-some k h)
 
 pub two_is_so : (row : IsRow row_of_two) × (row.maps ≡ 3 ∷ 0 ∷ [])
 unfolding two_is_row
@@ -59,13 +63,14 @@ none_is_row = record {
   are_maps = All-nil (λ i. kind_at row_of_none i ≡ Some Map);
   is_sink = refl;
   no_others = each;
+  links = links_pass rows_serve_rows row_of_none refl;
   leads = refl;
 }
   where
-    each : (i : ℕ) → i < length row_of_none.nodes → (i ≡ 1) ⊎ Contains [] i ⊎ (i ≡ 0)
-    each zero h = inr (inr refl)
-    each (suc zero) h = inl refl
-    each (suc (suc i)) h = absurd (omega (arith, h))
+    each : (i : ℕ) (k : Kind) → kind_at row_of_none i ≡ Some k → is_of_row k ≡ true → (i ≡ 1) ⊎ Contains [] i ⊎ (i ≡ 0)
+    each zero k h of_row = inr (inr refl)
+    each (suc zero) k h of_row = inl refl
+    each (suc (suc i)) k h of_row = absurd (none-some k h)
 
 pub one_is_row : IsRow row_of_one
 one_is_row = record {
@@ -76,14 +81,53 @@ one_is_row = record {
   are_maps = All-cons (λ i. kind_at row_of_one i ≡ Some Map) 1 [] refl (All-nil (λ i. kind_at row_of_one i ≡ Some Map));
   is_sink = refl;
   no_others = each;
+  links = links_pass rows_serve_rows row_of_one refl;
   leads = (refl, refl);
 }
   where
-    each : (i : ℕ) → i < length row_of_one.nodes → (i ≡ 0) ⊎ Contains (1 ∷ []) i ⊎ (i ≡ 2)
-    each zero h = inl refl
-    each (suc zero) h = inr (inl (0, omega arith, refl))
-    each (suc (suc zero)) h = inr (inr refl)
-    each (suc (suc (suc i))) h = absurd (omega (arith, h))
+    each : (i : ℕ) (k : Kind) → kind_at row_of_one i ≡ Some k → is_of_row k ≡ true → (i ≡ 0) ⊎ Contains (1 ∷ []) i ⊎ (i ≡ 2)
+    each zero k h of_row = inl refl
+    each (suc zero) k h of_row = inr (inl (0, omega arith, refl))
+    each (suc (suc zero)) k h of_row = inr (inr refl)
+    each (suc (suc (suc i))) k h of_row = absurd (none-some k h)
+
+-- a row beside a bank: its one map adds 5
+pub beside_is_row : IsRow bank_beside_row
+beside_is_row = record {
+  source = 4;
+  maps = 2 ∷ [];
+  sink = 5;
+  is_source = refl;
+  are_maps = All-cons (λ i. kind_at bank_beside_row i ≡ Some Map) 2 [] refl (All-nil (λ i. kind_at bank_beside_row i ≡ Some Map));
+  is_sink = refl;
+  no_others = each;
+  links = links_pass rows_serve_rows bank_beside_row refl;
+  leads = (refl, refl);
+}
+  where
+    beside : (k l : Kind) → Some l ≡ Some k → is_of_row l ≡ false → is_of_row k ≡ true → ⊥
+    beside k l h none_ of_row = both_ways (is_of_row l) none_ (ap is_of_row (same_Some l k h) ∙ of_row)
+
+    each : (i : ℕ) (k : Kind) → kind_at bank_beside_row i ≡ Some k → is_of_row k ≡ true → (i ≡ 4) ⊎ Contains (2 ∷ []) i ⊎ (i ≡ 5)
+    each zero k h of_row = absurd (beside k Account h refl of_row)
+    each (suc zero) k h of_row = absurd (beside k Account h refl of_row)
+    each (suc (suc zero)) k h of_row = inr (inl (0, omega arith, refl))
+    each (suc (suc (suc zero))) k h of_row = absurd (beside k Branch h refl of_row)
+    each (suc (suc (suc (suc zero)))) k h of_row = inl refl
+    each (suc (suc (suc (suc (suc zero))))) k h of_row = inr (inr refl)
+    each (suc (suc (suc (suc (suc (suc zero)))))) k h of_row = absurd (beside k Teller h refl of_row)
+    each (suc (suc (suc (suc (suc (suc (suc i))))))) k h of_row = absurd (none-some k h)
+
+pub beside_passes : through bank_beside_row beside_is_row.maps 1 ≡ 6
+unfolding beside_is_row
+beside_passes = refl
+
+pub beside_is_so : (row : IsRow bank_beside_row) × (through bank_beside_row row.maps 1 ≡ 6)
+beside_is_so = (beside_is_row, beside_passes)
+
+-- a teller leads to its sink
+pub teller_is_none : IsRow row_with_teller → ⊥
+teller_is_none r = both_ways false refl (r.links 3 0 2 0 Teller Sink refl refl refl)
 
 abbrev linked_node : Option Target → ℕ
 linked_node None = 9
@@ -105,7 +149,7 @@ led_aside (m ∷ maps) i t l (suc k, low, is) = led_aside maps m t l.1 (k, omega
 
 -- a map that stands aside: no way from the source leads through it
 pub aside_is_none : IsRow with_one_aside → ⊥
-aside_is_none r = by (r.no_others 0 (omega arith))
+aside_is_none r = by (r.no_others 0 Map refl refl)
   where
     by : (0 ≡ r.source) ⊎ Contains r.maps 0 ⊎ (0 ≡ r.sink) → ⊥
     by (inl is) = cc (ap (kind_at with_one_aside) is ∙ r.is_source)
@@ -143,7 +187,7 @@ items_in _ = []
 
 -- its one transaction
 abbrev one_answered : WasAnswered members 1
-one_answered = record { before = until_begun; between = under_way; after = []; port = 0; serial = 1; answer = 1; parts = refl; not_0 = λ e. omega (arith, e) }
+one_answered = record { before = until_begun; between = under_way; after = []; port = 0; serial = 1; answer = 1; parts = refl; of_source = refl; not_0 = λ e. omega (arith, e) }
 
 abbrev is_begun : Member → Bool
 is_begun (by_node (event.Begin p k v)) = true

@@ -5,9 +5,11 @@ use Rattle.std.specs.Option.{option_map_or}
 use Rattle.std.specs.Fmt.{digits}
 use Rattle.config_graph.specs.GraphText.{graph_text}
 use Rattle.std.proofs.lemmas.Bool.{both_ways}
+use Rattle.std.proofs.lemmas.Option.{none-some, same_Some}
 use Rattle.std.proofs.lemmas.List.Elements.{All-cons, All-head, All-nil, All-tail}
 use Rattle.config_graph.specs.Graph.{Graph}
-use Rattle.config_graph.specs.declared.kind.Kind.TheVariants.{Branch, Fork, Map, Philosopher, Sink, Source, Teller}
+use Rattle.config_graph.specs.declared.kind.Kind.{Kind}
+use Rattle.config_graph.specs.declared.kind.Kind.TheVariants.{Account, Branch, Buffer, Fork, Map, Philosopher, Sink, Source, Teller}
 use Rattle.config_graph.specs.declared.node.Node.{Node}
 use Rattle.change_plan_laws.specs.Systems.{bank, line, sink_t, source_at}
 use Rattle.change_spec.specs.Statements.{Statement, start, change, run, finish}
@@ -16,10 +18,10 @@ use Rattle.result_laws.specs.Describing.{Describes, LinksAre, kind_at}
 use Rattle.result_laws.specs.Flows.{AreApart, same_side}
 use Rattle.result_laws.specs.Holding.{AreTables, forks_serve_places}
 use Rattle.result_laws.specs.Keeping.{AreRows, IsKeptOrMoved, KeepsOrMoves}
-use Rattle.result_laws.specs.Rows.{IsRow}
+use Rattle.result_laws.specs.Rows.{IsAlone, IsRow, is_of_row, rows_serve_rows}
 use Rattle.result_laws.specs.WorkedFlows.{with_philosopher_at_fork, with_teller_at_sink}
 use Rattle.result_laws.specs.WorkedBanks.{with_teller_at_account}
-use Rattle.result_laws.specs.WorkedScripts.{bank_change, buffered, fan, fan_change, line_grows, row_change, same_path, sink_change, table, table_change, table_of_two, with_another_sink}
+use Rattle.result_laws.specs.WorkedScripts.{bank_change, beside_change, beside_run, buffered, fan, fan_change, line_grows, row_change, same_path, sink_change, table, table_change, table_of_two, with_another_sink}
 use Rattle.result_laws.proofs.Testing.{links_pass}
 
 -- both graphs of such a script are of a shape
@@ -63,14 +65,21 @@ line_is_row k = record {
   are_maps = All-cons (λ i. kind_at (line k) i ≡ Some Map) 0 [] refl (All-nil (λ i. kind_at (line k) i ≡ Some Map));
   is_sink = refl;
   no_others = each;
+  links = links_pass rows_serve_rows (line k) refl;
   leads = (refl, refl);
 }
   where
-    each : (i : ℕ) → i < 3 → (i ≡ 1) ⊎ Contains (0 ∷ []) i ⊎ (i ≡ 2)
-    each zero h = inr (inl (0, omega arith, refl))
-    each (suc zero) h = inl refl
-    each (suc (suc zero)) h = inr (inr refl)
-    each (suc (suc (suc i))) h = absurd (omega (arith, h))
+    each : (i : ℕ) (j : Kind) → kind_at (line k) i ≡ Some j → is_of_row j ≡ true → (i ≡ 1) ⊎ Contains (0 ∷ []) i ⊎ (i ≡ 2)
+    each zero j h of_row = inr (inl (0, omega arith, refl))
+    each (suc zero) j h of_row = inl refl
+    each (suc (suc zero)) j h of_row = inr (inr refl)
+    each (suc (suc (suc i))) j h of_row = absurd (none-some j h)
+
+line_is_alone : (k : ℕ) → IsAlone (line k)
+line_is_alone n zero k h = sym (ap is_of_row (same_Some Map k h))
+line_is_alone n (suc zero) k h = sym (ap is_of_row (same_Some Source k h))
+line_is_alone n (suc (suc zero)) k h = sym (ap is_of_row (same_Some Sink k h))
+line_is_alone n (suc (suc (suc i))) k h = absurd (none-some k h)
 
 keeps_source : KeepsOrMoves Source (line 10) (line 20) []
 keeps_source (suc zero) (suc zero) h k = inl (record { node = source_at (codes "s") 3; here = refl; there = refl })
@@ -93,25 +102,25 @@ keeps_sink (suc (suc zero)) (suc (suc (suc j))) h k = absurd (cc k)
 pub row_is_row : AreRows row_change
 row_is_row = record {
   rows = both IsRow row_change _ _ _ _ refl (line_is_row 10) tt (line_is_row 20) tt;
-  ends = (record { source = keeps_source; sink = keeps_sink }, tt);
+  ends = (record { from_alone = line_is_alone 10; to_alone = line_is_alone 20; source = keeps_source; sink = keeps_sink }, tt);
 }
 
--- a buffer stands in no row
-pub line_is_no_row : AreRows line_grows → ⊥
-line_is_no_row rows = by (All-head (Describes IsRow) (start (codes "Line") (pos 2 ∷ []) (buffered 2)) (run 2 ∷ change (codes "Line") (pos 3 ∷ []) (buffered 3) 10 (same_path (codes "b") ∷ []) ∷ finish 100 ∷ []) rows.rows)
-  where
-    in_maps : (maps : List ℕ) → All (λ i. kind_at (buffered 2) i ≡ Some Map) maps → Contains maps 0 → ⊥
-    in_maps [] all c = absurd (omega (arith, c.1))
-    in_maps (m ∷ maps) all (zero, low, is) = cc (ap (kind_at (buffered 2)) (sym is) ∙ All-head (λ i. kind_at (buffered 2) i ≡ Some Map) m maps all)
-    in_maps (m ∷ maps) all (suc k, low, is) = in_maps maps (All-tail (λ i. kind_at (buffered 2) i ≡ Some Map) m maps all) (k, omega (arith, low), is)
+-- a row beside a bank, while nothing changes
+pub beside_is_rows : AreRows beside_run
+beside_is_rows = record {
+  rows = both IsRow beside_run _ _ _ _ refl Rattle.result_laws.proofs.WorkedRows.beside_is_row tt tt tt;
+  ends = tt;
+}
 
-    by : IsRow (buffered 2) → ⊥
-    by r = by_place (r.no_others 0 (omega arith))
-      where
-        by_place : (0 ≡ r.source) ⊎ Contains r.maps 0 ⊎ (0 ≡ r.sink) → ⊥
-        by_place (inl is) = cc (ap (kind_at (buffered 2)) is ∙ r.is_source)
-        by_place (inr (inl c)) = in_maps r.maps r.are_maps c
-        by_place (inr (inr is)) = cc (ap (kind_at (buffered 2)) is ∙ r.is_sink)
+-- and not where a change comes
+pub beside_changes : AreRows beside_change → ⊥
+beside_changes rows = both_ways false refl (rows.ends.0.from_alone 0 Account refl)
+
+-- a buffer leads to no sink of a row
+pub line_is_no_row : AreRows line_grows → ⊥
+line_is_no_row rows =
+    let row : IsRow (buffered 2) = All-head (Describes IsRow) (start (codes "Line") (pos 2 ∷ []) (buffered 2)) (run 2 ∷ change (codes "Line") (pos 3 ∷ []) (buffered 3) 10 (same_path (codes "b") ∷ []) ∷ finish 100 ∷ []) rows.rows in
+    both_ways false refl (row.links 0 0 2 0 Buffer Sink refl refl refl)
 
 -- nor may the sink be replaced without its state
 pub sink_is_lost : AreRows sink_change → ⊥

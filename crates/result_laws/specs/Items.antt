@@ -1,10 +1,11 @@
 -- To be believed (definitions.md).
 -- What a row system computes: the items of the last sink, each by the graph that stood when its transaction began.
-use Rattle.std.specs.Prelude.{◌≡◌, ◌≢◌, ℕ, ◌+◌, true, List, [], ◌∷◌, ◌++◌, length, Some, slice_get, Contains}
+use Rattle.std.specs.Prelude.{◌≡◌, ◌≢◌, ℕ, ◌+◌, true, List, [], ◌∷◌, ◌++◌, length, Some, option_map, slice_get, Contains}
 use Rattle.config_graph.specs.Graph.{Graph}
 use Rattle.config_graph.specs.declared.kind.Kind.{Kind}
+use Rattle.config_graph.specs.declared.kind.Kind.TheVariants.{Source}
 use Rattle.quiesce_core.specs.Live.{IsGraphOf}
-use Rattle.quiesce_core.specs.State.{slot}
+use Rattle.quiesce_core.specs.State.{Configuration, owner, slot}
 use Rattle.quiesce_core.specs.declared.event.Event.TheVariants.{Begin, End}
 use Rattle.quiesce_core.specs.declared.state.Slot.{Slot}
 use Rattle.report_types.specs.declared.report.Last.TheVariants as last
@@ -13,7 +14,11 @@ use Rattle.report_types.specs.declared.report.Report.{Report}
 use Rattle.change_spec.specs.Members.{Member, by_node, state_at}
 use Rattle.result_laws.specs.Rows.{IsRow, through}
 
--- a Begin with value v that was not answered 0
+-- a port's node is a source
+abbrev pub IsOfSource : Configuration → ℕ → Type 0
+IsOfSource c p = option_map (λ (n : Slot). n.node.kind) (slot c (owner c p)) ≡ Some Source
+
+-- a source's Begin with value v that was not answered 0
 pub record WasAnswered (m : List Member) (v : ℕ) : Type 0 where
   pub before : List Member
   pub between : List Member
@@ -22,6 +27,7 @@ pub record WasAnswered (m : List Member) (v : ℕ) : Type 0 where
   pub serial : ℕ
   pub answer : ℕ
   pub parts : m ≡ before ++ by_node (Begin port serial v) ∷ (between ++ by_node (End port serial answer) ∷ after)
+  pub of_source : IsOfSource (state_at before).config port
   pub not_0 : answer ≢ 0
 
 -- what the value became on its way, by the graph of the live nodes and links before that Begin
@@ -40,7 +46,7 @@ pub record IsLogOfLive (m : List Member) (report : Report) (k : Kind) (l : NodeL
   pub kind : made.node.kind ≡ k
 
 -- The last sink has as many items as the last source's state says, and each of them is what became of its value: there
--- is a Begin with that value that was not answered 0, and this holds of each such Begin.
+-- is a source's Begin with that value that was not answered 0, and this holds of each such Begin.
 pub record HasItems (m : List Member) (source sink : NodeLog) : Type 0 where
   pub items : List ℕ
   pub source_says : source.last ≡ last.State (length items ∷ [])

@@ -1,7 +1,7 @@
 -- Small systems on which the definitions are evaluated.
 use Rattle.std.specs.Prelude.{ℕ, List, [], ◌∷◌, ◌++◌, Some, None, codes}
 use Rattle.config_graph.specs.Graph.{Graph}
-use Rattle.config_graph.specs.declared.kind.Kind.TheVariants.{Source, Map, Sink}
+use Rattle.config_graph.specs.declared.kind.Kind.TheVariants.{Source, Map, Sink, Teller}
 use Rattle.quiesce_core.specs.declared.event.Event.TheVariants as event
 use Rattle.quiesce_laws.specs.Worked.{node}
 use Rattle.change_plan_laws.specs.Systems.{leads}
@@ -24,6 +24,13 @@ row_of_none = record { nodes = node (codes "a") Sink None ∷ node (codes "b") S
 -- a map that stands aside
 abbrev pub with_one_aside : Graph
 with_one_aside = record { nodes = node (codes "a") Map (Some 1) ∷ node (codes "b") Sink None ∷ node (codes "c") Source (Some 3) ∷ []; links = leads 0 0 1 ∷ leads 2 0 1 ∷ [] }
+
+-- a row, and a teller that leads to its sink
+abbrev pub row_with_teller : Graph
+row_with_teller = record {
+  nodes = node (codes "m") Map (Some 10) ∷ node (codes "s") Source (Some 3) ∷ node (codes "t") Sink None ∷ node (codes "w") Teller (Some 1) ∷ [];
+  links = leads 0 0 2 ∷ leads 1 0 0 ∷ leads 3 0 2 ∷ [];
+}
 
 -- a source, a map that adds 10, and a sink
 abbrev pub row_of_one : Graph

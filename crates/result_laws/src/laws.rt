@@ -12,7 +12,7 @@ ghost use Rattle.change_spec.specs.Members.{Member, by_node, state_at};
 ghost use Rattle.command_answers.specs.declared.status.Status.{Status};
 ghost use Rattle.command_spec.specs.Outcomes.{Judged, WasRunBy};
 ghost use Rattle.command_spec.specs.Schedules.{Schedule};
-ghost use Rattle.result_laws.specs.Items.{HasItems, IsLogOfLive};
+ghost use Rattle.result_laws.specs.Items.{HasItems, IsLogOfLive, IsOfSource};
 ghost use Rattle.result_laws.specs.Keeping.{AreRows};
 ghost use Rattle.result_laws.specs.Banks.{AreBanks};
 ghost use Rattle.result_laws.specs.Sums.{live_sum, opened_sum, removed_sum};
@@ -47,6 +47,7 @@ pub fn runs_of_rows_have_their_items()
         → AreRows ran.statements → (before between after : List Member) (port serial value answer : ℕ)
         → members_by schedule ran.statements ran.report ran.is_report
         ≡ before ++ by_node (Begin port serial value) ∷ (between ++ by_node (End port serial answer) ∷ after)
+        → IsOfSource (state_at before).config port
         → answer ≢ 0 }
 {
     a_script_has_a_report();

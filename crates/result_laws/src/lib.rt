@@ -29,7 +29,8 @@ pub use roll_laws::{
     changes_at_once_are_there, rolls_commit_what_commits_at_once, rolls_keep_items,
 };
 pub use row_laws::{
-    rows_are_told_from_others, rows_have_their_items, sources_are_never_answered_0,
+    rows_are_told_from_others, rows_have_their_items, sources_alone_begin,
+    sources_are_never_answered_0,
 };
 pub use script_laws::scripts_are_told_from_others;
 pub use telling_laws::{
