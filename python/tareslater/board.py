@@ -139,7 +139,7 @@ class Board:
         return {"ended": "made", **made, "lines": len(made["lines"])}
 
     def answer(self, work: Coroutine[Any, Any, Answer]) -> Tuple[int, Answer]:
-        """What comes of a question in the loop, as a thread beside it hears it: status 409 is that the system is as before."""
+        """What comes of a question in the loop, as a thread beside it hears it. Status 409: the change isn't made; in parts, those made before stay."""
         asking = asyncio.run_coroutine_threadsafe(work, self.loop)
         self.asking.add(asking)
         try:
