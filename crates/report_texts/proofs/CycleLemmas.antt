@@ -13,10 +13,10 @@ use Rattle.config_graph.proofs.CycleLaws.{CallPath-within, no_cycle}
 use Rattle.config_graph.proofs.SearchLaws.{Searched, nothing_seen, search_begins, search_ends, search_goes_on}
 use Rattle.report_texts.specs.GraphTexts.{has_no_cycle, leads_back, search}
 
-below : (a b : ℕ) → nat_lt a b ≡ true → a < b
+pub below : (a b : ℕ) → nat_lt a b ≡ true → a < b
 below a b is = grind (arith, nat_tests)
 
-not_below : (a b : ℕ) → nat_lt a b ≡ false → b ≤ a
+pub not_below : (a b : ℕ) → nat_lt a b ≡ false → b ≤ a
 not_below a b is = grind (arith, nat_tests)
 
 module _ (g : Graph) (within : All (IsLinkWithin g.nodes) g.links) (start : ℕ) where

@@ -222,7 +222,7 @@ sound_node n is =
     let arg = argument_is (is_some (row n.kind).arg) n.arg parts.1 in
     (record { present = arg.0; below = arg.1 }, word_is n.path parts.0)
 
-sound_nodes : (nodes : List Node) → list_all is_sound_node nodes ≡ true → All HasItsArgument nodes × All (λ (n : Node). IsWord n.path) nodes
+pub sound_nodes : (nodes : List Node) → list_all is_sound_node nodes ≡ true → All HasItsArgument nodes × All (λ (n : Node). IsWord n.path) nodes
 sound_nodes [] is = (λ k d low. absurd (omega arith), λ k d low. absurd (omega arith))
 sound_nodes (n ∷ nodes) is =
     let parts = and_parts (is_sound_node n) (list_all is_sound_node nodes) is in

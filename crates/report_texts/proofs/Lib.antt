@@ -11,3 +11,4 @@ pub mod ShowingLemmas
 pub mod ParsingLemmas
 pub mod FaultLemmas
 pub mod PendingLaws
+mod GraphFaultLemmas

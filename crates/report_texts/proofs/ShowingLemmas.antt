@@ -44,7 +44,7 @@ use Rattle.report_lines.specs.GraphLines.{is_graph_line, node_in, target_in}
 use Rattle.report_lines.specs.Parts.{words}
 use Rattle.report_lines.specs.ReportLines.{lacks}
 use Rattle.report_lines.proofs.GraphLineLaws.{node_said, node_words, port_words}
-use Rattle.report_texts.specs.GraphTexts.{behind_dot, comes_before, drawn, fits_kind, has_no_cycle, is_sound_node, is_one_piece, link_from, links_by, nodes_in, path_of, paths_rise, provision_of, shows, target_named, targets_in}
+use Rattle.report_texts.specs.GraphTexts.{behind_dot, comes_before, drawn, fits_kind, has_form, has_no_cycle, is_sound_node, is_one_piece, link_from, links_by, nodes_in, path_of, paths_rise, provision_of, shows, target_named, targets_in}
 use Rattle.report_texts.specs.ReportTexts.{CanBeShown, IsWord}
 use Rattle.report_texts.specs.TextLines.{lines, tail}
 use Rattle.report_texts.proofs.CycleLemmas.{has_none}
@@ -58,14 +58,21 @@ record Shown (text : List ℕ) (ns : List Node) (ws : List (List ℕ)) : Type 0 
   nodes : nodes_in (lines text) ≡ ns
   names : targets_in (lines text) ≡ ws
   all : AllGraph (lines text)
+  forms : list_all has_form (lines text) ≡ true
   ends : tail text ≡ []
 
 shown_none : Shown [] [] []
-shown_none = record { nodes = refl; names = refl; all = tt; ends = refl }
+shown_none = record { nodes = refl; names = refl; all = tt; forms = refl; ends = refl }
 
 all_both : (ls ms : List (List ℕ)) → AllGraph ls → AllGraph ms → AllGraph (ls ++ ms)
 all_both [] ms first second = second
 all_both (l ∷ ls) ms first second = (first.0, all_both ls ms first.1 second)
+
+forms_both : (ls ms : List (List ℕ)) → list_all has_form ls ≡ true → list_all has_form ms ≡ true → list_all has_form (ls ++ ms) ≡ true
+forms_both [] ms first second = second
+forms_both (l ∷ ls) ms first second =
+    let parts = and_parts (has_form l) (list_all has_form ls) first in
+    and_from (has_form l) (list_all has_form (ls ++ ms)) parts.0 (forms_both ls ms parts.1 second)
 
 shown_both : (a b : List ℕ) (ns ms : List Node) (ws vs : List (List ℕ)) → Shown a ns ws → Shown b ms vs → Shown (a ++ b) (ns ++ ms) (ws ++ vs)
 shown_both a b ns ms ws vs s t =
@@ -74,6 +81,7 @@ shown_both a b ns ms ws vs s t =
       nodes = ap nodes_in both.ls ∙ filter_map-append (λ line. node_in (words line)) (lines a) (lines b) ∙ (λ i. s.nodes i ++ t.nodes i);
       names = ap targets_in both.ls ∙ filter_map-append (λ line. target_in (words line)) (lines a) (lines b) ∙ (λ i. s.names i ++ t.names i);
       all = subst AllGraph (sym both.ls) (all_both (lines a) (lines b) s.all t.all);
+      forms = ap (list_all has_form) both.ls ∙ forms_both (lines a) (lines b) s.forms t.forms;
       ends = both.end ∙ t.ends;
     }
 
@@ -83,6 +91,15 @@ of_one f a b is = rw is refl
 of_none : {A B : Type 0} (f : A → Option B) (a : A) → f a ≡ None → filter_map f (a ∷ []) ≡ []
 of_none f a is = rw is refl
 
+node_form : (line : List ℕ) (n : Node) → node_in (words line) ≡ Some n → has_form line ≡ true
+node_form line n is = rw is refl
+
+port_form : (line word : List ℕ) → node_in (words line) ≡ None → target_in (words line) ≡ Some word → has_form line ≡ true
+port_form line word none is = rw none (rw is refl)
+
+one_form : (line : List ℕ) (ls : List (List ℕ)) → ls ≡ line ∷ [] → has_form line ≡ true → list_all has_form ls ≡ true
+one_form line ls is form = ap (list_all has_form) is ∙ and_from (has_form line) true form refl
+
 shown_node : (line : List ℕ) (n : Node) → lacks 10 line ≡ true → is_graph_line (words line) ≡ true → node_in (words line) ≡ Some n → target_in (words line) ≡ None → Shown (ended line) (n ∷ []) []
 shown_node line n lack graph node target =
     let one = one_line line lack in
@@ -90,6 +107,7 @@ shown_node line n lack graph node target =
       nodes = ap nodes_in one.0 ∙ of_one (λ l. node_in (words l)) line n node;
       names = ap targets_in one.0 ∙ of_none (λ l. target_in (words l)) line target;
       all = subst AllGraph (sym one.0) (graph, tt);
+      forms = one_form line (lines (ended line)) one.0 (node_form line n node);
       ends = one.1;
     }
 
@@ -100,6 +118,7 @@ shown_port line word lack graph node target =
       nodes = ap nodes_in one.0 ∙ of_none (λ l. node_in (words l)) line node;
       names = ap targets_in one.0 ∙ of_one (λ l. target_in (words l)) line word target;
       all = subst AllGraph (sym one.0) (graph, tt);
+      forms = one_form line (lines (ended line)) one.0 (port_form line word node target);
       ends = one.1;
     }
 
@@ -373,3 +392,20 @@ is_told g can =
       all = shown.all;
       ends = shown.ends;
     }
+
+-- Each line of that text has a form, and its nodes are sound and rise.
+pub record HasLines (g : Graph) : Type 0 where
+  pub forms : list_all has_form (lines (graph_text g)) ≡ true
+  pub nodes : nodes_in (lines (graph_text g)) ≡ g.nodes
+  pub sound : list_all is_sound_node g.nodes ≡ true
+  pub rise : paths_rise g.nodes ≡ true
+
+pub has_lines : (g : Graph) → CanBeShown g → HasLines g
+has_lines g can =
+    let sound = can.sound in
+    let shown = nodes_are_shown g can.paths 0 g.nodes can.paths (λ k d low. small_arg (get_or g.nodes k d).arg (sound.arguments k d low).below) in
+    record { forms = shown.forms; nodes = shown.nodes; sound = nodes_test g.nodes sound.arguments can.paths; rise = rises g.nodes sound.paths_rise }
+
+-- And the text of whatever nodes with such paths and arguments ends with a line feed.
+pub text_ends : (g : Graph) → All HasItsArgument g.nodes → All (λ (n : Node). IsWord n.path) g.nodes → tail (graph_text g) ≡ []
+text_ends g has words = (nodes_are_shown g words 0 g.nodes words (λ k d low. small_arg (get_or g.nodes k d).arg (has k d low).below)).ends

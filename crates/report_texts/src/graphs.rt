@@ -101,7 +101,7 @@ fn has_no_cycle(alloc: Global, graph: &Graph) -> Result<bool, NoMemory>
 
 /// The graph of these nodes, with the links that the text says. Links are read against the graph without links, which
 /// takes the nodes over, so that they are read once more for the graph itself.
-fn draw(alloc: Global, nodes: Vec<Node>, text: &[u8]) -> Result<Graph, NoMemory>
+pub(crate) fn draw(alloc: Global, nodes: Vec<Node>, text: &[u8]) -> Result<Graph, NoMemory>
     requires few { length text.now < 2 ^ 31 }
     requires nodes { nodes.items ≡ nodes_in (lines text.now) }
     requires rise { paths_rise nodes.items ≡ true }
@@ -114,7 +114,7 @@ fn draw(alloc: Global, nodes: Vec<Node>, text: &[u8]) -> Result<Graph, NoMemory>
 }
 
 /// The nodes of lines.
-fn read_nodes(alloc: Global, text: &[u8]) -> Result<Vec<Node>, NoMemory>
+pub(crate) fn read_nodes(alloc: Global, text: &[u8]) -> Result<Vec<Node>, NoMemory>
     ensures { IfOk result (λ nodes. nodes.items ≡ nodes_in (lines text.now)) }
 {
     let mut nodes = Vec::new(alloc);
@@ -205,7 +205,7 @@ fn paths_rise(nodes: &[Node]) -> bool
     true
 }
 
-fn comes_before(node: &Node, next: &Node) -> bool
+pub(crate) fn comes_before(node: &Node, next: &Node) -> bool
     ensures { result ≡ comes_before node.now next.now }
 {
     node.path.as_bytes().cmp(next.path.as_bytes()).is_lt()
@@ -218,7 +218,7 @@ fn are_sound(nodes: &[Node]) -> bool
 }
 
 /// Whether a node's path is one word, and it has an argument exactly where its kind has one.
-fn is_sound_node(node: &Node) -> bool
+pub(crate) fn is_sound_node(node: &Node) -> bool
     ensures { result ≡ is_sound_node node.now }
 {
     is_one_piece(node.path.as_bytes()) && fits_kind(node.kind, node.arg)
