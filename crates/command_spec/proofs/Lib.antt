@@ -13,7 +13,6 @@ mod LaneLemmas
 mod Leading
 mod LineLemmas
 mod MadeScripts
-mod NumberLemmas
 mod OneAnswer
 mod OneRun
 mod Planning
@@ -22,12 +21,5 @@ mod Readings
 mod ReportLemmas
 mod Reported
 mod Saying
-mod TellingLines
-mod TellingLogs
-mod TellingOpens
-mod TellingReports
-mod TellingRuns
-mod TellingScripts
-mod TellingTexts
 mod TextLemmas
 mod Wanting

@@ -26,7 +26,7 @@ use Rattle.report_types.specs.declared.script.Body.{Body}
 use Rattle.report_types.specs.declared.script.ScriptLine.{ScriptLine}
 use Rattle.change_spec.specs.Consistent.{Consistent}
 use Rattle.std.proofs.lemmas.Option.{same_Some}
-use Rattle.command_spec.specs.Telling.{StillHolds}
+use Rattle.command_spec.specs.Files.{StillHolds}
 use Rattle.command_spec.proofs.ReportLemmas.{AreConsistent}
 use Rattle.report_types.specs.declared.script.Body.TheVariants as bodies
 use Rattle.command_answers.specs.declared.status.Status.TheVariants as status

@@ -17,3 +17,7 @@ TellsLonger limit (Some files) file = IsSomeAnd (files file) (λ bytes. limit < 
 pub record IsTold (files : Option Files) (limit : ℕ) (file bytes : List ℕ) : Type 0 where
   pub told : HoldsFile files file bytes
   pub within : length bytes ≤ limit
+
+-- each file that was there is there with the same content
+abbrev pub StillHolds : Files → Files → Type 0
+StillHolds before after = (file text : List ℕ) → before file ≡ Some text → after file ≡ Some text

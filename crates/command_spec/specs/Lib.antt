@@ -17,4 +17,3 @@ pub mod Runs
 pub mod Schedules
 pub mod Scripts
 pub mod Sorts
-pub mod Telling

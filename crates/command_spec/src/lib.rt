@@ -1,13 +1,14 @@
 //! What a run of the program is: courses of fetches and judgements, and what they come to.
 #![tactic(auto)]
 
+mod checking;
 mod laws;
 mod made;
 mod promises;
 mod query;
 mod scripts;
-mod telling;
 
+pub use checking::a_check_of_what_was_run_is_consistent;
 pub use laws::{
     a_course_ends_in_one_way, a_failed_fetch_is_the_last, checks_end_by_what_is_lawful,
     denials_are_of_first_events, descriptions_are_refused_for_faults_that_hold,
@@ -32,4 +33,3 @@ pub use scripts::{
     lines_lead_or_are_refused, made_scripts_are_not_refused, made_scripts_are_scripts,
     three_things_are_asked_of_a_script,
 };
-pub use telling::{a_check_of_what_was_run_is_consistent, runs_tell_their_reports};

@@ -25,7 +25,7 @@ use Rattle.change_spec.specs.Opening.{fold_of_node}
 use Rattle.change_spec.specs.Statements.{Statement}
 use Rattle.change_spec.proofs.MemberLaws.{events_parts}
 use Rattle.change_round_laws.proofs.FoldLaws.{StatesAreHanded}
-use Rattle.command_spec.specs.Telling.{CountFits, NumbersFit, StateFits}
+use Rattle.result_laws.specs.Telling.{CountFits, NumbersFit, StateFits}
 use Rattle.command_spec.specs.Schedules.{IsReportBy, Schedule, rounds, threads}
 use Rattle.result_laws.specs.Coming.{come}
 use Rattle.result_laws.proofs.Bounds.{Small, all_small, ends_so_far, few_end, numbers_small}

@@ -83,3 +83,11 @@ pub mod OnceRolls
 pub mod WorkedPlaces
 pub mod OnceThere
 pub mod Eating
+pub mod NumberLemmas
+pub mod TellingTexts
+pub mod TellingLines
+pub mod TellingLogs
+pub mod TellingOpens
+pub mod TellingReports
+pub mod TellingScripts
+pub mod TellingRuns

@@ -11,6 +11,9 @@ ghost use Rattle.change_parts.specs.declared.part.Part.{Part};
 ghost use Rattle.report_writing.specs.Reports.{report_text};
 ghost use Rattle.report_types.specs.declared.report.NodeLog.{NodeLog};
 ghost use Rattle.report_types.specs.declared.report.Report.{Report};
+ghost use Rattle.report_types.specs.declared.script.Script.{Script};
+ghost use Rattle.change_script.specs.ScriptFiles.{IsScript};
+ghost use Rattle.change_spec.specs.Scripts.{StatementsOf};
 ghost use Rattle.report_texts.specs.ReportTexts.{IsReport};
 ghost use Rattle.report_texts.specs.Stages.{reading};
 ghost use Rattle.report_texts.specs.declared.version.Version.TheVariants as versions;
@@ -19,17 +22,23 @@ ghost use Rattle.command_answers.specs.declared.status.Status.{Status};
 ghost use Rattle.command_words.specs.declared.words.Command.{Command};
 ghost use Rattle.command_words.specs.declared.words.Command.TheVariants as commands;
 ghost use Rattle.command_spec.specs.Endings.{RefusesNothing};
+ghost use Rattle.command_spec.specs.Files.{StillHolds};
 ghost use Rattle.command_spec.specs.Known.{AsksOf};
 ghost use Rattle.command_spec.specs.Outcomes.{Ends, Judged, ReadFrom, WasRunBy};
 ghost use Rattle.command_spec.specs.Runs.{Run, Runs};
 ghost use Rattle.command_spec.specs.Schedules.{Schedule};
-ghost use Rattle.command_spec.specs.Scripts.{prepares};
+ghost use Rattle.command_spec.specs.Scripts.{Elaborates, prepares};
 ghost use Rattle.command_spec.specs.Sorts.{limit_of, of_report};
-ghost use Rattle.command_spec.specs.Telling.{CountFits, NumbersFit, StateFits, StillHolds};
+ghost use Rattle.result_laws.specs.Telling.{AreStated, CountFits, NumbersFit, StateFits, TellsItself};
 ghost use Rattle.result_laws.specs.PartTelling.{HasWordPaths, HaveWordPaths, plan_texts};
 
+use change_script::{lines_mean_what_their_forms_say, names_are_those_of_the_language};
+use change_script_laws::paths_of_nodes_are_paths;
 use change_spec::a_moved_state_is_the_last_one;
-use command_spec::{a_check_of_what_was_run_is_consistent, runs_tell_their_reports};
+use command_spec::a_check_of_what_was_run_is_consistent;
+use darwin_lexer::fronts_as_spelled;
+use elaborator::paths_are_words;
+use report_texts::a_written_report_is_read;
 
 /// Each last state of a lawful report is of numbers below 2^64: a source's count, a buffer's items, an account's amount. So
 /// all of its numbers are, where those of its `run` lines are. No rule bounds these, and a text's reader does.
@@ -52,16 +61,27 @@ pub fn numbers_of_runs_fit()
     a_moved_state_is_the_last_one();
 }
 
-/// So the report of a run, in rounds or on threads, is read again from its text.
+/// A consistent report of stated statements whose numbers fit is one that can be written and read again. The statements of a
+/// script are stated, since names and paths are words of the language. So the report of a run, in rounds or on threads, is
+/// read again from its text.
 pub fn texts_tell_the_reports_of_runs()
+    ensures consistent { (statements : List Statement) (report : Report) → TellsItself statements report }
+    ensures stated { (files : Option Files) (bytes : List ℕ) (script : Script) (statements : List Statement)
+        → IsScript bytes script → StatementsOf (Elaborates files) script statements → AreStated statements }
     ensures told { (schedule : Schedule) (files : Option Files) (name : List ℕ) (own : Status)
         → (ran : WasRunBy schedule files name own) → IsReport versions.Second ran.report }
     ensures read { (schedule : Schedule) (files : Option Files) (name : List ℕ) (own : Status)
         → (ran : WasRunBy schedule files name own)
         → reading (report_text ran.report) ≡ Ok (record { version = versions.Second; report = ran.report }) }
 {
+    fronts_as_spelled();
+    names_are_those_of_the_language();
+    lines_mean_what_their_forms_say();
+    paths_are_words();
+    paths_of_nodes_are_paths();
+    a_check_of_what_was_run_is_consistent();
     numbers_of_runs_fit();
-    runs_tell_their_reports();
+    a_written_report_is_read();
 }
 
 /// And a check of the report that `step` or `live` wrote for the same script, where each file is still as it was then, says
@@ -80,7 +100,8 @@ pub fn checks_of_runs_are_consistent()
         → RefusesNothing after (prepares name)
         → Ends r.status Status.Ok }
 {
-    numbers_of_runs_fit();
+    texts_tell_the_reports_of_runs();
+    a_written_report_is_read();
     a_check_of_what_was_run_is_consistent();
 }
 

@@ -28,10 +28,10 @@ use Rattle.command_answers.specs.declared.status.Status.{Status}
 use Rattle.command_spec.specs.Outcomes.{WasRunBy}
 use Rattle.command_spec.specs.Schedules.{Schedule}
 use Rattle.command_spec.specs.Scripts.{Elaborates}
-use Rattle.command_spec.specs.Telling.{AreStated, HasWords, NumbersFit}
-use Rattle.command_spec.proofs.ReportLemmas.{AreConsistent}
-use Rattle.command_spec.proofs.TellingReports.{tells_itself}
-use Rattle.command_spec.proofs.TellingScripts.{paths_words, script_stated}
+use Rattle.result_laws.specs.Telling.{AreStated, HasWords, NumbersFit}
+use Rattle.change_spec.specs.Consistent.{Consistent}
+use Rattle.result_laws.proofs.TellingReports.{tells_itself}
+use Rattle.result_laws.proofs.TellingScripts.{paths_words, script_stated}
 
 -- Laws of the crates below, as they stand there.
 module _
@@ -50,9 +50,10 @@ module _
   pub stated : (files : Option Files) (bytes : List ℕ) (script : Script) (statements : List Statement) → IsScript bytes script → StatementsOf (Elaborates files) script statements → AreStated statements
   stated files = script_stated spelled named meant (Elaborates files) (elaborated_words files)
 
-  module _ (consistent : AreConsistent) where
+  module _
+      (consistent : (schedule : Schedule) (files : Option Files) (name : List ℕ) (own : Status) (ran : WasRunBy schedule files name own) → Consistent ran.statements ran.report) where
     pub ran_tells :
         (schedule : Schedule) (files : Option Files) (name : List ℕ) (own : Status) (ran : WasRunBy schedule files name own) → NumbersFit ran.report → IsReport versions.Second ran.report
     ran_tells schedule files name own ran fit =
         tells_itself ran.statements ran.report (stated files ran.is_script.bytes ran.script ran.statements ran.is_script.is_script ran.have_graphs)
-        (consistent schedule ran.statements ran.report ran.is_report) fit
+        (consistent schedule files name own ran) fit

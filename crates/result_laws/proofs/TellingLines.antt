@@ -34,8 +34,8 @@ use Rattle.change_spec.specs.Scene.{AreSeen, Seen, config_after, drained_line, r
 use Rattle.change_spec.proofs.PortLaws.{config_more, still_to_close}
 use Rattle.change_round_laws.proofs.LineLaws.{changes_of_closes}
 use Rattle.change_spec.specs.Statements.{Statement, start, change, run, finish, show}
-use Rattle.command_spec.specs.Telling.{AreStated, HasWords, IsCall, IsStated}
-use Rattle.command_spec.proofs.NumberLemmas.{HasNumbers}
+use Rattle.result_laws.specs.Telling.{AreStated, HasWords, IsCall, IsStated}
+use Rattle.result_laws.proofs.NumberLemmas.{HasNumbers}
 use Rattle.base.proofs.ListLaws.{AllByRecursion-append}
 use Rattle.base.proofs.AllLaws.{all_split, all_mapped, all_onto, all_of_map, all_chosen, all_at, all_follow, all_by_recursion}
 use Rattle.base.proofs.CountLaws.{more_counted}

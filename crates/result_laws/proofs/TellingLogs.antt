@@ -32,8 +32,8 @@ use Rattle.change_spec.specs.Endings.{is_made_from, moved_to, status_of}
 use Rattle.change_spec.specs.Lawful.{EndsAs, IsFolded, IsLogIn}
 use Rattle.change_spec.specs.Members as members
 use Rattle.change_spec.specs.Members.{Member, is_pending, made_slot}
-use Rattle.command_spec.specs.Telling.{StateFits}
-use Rattle.command_spec.proofs.NumberLemmas.{HasNumbers, numbers, slot_number}
+use Rattle.result_laws.specs.Telling.{StateFits}
+use Rattle.result_laws.proofs.NumberLemmas.{HasNumbers, numbers, slot_number}
 
 -- ---- events
 

@@ -1,8 +1,7 @@
 -- When the report of a run is one that can be written and read again: what is asked of the statements, which a script
 -- gives, and of numbers, which those of a run meet.
-use Rattle.std.specs.Prelude.{◌≡◌, ◌<◌, ◌^◌, ⊤, ℕ, ℤ, true, List, Some}
+use Rattle.std.specs.Prelude.{◌≡◌, ◌<◌, ◌^◌, ⊤, ℕ, ℤ, true, List}
 use Rattle.std.specs.List.{AllByRecursion}
-use Rattle.cfg_io.specs.Shelf.{Files}
 use Rattle.config_graph.specs.Graph.{Graph}
 use Rattle.config_graph.specs.declared.node.Node.{Node}
 use Rattle.report_types.specs.declared.report.HistoryLine.{HistoryLine}
@@ -57,7 +56,3 @@ pub record NumbersFit (report : Report) : Type 0 where
 abbrev pub TellsItself : List Statement → Report → Type 0
 TellsItself statements report =
     AreStated statements → Consistent statements report → NumbersFit report → IsReport versions.Second report
-
--- each file that was there is there with the same content
-abbrev pub StillHolds : Files → Files → Type 0
-StillHolds before after = (file text : List ℕ) → before file ≡ Some text → after file ≡ Some text

@@ -38,12 +38,12 @@ use Rattle.change_spec.proofs.MemberLaws.{changes_are_lines, config_of_lines, ev
 use Rattle.change_round_laws.proofs.AloneLaws.{changes_run}
 use Rattle.change_round_laws.proofs.LineLaws.{changes, config_of}
 use Rattle.change_round_laws.proofs.RoundLaws as rounds
-use Rattle.command_spec.specs.Telling.{AreStated, CountFits, NumbersFit}
-use Rattle.command_spec.proofs.NumberLemmas.{serial_number}
-use Rattle.command_spec.proofs.TellingLines.{HasEventNumbers, IsSaid, MakesWord, history_numbers, history_said}
-use Rattle.command_spec.proofs.TellingLogs.{IsNextSlot, logs_are, next_slots, numbers_of_run, slots_are_numbers, slots_made, status_small}
-use Rattle.command_spec.proofs.TellingOpens.{OpensBehind, history_opens}
-use Rattle.command_spec.proofs.TellingTexts.{HasSerial, HasTold, can_stand}
+use Rattle.result_laws.specs.Telling.{AreStated, CountFits, NumbersFit}
+use Rattle.result_laws.proofs.NumberLemmas.{serial_number}
+use Rattle.result_laws.proofs.TellingLines.{HasEventNumbers, IsSaid, MakesWord, history_numbers, history_said}
+use Rattle.result_laws.proofs.TellingLogs.{IsNextSlot, logs_are, next_slots, numbers_of_run, slots_are_numbers, slots_made, status_small}
+use Rattle.result_laws.proofs.TellingOpens.{OpensBehind, history_opens}
+use Rattle.result_laws.proofs.TellingTexts.{HasSerial, HasTold, can_stand}
 use Rattle.base.proofs.ListLaws.{AllByRecursion-push, all_parts}
 use Rattle.base.proofs.FindLaws.{found_has}
 use Rattle.base.proofs.AllLaws.{all_split, all_at, all_put, all_contained}

@@ -22,8 +22,8 @@ use Rattle.report_texts.specs.Limits.{line_keeps}
 use Rattle.report_texts.specs.ReportTexts.{CanBeShown, CanStand, IsOneLine, IsWord}
 use Rattle.report_texts.specs.declared.version.Version.TheVariants as versions
 use Rattle.change_spec.specs.Consistent.{keeps_to_limit}
-use Rattle.command_spec.specs.Telling.{CountFits, IsCall}
-use Rattle.command_spec.proofs.TellingLines.{HasEventNumbers, IsSaid}
+use Rattle.result_laws.specs.Telling.{CountFits, IsCall}
+use Rattle.result_laws.proofs.TellingLines.{HasEventNumbers, IsSaid}
 use Rattle.base.proofs.DecimalLaws.{no_feed}
 
 -- ---- texts without a line feed

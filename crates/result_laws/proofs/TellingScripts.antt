@@ -32,7 +32,7 @@ use Rattle.report_lines.specs.ReportLines.{lacks}
 use Rattle.report_texts.specs.ReportTexts.{IsWord}
 use Rattle.change_spec.specs.Scripts.{Above, SayAll, Says, StatementsOf, nothing_above}
 use Rattle.change_spec.specs.Statements.{Statement}
-use Rattle.command_spec.specs.Telling.{AreStated, HasWords, IsCall, IsStated}
+use Rattle.result_laws.specs.Telling.{AreStated, HasWords, IsCall, IsStated}
 use Rattle.base.proofs.ListLaws.{AllByRecursion-append}
 
 -- ---- words
