@@ -19,7 +19,6 @@ use Rattle.quiesce_core.proofs.InductionLaws.{IsNext, along, none_barred, place,
 use Rattle.quiesce_core.proofs.AlterLaws.{reconfigured}
 use Rattle.quiesce_core.proofs.ConfigurationLaws.{owner_kept}
 use Rattle.quiesce_core.proofs.RunLaws.{runs_are_well_formed}
-use Rattle.quiesce_core.specs.Doers.{is_of_change}
 use Rattle.quiesce_core.specs.Alters.{ports_next}
 use Rattle.quiesce_core.specs.Effect.{effect}
 use Rattle.quiesce_core.specs.Legal.{Legal}
@@ -30,12 +29,14 @@ use Rattle.quiesce_laws.proofs.OrderLaws.{begun_count}
 use Rattle.change_round_laws.proofs.FoldLaws.{StatesAreHanded}
 use Rattle.result_laws.proofs.AtRest.{nothing_happens}
 use Rattle.result_laws.specs.Items.{IsOfSource}
-use Rattle.result_laws.specs.Rows.{is_of_row}
+use Rattle.result_laws.specs.Rows.{is_of_row, rows_serve_rows}
 use Rattle.result_laws.specs.Coming.{HasFolds, come}
 use Rattle.result_laws.proofs.ComingLaws.{at_place, facts, fits_of, folds_before, folds_on, stays}
 use Rattle.result_laws.proofs.Course.{Course}
 use Rattle.result_laws.proofs.Ends.{touched}
 use Rattle.result_laws.proofs.Resting.{Begun, InRow, on_way_port, source_port}
+use Rattle.result_laws.proofs.Linking.{AllLinked}
+use Rattle.result_laws.proofs.RowSlots.{slot_is}
 use Rattle.result_laws.proofs.Touching.{IsOnWay}
 
 -- a run begins a port's serial at one place
@@ -97,7 +98,7 @@ is_port_of_row handed es run folds past w p s live = by (w.nodes (owner (state_a
 
 -- the transaction that an End ends in a row is the one under way there
 pub ended_here : (es : List Event) → IsRun es → (past : List ℕ) → (w : InRow es past) → (before between : List Event) (k v r : ℕ) → es ≡ before ++ Begin w.p k v ∷ between → Legal (state_after es) (End w.p k r)
-    → (b : Begun es w.p (length past + 1) w.graph) × (b.before ≡ before)
+    → (b : Begun es w.p (length past + 1) w.ms) × (b.before ≡ before)
 ended_here es run past w before between k v r parts legal =
     let b = w.begun (answered_busy (exchange (state_after es) w.p).phase legal.answered) in
     let message = and_parts (k == (exchange (state_after es) w.p).serial) (r == (exchange (state_after es) w.p).value) legal.message in
@@ -106,11 +107,13 @@ ended_here es run past w before between k v r parts legal =
 
 -- ---- both ends of a transaction are in a row
 
-pub untouched_at : StatesAreHanded → (es : List Event) (e : Event) → IsNext es e → IsRun (es ++ e ∷ []) → HasFolds (es ++ e ∷ []) → is_of_change e ≡ false → (past : List ℕ) → Course es past → touched es ≡ false
-untouched_at handed es e here run' later of_node past course = ⊎_elim
+pub untouched_at : StatesAreHanded → (es : List Event) (p k r : ℕ) → IsNext es (End p k r) → IsRun (es ++ End p k r ∷ []) → HasFolds (es ++ End p k r ∷ []) → AllLinked rows_serve_rows (state_after es).config → IsSourcePort es p
+    → (past : List ℕ) → Course es past → touched es ≡ false
+untouched_at handed es p k r here run' later linked s past course = ⊎_elim
     (λ (t : touched es ≡ true).
-    absurd (nothing_happens (state_after es) (come es) (come (es ++ e ∷ [])) (facts handed es here.run (folds_before handed es e here run' later)) (course.at_rest t).still e
-    (record { legal = here.legal; of_node = of_node; folds = folds_on handed es e here run' later of_node })))
+    absurd (nothing_happens (state_after es) (come es) (come (es ++ End p k r ∷ [])) (facts handed es here.run (folds_before handed es (End p k r) here run' later)) (course.at_rest t).still linked (End p k r)
+    (record { legal = here.legal; of_node = refl; folds = folds_on handed es (End p k r) here run' later refl }) (owner (state_after es).config p)
+    (slot_is (state_after es).config (owner (state_after es).config p) s.node s.there ∙ ap is_of_row s.kind) (eq-eqb (owner (state_after es).config p) (owner (state_after es).config p) refl)))
     (λ (f : touched es ≡ false). f)
     (cases_Bool (touched es))
 
@@ -124,30 +127,33 @@ value_here before first between after p k v q j w parts same =
 
 pub record Answered (es before : List Event) (p v : ℕ) (past : List ℕ) (row : InRow es past) : Type 0 where
   pub port : p ≡ row.p
-  pub begun : Begun es row.p (length past + 1) row.graph
+  pub begun : Begun es row.p (length past + 1) row.ms
   pub there : begun.before ≡ before
   pub value : v ≡ length past + 1
 
 module _ (handed : StatesAreHanded) (all : List Event) (run : IsRun all) (folds : HasFolds all) where
+  -- the port is one of a source at both ends
+  pub source_there : (before between after : List Event) (p k v r : ℕ) → all ≡ before ++ Begin p k v ∷ (between ++ End p k r ∷ after) → IsOfSource (state_after before).config p → IsSourcePort (before ++ Begin p k v ∷ between) p
+  source_there before between after p k v r parts of_source =
+      let b = Begin p k v in
+      let e = End p k r in
+      let here_0 = place before (between ++ e ∷ after) b (subst IsRun parts run) in
+      let made = gate_place (state_after before) p here_0.legal.live in
+      let own = here_0.well.sound.ports p made in
+      let parts' : all ≡ (before ++ b ∷ between) ++ e ∷ after = parts ∙ sym (append_assoc before (b ∷ between) (e ∷ after)) in
+      source_port_stays before (b ∷ between) (place (before ++ b ∷ between) after e (subst IsRun parts' run)).run p
+      (record { made = made; node = own.node; there = own.made; kind = same_Some own.node.node.kind Source (sym (ap (option_map (λ (n : Slot). n.node.kind)) own.made) ∙ of_source) })
+
   pub answered : (before between after : List Event) (p k v r : ℕ) → all ≡ before ++ Begin p k v ∷ (between ++ End p k r ∷ after) → IsOfSource (state_after before).config p → (past : List ℕ)
       → (w : InRow (before ++ Begin p k v ∷ between) past) → Answered (before ++ Begin p k v ∷ between) before p v past w
   answered before between after p k v r parts of_source past w =
       let b = Begin p k v in
       let es = before ++ b ∷ between in
       let e = End p k r in
-      let here_0 = place before (between ++ e ∷ after) b (subst IsRun parts run) in
       let parts' : all ≡ es ++ e ∷ after = parts ∙ sym (append_assoc before (b ∷ between) (e ∷ after)) in
       let second = at_place handed all run folds es after e parts' in
       let here = place es after e (subst IsRun parts' run) in
-      let made = gate_place (state_after before) p here_0.legal.live in
-      let own = here_0.well.sound.ports p made in
-      let at_first : IsSourcePort before p = record {
-        made = made;
-        node = own.node;
-        there = own.made;
-        kind = same_Some own.node.node.kind Source (sym (ap (option_map (λ (n : Slot). n.node.kind)) own.made) ∙ of_source);
-      } in
-      let at_second = source_port_stays before (b ∷ between) here.run p at_first in
+      let at_second = source_there before between after p k v r parts of_source in
       let live = (and_parts _ (is_live (state_after es).config (owner (state_after es).config p)) here.legal.live).1 in
       let is = is_port_of_row handed es here.run (folds_before handed es e here second.0 second.1) past w p at_second live in
       let ended = ended_here es here.run past w before between k v r (ap (λ q. before ++ Begin q k v ∷ between) is) (subst (λ q. Legal (state_after es) (End q k r)) is here.legal) in

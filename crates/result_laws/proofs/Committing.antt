@@ -1,12 +1,15 @@
--- The makes of a commit from a row to a row, and those of a start.
-use Rattle.std.proofs.Common.{◌≡◌, ◌∙◌, ℕ, ◌+◌, true, false, List, [], ◌∷◌, ◌++◌, append_assoc, length, map, Option, Some, None, refl, sym, ap, subst, ⊎_elim}
+-- The makes of a commit from a row to a row, whatever stands beside.
+use Rattle.std.proofs.Common.{◌≡◌, ◌∙◌, ℕ, ◌+◌, ◌<◌, true, List, [], ◌∷◌, ◌++◌, append_assoc, length, map, Option, Some, None, refl, sym, ap, subst, arith, ⊎_elim}
 use Rattle.std.specs.Prelude.{All, Contains, option_map, slice_get, unwrap_or}
-use Rattle.std.specs.List.{list_any, range_with_len}
+use Rattle.std.specs.List.{range_with_len}
+use Rattle.std.proofs.lemmas.Bool.{both_ways, true_from_ne_false}
 use Rattle.std.proofs.lemmas.Option.{same_Some}
 use Rattle.std.proofs.lemmas.List.{append-nil}
+use Rattle.std.proofs.lemmas.List.Elements.{All-contains}
 use Rattle.base.specs.Each.{Each, EachAfter}
-use Rattle.base.proofs.ContainsLaws.{Contains-cons_cases, Contains-here, Contains-nil, Contains-there}
+use Rattle.base.proofs.ContainsLaws.{Contains-cons_cases, Contains-from_filter, Contains-here, Contains-nil, Contains-there}
 use Rattle.base.proofs.EachLaws.{each_at, each_joined}
+use Rattle.base.proofs.RangeLaws.{range_below}
 use Rattle.base.proofs.OptionLaws.{option_map_some}
 use Rattle.config_graph.specs.Graph.{Graph}
 use Rattle.config_graph.specs.declared.kind.Kind.{Kind}
@@ -15,15 +18,16 @@ use Rattle.config_graph.specs.declared.node.Node.{Node}
 use Rattle.quiesce_laws.specs.Commits.{Differ}
 use Rattle.quiesce_laws.proofs.MemberLaws.{contains_in}
 use Rattle.quiesce_laws.specs.Lists.{Apart}
-use Rattle.quiesce_laws.specs.Steps.{change_all, is_shaping}
+use Rattle.quiesce_laws.specs.Steps.{change_all}
 use Rattle.quiesce_laws.specs.Work.{NewNode, Work, link_new, make_new, work_of}
 use Rattle.change_plan.specs.Differences.{IsGone}
 use Rattle.change_plan.specs.Plans.{IsPlanOf}
 use Rattle.change_plan.specs.declared.plan_data.Move.{Move}
 use Rattle.change_plan.specs.declared.plan_data.Plan.{Plan}
 use Rattle.change_plan.proofs.SelectsLaws.{Selects-only}
-use Rattle.change_plan_laws.specs.Commit.{commit_events, makes_from, new_links, node_at, reopened_ports, source_of, work}
+use Rattle.change_plan_laws.specs.Commit.{commit_events, is_unlinked_by, makes_from, new_links, node_at, reopened_ports, source_of, work}
 use Rattle.change_plan_laws.proofs.RisingLaws.{selects_apart}
+use Rattle.quiesce_core.specs.Alters.{Reconfigures}
 use Rattle.quiesce_core.specs.Doers.{is_make}
 use Rattle.quiesce_core.specs.Live.{IsGraphOf}
 use Rattle.quiesce_core.specs.Rules.{is_kind}
@@ -31,18 +35,19 @@ use Rattle.quiesce_core.specs.Runs.{IsRun, state_after}
 use Rattle.quiesce_core.specs.State.{Configuration}
 use Rattle.quiesce_core.specs.declared.event.Event.{Event}
 use Rattle.quiesce_core.specs.declared.event.Event.TheVariants as event
-use Rattle.quiesce_core.proofs.RunLaws.{nodes_are_named}
+use Rattle.quiesce_core.proofs.AlterLaws.{ports_grow}
+use Rattle.quiesce_core.proofs.RunLaws.{fronts_are_runs, nodes_are_named}
 use Rattle.change_round_laws.specs.SoundStatements.{IsSoundGraph}
 use Rattle.result_laws.specs.Keeping.{KeepsEnds, KeepsOrMoves}
 use Rattle.result_laws.specs.Describing.{kind_at}
-use Rattle.result_laws.specs.Rows.{IsRow}
-use Rattle.result_laws.proofs.Ends.{IsMadeWell, OneEach, each_is_last, last_made, same_sink, same_source, touched, touched_more}
-use Rattle.result_laws.proofs.Making.{MayShape, OnceFrom, Well, alone_may, calm_well, last_calm, makes_well, may_behind, none_map, one_sink_at, one_source_at, shape_well, stays_touched}
+use Rattle.result_laws.specs.Rows.{IsRow, is_of_row}
+use Rattle.result_laws.proofs.Ends.{IsMadeWell, OneEach, each_is_last, is_reopen, last_made, same_sink, same_source, touched}
+use Rattle.result_laws.proofs.Making.{OnceFrom, Well, last_calm, makeless_well, makes_well, none_map, one_sink_at, one_source_at, some_touches, stays_touched}
 use Rattle.result_laws.proofs.Rising.{stand_of}
-use Rattle.result_laws.proofs.Staying.{is_reopen}
+use Rattle.result_laws.proofs.RowSlots.{port_on, row_port, row_slot, slot_on, slots_along}
 use Rattle.result_laws.proofs.Takings.{none_created, takes_from}
 
-module _ (old new : Graph) (plan : Plan) (c : Configuration) (k : Kind) (one : (i j : ℕ) → kind_at new i ≡ Some k → kind_at new j ≡ Some k → i ≡ j) where
+module _ (old new : Graph) (plan : Plan) (c : Configuration) where
   made_place : (n : ℕ) (js : List ℕ) (m : NewNode) → Contains (makes_from old new plan c n js) m → (j : ℕ) × Contains js j × (m.node ≡ node_at new j)
   made_place n [] m there = absurd (Contains-nil m there)
   made_place n (j ∷ js) m there = ⊎_elim
@@ -50,6 +55,7 @@ module _ (old new : Graph) (plan : Plan) (c : Configuration) (k : Kind) (one : (
       (λ (later : Contains (makes_from old new plan c (n + 1) js) m). let w = made_place (n + 1) js m later in (w.0, Contains-there j w.0 js w.1, w.2))
       (Contains-cons_cases (record { slot = n; node = node_at new j; from = source_of old plan c j }) (makes_from old new plan c (n + 1) js) m there)
 
+module _ (old new : Graph) (plan : Plan) (c : Configuration) (k : Kind) (one : (i j : ℕ) → kind_at new i ≡ Some k → kind_at new j ≡ Some k → i ≡ j) where
   kind_of : (j : ℕ) → IsGone new old j → (node_at new j).kind ≡ k → kind_at new j ≡ Some k
   kind_of j gone kind =
       ap (option_map (λ (n : Node). n.kind)) gone.here ∙ ap Some (sym (ap (λ o. (unwrap_or {T = Node} o (record { path = []; kind = Fork; arg = None })).kind) gone.here) ∙ kind)
@@ -61,7 +67,7 @@ module _ (old new : Graph) (plan : Plan) (c : Configuration) (k : Kind) (one : (
         let here = kind_of j (gone j (Contains-here j js)) kind in (
           takes j (Contains-here j js) here,
           λ m there kind'.
-              let w = made_place (n + 1) js m there in
+              let w = made_place old new plan c (n + 1) js m there in
               apart.0 w.0 (contains_in js w.0 w.1) (one w.0 j (kind_of w.0 (gone w.0 (Contains-there j w.0 js w.1)) (sym (ap (λ (x : Node). x.kind) w.2) ∙ kind')) here),
         ),
     create_once o (n + 1) js apart.1 (λ i there. gone i (Contains-there j i js there)) (λ i there. takes i (Contains-there j i js there)),
@@ -101,58 +107,68 @@ module _ (es : List Event) (run : IsRun es) (each : Each Well es) (old new : Gra
   abbrev reopens : List Event
   reopens = map event.Reopen (reopened_ports old new plan (state_after es).config)
 
-  pub commit_well : EachAfter Well es (commit_events old new plan (state_after es).config)
-  commit_well =
+  -- the events up to a place of the commit
+  front : (xs ys : List Event) → IsRun (es ++ (xs ++ ys)) → IsRun (es ++ xs)
+  front xs ys goes = fronts_are_runs (es ++ xs) ys (subst IsRun (sym (append_assoc es xs ys)) goes)
+
+  pub commit_well : IsRun (es ++ commit_events old new plan (state_after es).config) → EachAfter Well es (commit_events old new plan (state_after es).config)
+  commit_well goes =
       each_joined Well es (work_of w ++ links) reopens
       (each_joined Well es (work_of w) links
-      (each_joined Well es (map event.Unlink w.unlinks) (map event.Remove w.removes ++ map make_new w.makes) (shape_well event.Unlink (λ x. (refl, refl)) es w.unlinks may)
-      (each_joined Well (es ++ map event.Unlink w.unlinks) (map event.Remove w.removes) (map make_new w.makes) (shape_well event.Remove (λ x. (refl, refl)) (es ++ map event.Unlink w.unlinks) w.removes may_remove)
-      (by w.unlinks w.removes refl refl)))
-      (shape_well link_new (λ x. (refl, refl)) (es ++ work_of w) (new_links new plan (change_all (state_after es).config (work_of w))) may_link))
-      (calm_well (es ++ (work_of w ++ links)) reopens (none_map is_shaping event.Reopen (λ x. refl) (reopened_ports old new plan (state_after es).config)))
+      (each_joined Well es (map event.Unlink w.unlinks) (map event.Remove w.removes ++ map make_new w.makes) (makeless_well es (map event.Unlink w.unlinks) (none_map is_make event.Unlink (λ x. refl) w.unlinks))
+      (each_joined Well (es ++ map event.Unlink w.unlinks) (map event.Remove w.removes) (map make_new w.makes)
+      (makeless_well (es ++ map event.Unlink w.unlinks) (map event.Remove w.removes) (none_map is_make event.Remove (λ x. refl) w.removes))
+      (makes_well ((es ++ map event.Unlink w.unlinks) ++ map event.Remove w.removes) w.makes behind
+      (on Source (once Source one_source (λ i j a b. one_source_at new q i a ∙ sym (one_source_at new q j b)) keeps.source r.source r.is_source))
+      (on Sink (once Sink one_sink (λ i j a b. one_sink_at new q i a ∙ sym (one_sink_at new q j b)) keeps.sink r.sink r.is_sink)))))
+      (makeless_well (es ++ work_of w) links (none_map is_make link_new (λ x. refl) (new_links new plan (change_all (state_after es).config (work_of w))))))
+      (makeless_well (es ++ (work_of w ++ links)) reopens (none_map is_make event.Reopen (λ x. refl) (reopened_ports old new plan (state_after es).config)))
     where
-      may : MayShape es
-      may = alone_may es old is keeps.from_alone
+      one_source : OneEach Source es
+      one_source = one_of Source same_source (λ before after n node from parts kind. (well_at before after n node from parts).source kind)
 
-      may_remove : MayShape (es ++ map event.Unlink w.unlinks)
-      may_remove = may_behind event.Unlink (λ x. refl) es w.unlinks may
+      one_sink : OneEach Sink es
+      one_sink = one_of Sink same_sink (λ before after n node from parts kind. (well_at before after n node from parts).sink kind)
 
-      may_link : MayShape (es ++ work_of w)
-      may_link = subst MayShape (append_assoc es (map event.Unlink w.unlinks) (map event.Remove w.removes ++ map make_new w.makes) ∙ refl) (subst MayShape (append_assoc (es ++ map event.Unlink w.unlinks) (map event.Remove w.removes) (map make_new w.makes))
-          (may_behind make_new (λ x. refl) ((es ++ map event.Unlink w.unlinks) ++ map event.Remove w.removes) w.makes (may_behind event.Remove (λ x. refl) (es ++ map event.Unlink w.unlinks) w.removes may_remove)))
+      on : (k : Kind) → OnceFrom k (last_made k es) w.makes → OnceFrom k (last_made k ((es ++ map event.Unlink w.unlinks) ++ map event.Remove w.removes)) w.makes
+      on k h = subst (λ o. OnceFrom k o w.makes)
+          (sym (last_calm k (es ++ map event.Unlink w.unlinks) (map event.Remove w.removes) (none_map is_make event.Remove (λ x. refl) w.removes) ∙ last_calm k es (map event.Unlink w.unlinks) (none_map is_make event.Unlink (λ x. refl) w.unlinks))) h
 
-      -- the makes, once a line before them touched
-      then_ : (us rs : List ℕ) → touched ((es ++ map event.Unlink us) ++ map event.Remove rs) ≡ true → EachAfter Well ((es ++ map event.Unlink us) ++ map event.Remove rs) (map make_new (work old new plan (state_after es).config).makes)
-      then_ us rs t = makes_well ((es ++ map event.Unlink us) ++ map event.Remove rs) (work old new plan (state_after es).config).makes t (on Source (once Source one_source (λ i j a b. one_source_at new q i a ∙ sym (one_source_at new q j b)) keeps.source r.source r.is_source))
-          (on Sink (once Sink one_sink (λ i j a b. one_sink_at new q i a ∙ sym (one_sink_at new q j b)) keeps.sink r.sink r.is_sink))
+      worked : IsRun (es ++ work_of w)
+      worked = front (work_of w) links (front (work_of w ++ links) reopens goes)
+
+      unlinked : IsRun (es ++ map event.Unlink w.unlinks)
+      unlinked = front (map event.Unlink w.unlinks) (map event.Remove w.removes ++ map make_new w.makes) worked
+
+      removed : IsRun ((es ++ map event.Unlink w.unlinks) ++ map event.Remove w.removes)
+      removed =
+          let us = map event.Unlink w.unlinks in
+          let rs = map event.Remove w.removes in
+          let ms = map make_new w.makes in
+          fronts_are_runs ((es ++ us) ++ rs) ms (subst IsRun (sym (append_assoc es us (rs ++ ms)) ∙ sym (append_assoc (es ++ us) rs ms)) worked)
+
+      -- the makes of the row stand behind what touched it
+      touched_by_unlink : (p : ℕ) → Contains w.unlinks p → row_port (state_after es).config p ≡ true → touched ((es ++ map event.Unlink w.unlinks) ++ map event.Remove w.removes) ≡ true
+      touched_by_unlink p there of_row =
+          stays_touched (es ++ map event.Unlink w.unlinks) (map event.Remove w.removes) (none_map is_reopen event.Remove (λ x. refl) w.removes)
+          (some_touches event.Unlink (λ d x. (row_port d x ≡ true) × (x < length d.gates)) (λ d x s. s.0) (λ x. refl) port_goes es w.unlinks unlinked p there (of_row, unlink_made p there))
         where
-          one_source : OneEach Source es
-          one_source = one_of Source same_source (λ before after n node from parts kind. (well_at before after n node from parts).source kind)
+          port_goes : (c d : Configuration) (e : Event) → Reconfigures c e d → (x : ℕ) → (row_port c x ≡ true) × (x < length c.gates) → (row_port d x ≡ true) × (x < length d.gates)
+          port_goes c d e r x s = (port_on c d e r x s.1 s.0, (let long = r.ports in let more_ = ports_grow c e in let low = s.1 in omega (arith, long, more_, low)))
 
-          one_sink : OneEach Sink es
-          one_sink = one_of Sink same_sink (λ before after n node from parts kind. (well_at before after n node from parts).sink kind)
+          unlink_made : (p : ℕ) → Contains w.unlinks p → p < length (state_after es).config.gates
+          unlink_made p there = let n = length (state_after es).config.gates in All-contains (λ i. i < n) (range_with_len 0 n) p (range_below n n refl) (Contains-from_filter (is_unlinked_by old plan (state_after es).config) (range_with_len 0 n) p there).0
 
-          on : (k : Kind) → OnceFrom k (last_made k es) (work old new plan (state_after es).config).makes → OnceFrom k (last_made k ((es ++ map event.Unlink us) ++ map event.Remove rs)) (work old new plan (state_after es).config).makes
-          on k h = subst (λ o. OnceFrom k o (work old new plan (state_after es).config).makes)
-              (sym (last_calm k (es ++ map event.Unlink us) (map event.Remove rs) (none_map is_make event.Remove (λ x. refl) rs) ∙ last_calm k es (map event.Unlink us) (none_map is_make event.Unlink (λ x. refl) us))) h
+      touched_by_removal : (n : ℕ) → Contains w.removes n → row_slot (state_after es).config n ≡ true → touched ((es ++ map event.Unlink w.unlinks) ++ map event.Remove w.removes) ≡ true
+      touched_by_removal n there of_row =
+          some_touches event.Remove (λ d x. row_slot d x ≡ true) (λ d x s. s) (λ x. refl) slot_on (es ++ map event.Unlink w.unlinks) w.removes removed n there
+          (slots_along es (map event.Unlink w.unlinks) unlinked n of_row)
 
-      still : (before : List Event) (e : Event) (xs : List Event) → touched (before ++ e ∷ []) ≡ true → list_any is_reopen xs ≡ false → touched (before ++ e ∷ xs) ≡ true
-      still before e xs t h = subst (λ zs. touched zs ≡ true) (append_assoc before (e ∷ []) xs) (stays_touched (before ++ e ∷ []) xs h t)
-
-      none_made : (js : List ℕ) → ((j : ℕ) → Contains js j → ⊥) → (n : ℕ) (before : List Event) → EachAfter Well before (map make_new (makes_from old new plan (state_after es).config n js))
-      none_made [] none_ n before = tt
-      none_made (j ∷ js) none_ n before = absurd (none_ j (Contains-here j js))
-
-      by : (us rs : List ℕ) → (work old new plan (state_after es).config).unlinks ≡ us → (work old new plan (state_after es).config).removes ≡ rs
-          → EachAfter Well ((es ++ map event.Unlink (work old new plan (state_after es).config).unlinks) ++ map event.Remove (work old new plan (state_after es).config).removes) (map make_new (work old new plan (state_after es).config).makes)
-      by [] [] no_unlinks no_removes =
-          none_made plan.create (λ j there. none_created (state_after es).config old new sound_old sound_new is moves plan is_plan r q keeps.to_alone no_unlinks no_removes j (gone_there j there)) (length (state_after es).config.slots) _
-      by (u ∷ us) rs has_unlinks has_removes =
-          subst (λ xs. EachAfter Well ((es ++ map event.Unlink xs) ++ map event.Remove (work old new plan (state_after es).config).removes) (map make_new (work old new plan (state_after es).config).makes)) (sym has_unlinks)
-          (then_ (u ∷ us) (work old new plan (state_after es).config).removes
-          (stays_touched (es ++ map event.Unlink (u ∷ us)) (map event.Remove (work old new plan (state_after es).config).removes) (none_map is_reopen event.Remove (λ x. refl) (work old new plan (state_after es).config).removes)
-          (still es (event.Unlink u) (map event.Unlink us) (touched_more es (event.Unlink u)) (none_map is_reopen event.Unlink (λ x. refl) us))))
-      by [] (n ∷ rs) no_unlinks has_removes =
-          subst (λ xs. EachAfter Well ((es ++ map event.Unlink (work old new plan (state_after es).config).unlinks) ++ map event.Remove xs) (map make_new (work old new plan (state_after es).config).makes)) (sym has_removes)
-          (then_ (work old new plan (state_after es).config).unlinks (n ∷ rs)
-          (still (es ++ map event.Unlink (work old new plan (state_after es).config).unlinks) (event.Remove n) (map event.Remove rs) (touched_more (es ++ map event.Unlink (work old new plan (state_after es).config).unlinks) (event.Remove n)) (none_map is_reopen event.Remove (λ x. refl) rs)))
+      behind : (m : NewNode) → Contains w.makes m → is_of_row m.node.kind ≡ true → touched ((es ++ map event.Unlink w.unlinks) ++ map event.Remove w.removes) ≡ true
+      behind m there of_row = true_from_ne_false (touched ((es ++ map event.Unlink w.unlinks) ++ map event.Remove w.removes)) (λ calm.
+          let made = made_place old new plan (state_after es).config (length (state_after es).config.slots) plan.create m there in
+          let gone = gone_there made.0 made.1 in
+          let kind : gone.node.kind ≡ m.node.kind = ap (λ o. (unwrap_or {T = Node} o (record { path = []; kind = Fork; arg = None })).kind) (sym gone.here) ∙ sym (ap (λ (x : Node). x.kind) made.2) in
+          none_created (state_after es).config old new sound_old sound_new is moves plan is_plan r q
+          (λ p at of_port. both_ways (touched ((es ++ map event.Unlink w.unlinks) ++ map event.Remove w.removes)) calm (touched_by_unlink p at of_port))
+          (λ n at of_slot. both_ways (touched ((es ++ map event.Unlink w.unlinks) ++ map event.Remove w.removes)) calm (touched_by_removal n at of_slot)) made.0 gone (ap is_of_row kind ∙ of_row))

@@ -1,18 +1,18 @@
 -- What a report tells of forks: each is held once, at the end by none, and is free then.
-use Rattle.std.proofs.Common.{◌≡◌, ◌∙◌, ℕ, ◌+◌, Bool, true, false, List, ◌++◌, append_assoc, length, Option, Some, None, refl, sym, ap, subst, arith}
-use Rattle.std.specs.Prelude.{◌==◌, ◌&&◌}
+use Rattle.std.proofs.Common.{◌≡◌, ◌∙◌, ℕ, ◌+◌, Bool, true, false, List, ◌++◌, append_assoc, length, Option, Some, None, refl, sym, ap, subst, arith, inl, inr, ⊎_elim}
+use Rattle.std.specs.Prelude.{◌⊎◌, ◌==◌, ◌&&◌}
 use Rattle.std.specs.List.{list_any}
-use Rattle.std.proofs.lemmas.Bool.{and_parts, both_ways, eqb-true, false_from_ne_true, ne_eqb}
+use Rattle.std.proofs.lemmas.Bool.{and_from, and_parts, both_ways, cases_Bool, eq-eqb, eqb-true, false_from_ne_true, ne_eqb}
 use Rattle.base.proofs.SumLaws.{sum_zero}
 use Rattle.config_graph.specs.declared.TheConstants.{MAX_NODES}
 use Rattle.config_graph.specs.declared.kind.Kind.{Kind}
 use Rattle.config_graph.specs.declared.kind.Kind.TheVariants.{Fork}
 use Rattle.config_graph.specs.declared.node.Target.{Target}
-use Rattle.component_trait.specs.States.{Kept, NodeState}
+use Rattle.component_trait.specs.States.{Kept, NodeState, Service}
 use Rattle.component_trait.specs.Tables.{numbers}
 use Rattle.quiesce_word.specs.Phases.{is_idle}
 use Rattle.quiesce_word.specs.declared.word.TheConstants.{LAST_SERIAL}
-use Rattle.quiesce_word.proofs.PhaseLaws.{answered_busy}
+use Rattle.quiesce_word.proofs.PhaseLaws.{answered_busy, serving_busy}
 use Rattle.quiesce_core.specs.Runs.{IsRun, state_after}
 use Rattle.quiesce_core.specs.State.{exchange, gate, owner, slot, target}
 use Rattle.quiesce_core.specs.declared.event.Event.{Event}
@@ -26,10 +26,11 @@ use Rattle.change_spec.specs.Members.{events}
 use Rattle.change_spec.specs.Statements.{Statement}
 use Rattle.change_round_laws.proofs.FoldLaws.{StatesAreHanded}
 use Rattle.result_laws.specs.Coming.{HasFolds, come}
-use Rattle.result_laws.proofs.ComingLaws.{fits_of, fronts_fold}
+use Rattle.result_laws.proofs.ComingLaws.{facts, fits_of, fronts_fold}
+use Rattle.result_laws.proofs.FactLaws.{Facts}
 use Rattle.result_laws.proofs.StoppingLaws.{NothingIsOpen}
 use Rattle.result_laws.specs.Describing.{LinksAre}
-use Rattle.result_laws.specs.Holding.{AreTables, NoneSpent, forks_not_free, forks_serve_places, has_fork, holds, is_fork, not_free}
+use Rattle.result_laws.specs.Holding.{AreFree, AreLent, AreTables, IsLent, NoneSpent, NothingIsOpenAt, forks_not_free, forks_serve_places, has_fork, holds, is_fork, not_free}
 use Rattle.result_laws.proofs.Dining.{resting_has_none}
 use Rattle.result_laws.proofs.Forks.{held_once, keep_forks, keep_held}
 use Rattle.result_laws.proofs.Lent.{AllHeld, Claims, HeldBy, gets, got, keeps}
@@ -57,6 +58,62 @@ module _ (handed : StatesAreHanded) (none_open : NothingIsOpen) (statements : Li
       let front = fronts_are_runs before after run' in
       let front_folds = fronts_fold handed before after run' (subst (λ xs. HasFolds xs) parts folds) in
       held_once before front (linked before after parts) (keep_forks handed before front front_folds (λ xs ys is. linked xs (ys ++ after) (parts ∙ ap (λ zs. zs ++ after) is ∙ append_assoc xs ys after))) p q n x y made leads_p leads_q there kind holds_p holds_q
+
+  -- ---- at a place of the run
+
+  module _ (tables : AreTables statements) (before after : List Event) (parts : es ≡ before ++ after) (spent_none : NoneSpent (state_after before)) where
+    run_there : IsRun (before ++ after)
+    run_there = subst (λ xs. IsRun xs) parts run
+
+    front : IsRun before
+    front = fronts_are_runs before after run_there
+
+    front_folds : HasFolds before
+    front_folds = fronts_fold handed before after run_there (subst (λ xs. HasFolds xs) parts folds)
+
+    held_there : AllHeld before
+    held_there =
+        let linked = all_linked statements report l (LinksAre forks_serve_places) tables forks_serve_places (λ g h. h) in
+        keep_held handed before front front_folds (λ xs ys is. linked xs (ys ++ after) (parts ∙ ap (λ zs. zs ++ after) is ∙ append_assoc xs ys after))
+        (λ p. let low = spent_none p in ne_eqb (exchange (state_after before) p).serial LAST_SERIAL (λ same. omega (arith, low, same)))
+
+    lent_by : (n : ℕ) → HeldBy (state_after before) (come before) n → IsLent before n
+    lent_by n h = record { port = h.port; provide = h.to.provide; leads = h.joined.leads ∙ ap (λ k. Some (record { node = k; provide = h.to.provide })) h.at; has = by h.port h.to h.claims }
+      where
+        by : (p : ℕ) (to : Target) → Claims (state_after before) (come before) p to → (holds before p ≡ true) ⊎ (is_idle (exchange (state_after before) p).phase ≡ false)
+        by p to (keeps u a g) = ⊎_elim
+            (λ (idle : is_idle (exchange (state_after before) p).phase ≡ true). inl (and_from (is_idle (exchange (state_after before) p).phase) (has_fork (come before (owner (state_after before).config p)) (gate (state_after before).config p).require) idle g))
+            (λ (busy : is_idle (exchange (state_after before) p).phase ≡ false). inr busy)
+            (cases_Bool (is_idle (exchange (state_after before) p).phase))
+        by p to (gets u a r) = inr (taken_busy (state_after before) p (runs_are_consistent before front) u)
+        by p to (got u a v) = inr (answered_busy (exchange (state_after before) p).phase u)
+
+    pub lent_there : AreLent before
+    lent_there n made there kind not_0 = lent_by n (held_there n made there kind (ne_eqb (come before n).kept.count 0 not_0))
+
+    -- where nothing is open no place is in a service, and so none has a fork
+    pub free_there : NothingIsOpenAt before → AreFree before
+    free_there idle n made there kind = by ((come before n).kept.count == 0) refl
+      where
+        facts_there : Facts (state_after before) (come before)
+        facts_there = facts handed before front front_folds
+
+        at_rest_there : (m : ℕ) (o : Option Service) → (come before m).service ≡ o → (come before m).service ≡ None
+        at_rest_there m None is = is
+        at_rest_there m (Some w) is =
+            let v = facts_there.served m w is in
+            absurd (both_ways (is_idle (exchange (state_after before) v.0.port).phase) (serving_busy (exchange (state_after before) v.0.port).phase (facts_there.traffic.serving m v.0 v.1).busy) (idle v.0.port))
+
+        none_has : (p : ℕ) → (holds before p ≡ true) ⊎ (is_idle (exchange (state_after before) p).phase ≡ false) → ⊥
+        none_has p (inr busy) = both_ways (is_idle (exchange (state_after before) p).phase) busy (idle p)
+        none_has p (inl h) =
+            let m = owner (state_after before).config p in
+            let r = (gate (state_after before).config p).require in
+            both_ways (has_fork (come before m) r) (resting_has_none (come before m) r (at_rest_there m (come before m).service refl)) (and_parts (is_idle (exchange (state_after before) p).phase) (has_fork (come before m) r) h).1
+
+        by : (b : Bool) → ((come before n).kept.count == 0) ≡ b → (come before n).kept.count ≡ 0
+        by true z = eqb-true (come before n).kept.count 0 z
+        by false busy = let w = lent_there n made there kind (λ z. both_ways ((come before n).kept.count == 0) busy (eq-eqb (come before n).kept.count 0 z)) in absurd (none_has w.port w.has)
 
   pub none_holds : (p : ℕ) → holds es p ≡ false
   none_holds p = false_from_ne_true (holds es p) (λ h. both_ways (has_fork (come es (owner (state_after es).config p)) (gate (state_after es).config p).require) (resting_has_none (come es (owner (state_after es).config p)) (gate (state_after es).config p).require (rests_at_end handed none_open statements report l (owner (state_after es).config p)))

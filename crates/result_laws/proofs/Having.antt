@@ -32,7 +32,7 @@ use Rattle.change_round_laws.proofs.FoldLaws.{StatesAreHanded}
 use Rattle.result_laws.specs.Items.{HasItems, IsItem, IsLogOfLive, IsOfSource, WasAnswered}
 use Rattle.result_laws.specs.Keeping.{AreRows}
 use Rattle.result_laws.specs.Describing.{kind_at}
-use Rattle.result_laws.specs.Rows.{IsRow, through}
+use Rattle.result_laws.specs.Rows.{IsRow, rows_serve_rows, through}
 use Rattle.result_laws.specs.Coming.{HasFolds, come}
 use Rattle.result_laws.proofs.PlacedLaws.{placed}
 use Rattle.result_laws.proofs.ReopenedLaws.{ends_at}
@@ -40,6 +40,7 @@ use Rattle.result_laws.proofs.StoppingLaws.{NothingIsOpen, log_of, logs_fold, op
 use Rattle.result_laws.proofs.Course.{Course, RowAt}
 use Rattle.result_laws.proofs.Ends.{MakesWell, each_is_last, last_made, same_sink, same_source}
 use Rattle.result_laws.proofs.Lawfully.{makes, opens, placed_courses}
+use Rattle.result_laws.proofs.Linking.{AllLinked, all_linked}
 use Rattle.result_laws.proofs.Placing.{ItemAt, PlacedCourse}
 use Rattle.result_laws.proofs.Resting.{Ends}
 use Rattle.result_laws.proofs.Rising.{stand_of}
@@ -107,14 +108,17 @@ module _ (handed : StatesAreHanded) (each_may : EachMayCommit) (by_config : Comm
   folds : HasFolds (events l.members)
   folds = logs_fold l.members report l.by_them.merge l.by_them.runs l.by_them.folds
 
+  linked : (before after : List Event) → events l.members ≡ before ++ after → AllLinked rows_serve_rows (state_after before).config
+  linked = all_linked statements report l IsRow rows.rows rows_serve_rows (λ g r. r.links)
+
   make_well : MakesWell (events l.members)
-  make_well = makes handed each_may by_config leaves statements report l.members sound rows l.follows l.by_them.merge l.by_them.runs folds
+  make_well = makes handed each_may by_config leaves statements report l.members sound rows l.follows l.by_them.merge l.by_them.runs folds linked
 
   open_rows : (before after : List Event) (p : ℕ) → events l.members ≡ before ++ event.Reopen p ∷ after → RowAt before
-  open_rows = opens handed each_may by_config leaves statements report l.members sound rows l.follows l.by_them.merge l.by_them.runs folds
+  open_rows = opens handed each_may by_config leaves statements report l.members sound rows l.follows l.by_them.merge l.by_them.runs folds linked
 
   whole : PlacedCourse (events l.members)
-  whole = placed_courses handed each_may by_config leaves statements report l.members sound rows l.follows l.by_them.merge l.by_them.runs folds (events l.members) [] (sym (append-nil (events l.members)))
+  whole = placed_courses handed each_may by_config leaves statements report l.members sound rows l.follows l.by_them.merge l.by_them.runs folds linked (events l.members) [] (sym (append-nil (events l.members)))
 
   ends_of : (past : List ℕ) → Course (events l.members) past → Ends (events l.members) past
   ends_of = ends_there handed (events l.members) l.by_them.runs folds (open_nowhere (events l.members) l.by_them.runs (none_open statements report l.members l.follows l.by_them.merge l.by_them.runs l.by_them.drained))

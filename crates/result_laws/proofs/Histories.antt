@@ -1,5 +1,5 @@
--- In a history that follows sound statements of rows, each make stands where a commit or the start is under way, and a source or a
--- sink takes over from the last one.
+-- In a history that follows sound statements of rows, each make of a node of a row stands where the start or a commit of that is under
+-- way, and a source or a sink takes over from the last one.
 use Rattle.std.proofs.Common.{◌≡◌, ◌∙◌, ℕ, suc, ◌+◌, Bool, true, false, List, [], ◌∷◌, ◌++◌, append_assoc, map, Option, Some, None, refl, sym, ap, subst, arith, ⊎_elim}
 use Rattle.std.specs.Prelude.{ℤ, ◌||◌, not, All, Contains, filter, filter_map, option_map, slice_get}
 use Rattle.std.specs.List.{cons_option, enumerate_from, list_any}
@@ -25,7 +25,7 @@ use Rattle.change_plan.specs.declared.plan_data.Plan.{Plan}
 use Rattle.change_plan_laws.specs.Commit.{commit_events, new_links, ports_to_close, reopened_ports, work}
 use Rattle.quiesce_core.specs.Doers.{is_make, is_of_change}
 use Rattle.quiesce_core.specs.Live.{AreLinked, IsGraphOf, IsLiveNode}
-use Rattle.quiesce_core.specs.Runs.{IsRun}
+use Rattle.quiesce_core.specs.Runs.{IsRun, state_after}
 use Rattle.quiesce_core.specs.State.{Configuration}
 use Rattle.quiesce_core.specs.declared.event.Event.{Event}
 use Rattle.quiesce_core.specs.declared.event.Event.TheVariants as event
@@ -44,8 +44,7 @@ use Rattle.result_laws.specs.Describing.{Describes}
 use Rattle.result_laws.specs.Keeping.{KeepEndsFrom, KeepsEnds}
 use Rattle.result_laws.specs.Rows.{IsRow}
 use Rattle.result_laws.proofs.Committing.{commit_well}
-use Rattle.result_laws.proofs.Making.{OnceFrom, Well, calm_well, held_well, makes_well, none_map, one_sink_at, one_source_at, stays_touched}
-use Rattle.result_laws.proofs.Staying.{is_reopen}
+use Rattle.result_laws.proofs.Making.{OnceFrom, Well, calm_well, makeless_well, makes_well, none_map, one_sink_at, one_source_at}
 use Rattle.result_laws.proofs.ReopeningLaws.{front_runs, graph_on}
 use Rattle.base.proofs.ListLaws.{all_parts, none_both}
 
@@ -130,10 +129,9 @@ start_well g q =
     let links = filter_map (link_of g) (enumerate_from 0 (ports g.nodes)) in
     each_joined Well [] (makes ++ links) (map reopen_of (enumerate_from 0 (ports g.nodes)))
     (each_joined Well [] makes links
-    (subst (EachAfter Well []) (sym (makes_of_start 0 g.nodes)) (makes_well [] (news 0 g.nodes) refl
+    (subst (EachAfter Well []) (sym (makes_of_start 0 g.nodes)) (makes_well [] (news 0 g.nodes) (λ m there of_row. refl)
     (start_once Source 0 g.nodes (λ i j a b. one_source_at g q i a ∙ sym (one_source_at g q j b))) (start_once Sink 0 g.nodes (λ i j a b. one_sink_at g q i a ∙ sym (one_sink_at g q j b)))))
-    (held_well makes links (none_linked g (enumerate_from 0 (ports g.nodes)) is_make (λ p n x. refl)) (none_linked g (enumerate_from 0 (ports g.nodes)) is_reopen (λ p n x. refl))
-    (stays_touched [] makes (none_map is_reopen make_of (λ x. refl) (enumerate_from 0 g.nodes)) refl)))
+    (makeless_well makes links (none_linked g (enumerate_from 0 (ports g.nodes)) is_make (λ p n x. refl))))
     (calm_well (makes ++ links) (map reopen_of (enumerate_from 0 (ports g.nodes))) (none_map is_shaping reopen_of (λ x. refl) (enumerate_from 0 (ports g.nodes))))
 
 -- ---- statement by statement
@@ -175,8 +173,12 @@ module _ (each_may : EachMayCommit) (by_config : CommitsByConfiguration) (leaves
       let calm = calm_well (changes h) closes (none_map is_shaping event.Close (λ x. refl) (ports_to_close old plan (config_after h))) in
       let runs = front_runs (h ++ o) tail (subst (λ xs. IsRun (changes xs)) (sym (append_assoc h o tail)) (subst (λ xs. IsRun (changes (h ++ xs))) are goes)) in
       let stands = graph_on h o old runs (ap (list_any is_shaping) o_is ∙ none_map is_shaping event.Close (λ x. refl) (ports_to_close old plan (config_after h))) is in
+      let onward_ : IsRun (changes (h ++ o) ++ commit_events old new plan (state_after (changes (h ++ o))).config) =
+      subst IsRun
+      (changes_both h ls ∙ ap (λ xs. changes h ++ xs) all_is ∙ sym (append_assoc (changes h) closes ev) ∙ ap (λ xs. xs ++ ev) (sym both)
+      ∙ ap (λ c. changes (h ++ o) ++ commit_events old new plan c) (sym (config_of (h ++ o)))) goes in
       let well = commit_well (changes (h ++ o)) runs (subst (Each Well) (sym both) (each_joined Well [] (changes h) closes each calm)) old new moves plan sound_old sound_new
-      (subst (λ c. IsGraphOf c old) (sym (config_of (h ++ o))) stands) is_plan r q keeps in
+      (subst (λ c. IsGraphOf c old) (sym (config_of (h ++ o))) stands) is_plan r q keeps onward_ in
       subst (EachAfter Well (changes h)) (sym all_is)
       (each_joined Well (changes h) closes ev calm (subst (λ xs. EachAfter Well xs ev) both (subst (λ c. EachAfter Well (changes (h ++ o)) (commit_events old new plan c)) (config_of (h ++ o)) well)))
 

@@ -17,6 +17,8 @@ use Rattle.config_graph.specs.declared.node.Node.{Node}
 use Rattle.quiesce_core.specs.Runs.{IsRun, state_after}
 use Rattle.quiesce_core.specs.declared.event.Event.{Event}
 use Rattle.quiesce_core.specs.declared.event.Event.TheVariants as event
+use Rattle.quiesce_core.specs.State.{Configuration}
+use Rattle.quiesce_core.proofs.InductionLaws.{IsNext, always}
 use Rattle.quiesce_core.proofs.RunLaws.{fronts_are_runs}
 use Rattle.quiesce_laws.specs.Starts.{start_of}
 use Rattle.report_types.specs.declared.report.HistoryLine.{HistoryLine}
@@ -35,12 +37,13 @@ use Rattle.change_round_laws.proofs.FoldLaws.{StatesAreHanded}
 use Rattle.change_round_laws.proofs.LineLaws.{changes, changes_both, changes_of_lines}
 use Rattle.result_laws.specs.Describing.{Describes}
 use Rattle.result_laws.specs.Keeping.{AreRows, KeepEndsFrom}
-use Rattle.result_laws.specs.Rows.{IsRow}
+use Rattle.result_laws.specs.Rows.{IsRow, rows_serve_rows}
 use Rattle.result_laws.specs.Coming.{HasFolds}
 use Rattle.result_laws.proofs.Course.{CourseAt, CourseNext, Course, RowAt, course_at, course_next}
-use Rattle.result_laws.proofs.Ends.{AreOfRow, IsMadeWell, MakesWell, last_next, touch_next, touched}
+use Rattle.result_laws.proofs.Ends.{IsMadeWell, MakesWell, last_next, touch_next, touched, touched_more}
 use Rattle.result_laws.proofs.Histories.{all_well, closes_makeless, described_has, looks_makeless, makeless, start_kept, start_well}
 use Rattle.result_laws.proofs.Making.{Well, calm_well}
+use Rattle.result_laws.proofs.Linking.{AllLinked}
 use Rattle.result_laws.proofs.PlacedLaws.{opened_at}
 use Rattle.result_laws.proofs.Placing.{PlacedCourse, placed_at}
 use Rattle.result_laws.proofs.ReopeningLaws.{front_runs, right_after}
@@ -96,64 +99,62 @@ kept_fold f calm a (e ∷ es) = by (is_of_change e) refl (kept_fold f calm (f a 
     by true is one two = rw is one
     by false is one two = rw is (two ∙ ap (λ x. fold f x es) (sym (calm a e is)))
 
-touch_nothing : (b : Bool) (e : Event) → is_of_change e ≡ false → touch_next b e ≡ b
-touch_nothing b (event.Make n node from) h = absurd (both_ways true h refl)
-touch_nothing b (event.Link p n x) h = absurd (both_ways true h refl)
-touch_nothing b (event.Unlink p) h = absurd (both_ways true h refl)
-touch_nothing b (event.Remove n) h = absurd (both_ways true h refl)
-touch_nothing b (event.Reopen p) h = absurd (both_ways true h refl)
-touch_nothing b _ h = refl
+touch_nothing : (c : Configuration) (b : Bool) (e : Event) → is_of_change e ≡ false → touch_next c b e ≡ b
+touch_nothing c b (event.Make n node from) h = absurd (both_ways true h refl)
+touch_nothing c b (event.Link p n x) h = absurd (both_ways true h refl)
+touch_nothing c b (event.Unlink p) h = absurd (both_ways true h refl)
+touch_nothing c b (event.Remove n) h = absurd (both_ways true h refl)
+touch_nothing c b (event.Close p) h = absurd (both_ways true h refl)
+touch_nothing c b (event.Reopen p) h = absurd (both_ways true h refl)
+touch_nothing c true _ h = refl
+touch_nothing c false _ h = refl
 
 last_nothing : (k : Kind) (o : Option ℕ) (e : Event) → is_of_change e ≡ false → last_next k o e ≡ o
 last_nothing k o (event.Make n node from) h = absurd (both_ways true h refl)
 last_nothing k o _ h = refl
 
+kept_none : (e : Event) → is_of_change e ≡ false → filter is_of_change (e ∷ []) ≡ []
+kept_none e h = rw h refl
+
 kept_make : (xs : List Event) (e : Event) → is_of_change e ≡ true → filter is_of_change (e ∷ xs) ≡ e ∷ filter is_of_change xs
 kept_make xs e h = rw h refl
 
-module _ (es : List Event) (goes : IsRun es) (each : Each Well (filter is_of_change es)) where
-  well_among : (before after : List Event) (e : Event) → es ≡ before ++ e ∷ after → is_of_change e ≡ true → Well (filter is_of_change before) e
-  well_among before after e parts of_change =
-      let split : filter is_of_change es ≡ filter is_of_change before ++ e ∷ filter is_of_change after = ap (filter is_of_change) parts ∙ filter-append is_of_change before (e ∷ after) ∙ ap (λ xs. filter is_of_change before ++ xs) (kept_make after e of_change) in
-      each_at Well (filter is_of_change before) (filter is_of_change after) e (subst (Each Well) split each)
+-- events of nodes touch nothing
+touched_kept : (es : List Event) → IsRun es → touched (filter is_of_change es) ≡ touched es
+touched_kept = always (λ xs. touched (filter is_of_change xs) ≡ touched xs) next refl
+  where
+    next : (before : List Event) (e : Event) → IsNext before e → touched (filter is_of_change before) ≡ touched before → touched (filter is_of_change (before ++ e ∷ [])) ≡ touched (before ++ e ∷ [])
+    next before e here earlier = by (is_of_change e) refl
+      where
+        by : (b : Bool) → is_of_change e ≡ b → touched (filter is_of_change (before ++ e ∷ [])) ≡ touched (before ++ e ∷ [])
+        by true changes_ =
+            ap touched (filter-append is_of_change before (e ∷ []) ∙ ap (λ xs. filter is_of_change before ++ xs) (kept_make [] e changes_)) ∙ touched_more (filter is_of_change before) e
+            ∙ (λ i. touch_next ((alone before here.run).config i) (earlier i) e) ∙ sym (touched_more before e)
+        by false of_node =
+            ap touched (filter-append is_of_change before (e ∷ []) ∙ ap (λ xs. filter is_of_change before ++ xs) (kept_none e of_node) ∙ append-nil (filter is_of_change before)) ∙ earlier
+            ∙ sym (touch_nothing (state_after before).config (touched before) e of_node) ∙ sym (touched_more before e)
 
-  made_among : (before after : List Event) (n : ℕ) (node : Node) (from : Option ℕ) → es ≡ before ++ event.Make n node from ∷ after → IsMadeWell before node from
+module _ (es : List Event) (goes : IsRun es) (each : Each Well (filter is_of_change es)) where
+  pub made_among : (before after : List Event) (n : ℕ) (node : Node) (from : Option ℕ) → es ≡ before ++ event.Make n node from ∷ after → IsMadeWell before node from
   made_among before after n node from parts =
-      let w : IsMadeWell (filter is_of_change before) node from = well_among before after (event.Make n node from) parts refl in
+      let e = event.Make n node from in
+      let split : filter is_of_change es ≡ filter is_of_change before ++ e ∷ filter is_of_change after = ap (filter is_of_change) parts ∙ filter-append is_of_change before (e ∷ after) ∙ ap (λ xs. filter is_of_change before ++ xs) (kept_make after e refl) in
+      let w : IsMadeWell (filter is_of_change before) node from = each_at Well (filter is_of_change before) (filter is_of_change after) e (subst (Each Well) split each) in
       record {
-        behind = sym (kept_fold touch_next touch_nothing true before) ∙ w.behind;
+        behind = λ of_row. sym (touched_kept before (fronts_are_runs before (e ∷ after) (subst IsRun parts goes))) ∙ w.behind of_row;
         source = λ kind. w.source kind ∙ kept_fold (last_next Source) (last_nothing Source) None before;
         sink = λ kind. w.sink kind ∙ kept_fold (last_next Sink) (last_nothing Sink) None before;
       }
 
-  alone_among : (before after : List Event) (e : Event) → es ≡ before ++ e ∷ after → is_shaping e ≡ true → touched before ≡ false → AreOfRow (state_after before).config
-  alone_among before after e parts shaping calm = by e refl
-    where
-      calm_then : touched (filter is_of_change before) ≡ false
-      calm_then = kept_fold touch_next touch_nothing true before ∙ calm
-
-      so : AreOfRow (state_after (filter is_of_change before)).config → AreOfRow (state_after before).config
-      so h = subst AreOfRow (alone before (fronts_are_runs before (e ∷ after) (subst IsRun parts goes))).config h
-
-      at : (z : Event) → e ≡ z → es ≡ before ++ z ∷ after
-      at z is = parts ∙ ap (λ y. before ++ y ∷ after) is
-
-      by : (z : Event) → e ≡ z → AreOfRow (state_after before).config
-      by (event.Make n node from) is = absurd (both_ways (touched before) calm (made_among before after n node from (at (event.Make n node from) is)).behind)
-      by (event.Link p n x) is = so (well_among before after (event.Link p n x) (at (event.Link p n x) is) refl refl calm_then)
-      by (event.Unlink p) is = so (well_among before after (event.Unlink p) (at (event.Unlink p) is) refl refl calm_then)
-      by (event.Remove n) is = so (well_among before after (event.Remove n) (at (event.Remove n) is) refl refl calm_then)
-      by _ is = absurd (both_ways false refl (sym (ap is_shaping is) ∙ shaping))
-
-  makes_all : MakesWell es
-  makes_all = record { made = made_among; alone = alone_among }
-
 module _ (handed : StatesAreHanded) (each_may : EachMayCommit) (by_config : CommitsByConfiguration) (leaves : CommitsLeaveGraphs) (statements : List Statement) (report : Report) (m : List Member) (sound : AreSound statements) (rows : AreRows statements)
-    (follows : Follows statements report.history) (merge : Merge m report) (goes : IsRun (events m)) (folds : HasFolds (events m)) where
+    (follows : Follows statements report.history) (merge : Merge m report) (goes : IsRun (events m)) (folds : HasFolds (events m)) (linked : (before after : List Event) → events m ≡ before ++ after → AllLinked rows_serve_rows (state_after before).config) where
   pub makes : MakesWell (events m)
   makes =
       let changed : filter is_of_change (events m) ≡ changes report.history = changes_are_lines m merge.by_nodes ∙ ap changes merge.history ∙ events_without_roots report.history in
-      makes_all (events m) goes (subst (Each Well) (sym changed) (history_well each_may by_config leaves statements report.history sound rows follows (subst IsRun changed (changes_run (events m) goes))))
+      record {
+        made = made_among (events m) goes (subst (Each Well) (sym changed) (history_well each_may by_config leaves statements report.history sound rows follows (subst IsRun changed (changes_run (events m) goes))));
+        linked = linked;
+      }
 
   pub opens : (before after : List Event) (p : ℕ) → events m ≡ before ++ event.Reopen p ∷ after → RowAt before
   opens before after p parts =

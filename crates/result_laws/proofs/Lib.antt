@@ -10,7 +10,9 @@ pub mod Passing
 pub mod Onward
 pub mod Rounds
 pub mod WorkedRows
+pub mod Beside
 pub mod Between
+pub mod RowSlots
 pub mod RowLinks
 pub mod RowWays
 pub mod Touching
@@ -20,6 +22,7 @@ pub mod Takeovers
 pub mod Ends
 pub mod Resting
 pub mod Rising
+pub mod RowGraphs
 pub mod Staying
 pub mod Course
 pub mod Takings

@@ -83,10 +83,10 @@ new_item es e here past next g =
           ∙ ap (λ z. b.before ++ Begin w.p b.serial (length past + 1) ∷ (b.after ++ z ∷ [])) (g.end_.is ∙ ap (λ k. End w.p k g.end_.answer) serial);
       not_0 = g.end_.not_0;
       of_source = b.of_source;
-      graph = w.graph;
+      graph = b.graph;
       stands = b.stands;
-      row = w.is_row;
-      is = w.same (length past + 1);
+      row = b.row;
+      is = b.passes (length past + 1);
     }
 
 places_next : (es : List Event) (e : Event) → IsNext es e → (past : List ℕ) → (on : CourseNext es e past) → HavePlaces es past → HavePlaces (es ++ e ∷ []) on.next

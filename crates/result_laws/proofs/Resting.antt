@@ -1,4 +1,4 @@
--- From a row to rest: where a node is settled, all ports are idle, and those that are open are ports of maps; and a rest stays.
+-- From a row to rest: where a node of it is settled, all its ports are idle, and those that are open are ports of maps.
 use Rattle.std.proofs.Common.{◌≡◌, ◌∙◌, ℕ, ◌+◌, ◌<◌, ◌≤◌, true, false, List, [], ◌∷◌, ◌++◌, length, Some, refl, sym, ap, subst, arith, inl, inr, ⊎_elim}
 use Rattle.std.specs.Prelude.{◌⊎◌, nat_lt}
 use Rattle.std.specs.Option.{option_map_or}
@@ -16,6 +16,7 @@ use Rattle.quiesce_core.specs.Reach.{IsPortOf}
 use Rattle.quiesce_core.specs.Rules.{is_settled}
 use Rattle.quiesce_core.specs.Runs.{IsRun, state_after}
 use Rattle.quiesce_core.specs.State.{Configuration, State, exchange, fresh_exchange, fresh_gate, gate, is_live, owner, slot}
+use Rattle.quiesce_core.specs.WellFormed.{IsSound}
 use Rattle.quiesce_core.specs.declared.event.Event.{Event}
 use Rattle.quiesce_core.specs.declared.event.Event.TheVariants as event
 use Rattle.quiesce_core.specs.declared.state.Exchange.{Exchange}
@@ -32,10 +33,11 @@ use Rattle.result_laws.proofs.AtRest.{IsStill, all_idle}
 use Rattle.result_laws.proofs.Between.{Row}
 use Rattle.result_laws.specs.Coming.{HasFolds, come}
 use Rattle.result_laws.proofs.ComingLaws.{facts, fits_of}
-use Rattle.result_laws.proofs.Ends.{AreOfRow, last_made}
+use Rattle.result_laws.proofs.Ends.{last_made}
 use Rattle.result_laws.proofs.Onward.{way_busy}
 use Rattle.result_laws.proofs.Passing.{Few, Stop, ToMap, Way, passed}
 use Rattle.result_laws.proofs.Rounds.{IsSource, Stands, resting, under_way}
+use Rattle.result_laws.proofs.RowSlots.{row_port, row_slot, slot_is}
 use Rattle.result_laws.proofs.Touching.{IsOnWay, quiet_where_settled}
 
 -- what the last source counts and the last sink has
@@ -49,31 +51,30 @@ pub record Rest (es : List Event) (past : List ℕ) : Type 0 where
   -- at the port of a live map no more transactions began than items came
   pub few : (q : ℕ) → is_live (state_after es).config (owner (state_after es).config q) ≡ true → (come es (owner (state_after es).config q)).kind ≡ Map → (exchange (state_after es) q).serial ≤ length past
 
--- where the transaction began that is under way at a port, and the graph that stood there
-pub record Begun (es : List Event) (p v : ℕ) (g : Graph) : Type 0 where
+-- where the transaction began that is under way at a port, and the graph that stood there, in which it goes this way
+pub record Begun (es : List Event) (p v : ℕ) (ms : List Stop) : Type 0 where
   pub before : List Event
   pub after : List Event
   pub serial : ℕ
   pub parts : es ≡ before ++ event.Begin p serial v ∷ after
-  pub stands : IsGraphOf (state_after before).config g
+  pub graph : Graph
+  pub stands : IsGraphOf (state_after before).config graph
+  pub row : IsRow graph
+  pub passes : (x : ℕ) → passed x ms ≡ through graph row.maps x
   pub same : (exchange (state_after es) p).serial ≡ serial
   pub of_source : IsOfSource (state_after before).config p
 
--- the graph that stands is a row, and it stands there with what went through it
+-- the live nodes of a row are the source, the maps on its way and the sink, with what went through it
 pub record InRow (es : List Event) (past : List ℕ) : Type 0 where
-  pub graph : Graph
-  pub stands : IsGraphOf (state_after es).config graph
-  pub is_row : IsRow graph
   pub a : ℕ
   pub p : ℕ
   pub ms : List Stop
   pub t : ℕ
   pub row : Row es a p ms t past
-  pub same : (v : ℕ) → passed v ms ≡ through graph is_row.maps v
   pub source : last_made Source es ≡ Some a
   pub sink : last_made Sink es ≡ Some t
   pub nodes : (n : ℕ) (m : Slot) → slot (state_after es).config n ≡ Some m → m.live ≡ true → is_of_row m.node.kind ≡ true → (n ≡ a) ⊎ IsOnWay ms t n
-  pub begun : is_idle (exchange (state_after es) p).phase ≡ false → Begun es p (length past + 1) graph
+  pub begun : is_idle (exchange (state_after es) p).phase ≡ false → Begun es p (length past + 1) ms
 
 -- ---- ports of the nodes of a row
 
@@ -140,33 +141,41 @@ module _ (handed : StatesAreHanded) (es : List Event) (run : IsRun es) (folds : 
       few (resting idle' count items f) = f
       few (under_way d room going count items) = absurd (way_busy (state_after es) (come es) (come es) (facts handed es run folds) (length past) room w.ms w.p (length past + 1) w.t d going idle)
 
-  -- where a row stands alone and a node of it is settled the row rests
-  pub rests : (w : InRow es past) → AreOfRow (state_after es).config → (n : ℕ) → is_settled (state_after es) n ≡ true → Rest es past
-  rests w alone n settled = record {
+  -- where a node of a row is settled the row rests
+  pub rests : (w : InRow es past) → (n : ℕ) → row_slot (state_after es).config n ≡ true → is_settled (state_after es) n ≡ true → Rest es past
+  rests w n of_row settled = record {
     still = record { idle = idle; opened = opened };
     ends = row_ends w quiet.1;
     few = few;
   }
     where
-      s : State
-      s = state_after es
+      sound : IsSound (state_after es).config
+      sound = (runs_are_well_formed es run).sound
 
-      all_nodes : (n : ℕ) → is_live (state_after es).config n ≡ true → (n ≡ w.a) ⊎ IsOnWay w.ms w.t n
-      all_nodes n live = let m = map_or_true (λ (x : Slot). x.live) (slot (state_after es).config n) live in w.nodes n m.0 m.1 m.2 (alone n m.0 m.1 m.2)
+      row_nodes : (n : ℕ) → row_slot (state_after es).config n ≡ true → is_live (state_after es).config n ≡ true → (n ≡ w.a) ⊎ IsOnWay w.ms w.t n
+      row_nodes n of_row live =
+          let m = map_or_true (λ (x : Slot). x.live) (slot (state_after es).config n) live in
+          w.nodes n m.0 m.1 m.2 (sym (slot_is (state_after es).config n m.0 m.1) ∙ of_row)
 
       quiet : ((gate (state_after es).config w.p).closed ≡ true) × (is_idle (exchange (state_after es) w.p).phase ≡ true)
       quiet = quiet_where_settled (state_after es) (come es) w.a w.p w.ms w.t n (runs_are_well_formed es run) w.row.src.owned (source_made w.a w.p w.row.src) w.row.way settled
-          (all_nodes n (settled_if (state_after es) (runs_are_well_formed es run).sound n settled).live)
+          (row_nodes n of_row (settled_if (state_after es) sound n settled).live)
 
       port_there : (q : ℕ) → q < length (state_after es).config.gates → IsPortOf (state_after es).config (owner (state_after es).config q) q
-      port_there q made = (runs_are_well_formed es run).sound.ports q made
+      port_there q made = sound.ports q made
 
       at_source : (q : ℕ) → q < length (state_after es).config.gates → owner (state_after es).config q ≡ w.a → q ≡ w.p
       at_source q made owned = source_port w.a w.p w.row.src q (subst (λ k. IsPortOf (state_after es).config k q) owned (port_there q made))
 
+      -- a port of a map is one of the row
+      of_map : (q : ℕ) → q < length (state_after es).config.gates → (come es (owner (state_after es).config q)).kind ≡ Map → row_port (state_after es).config q ≡ true
+      of_map q made kind =
+          let own = port_there q made in
+          slot_is (state_after es).config (owner (state_after es).config q) own.node own.made ∙ ap is_of_row (sym ((fits_of handed es run folds).kinds (owner (state_after es).config q) own.node own.made) ∙ kind)
+
       few : (q : ℕ) → is_live (state_after es).config (owner (state_after es).config q) ≡ true → (come es (owner (state_after es).config q)).kind ≡ Map → (exchange (state_after es) q).serial ≤ length past
       few q live kind = ⊎_elim
-          (λ (made : q < length (state_after es).config.gates). by made (all_nodes (owner (state_after es).config q) live))
+          (λ (made : q < length (state_after es).config.gates). by made (row_nodes (owner (state_after es).config q) (of_map q made kind) live))
           (λ (beyond : length (state_after es).config.gates ≤ q).
           let fresh = ap (λ (x : Exchange). x.serial) (get_or_past (state_after es).traffic.exchanges q fresh_exchange (let n = (runs_are_well_formed es run).exchanges in omega (arith, n, beyond))) in omega (arith, fresh))
           (cases_lt q (length (state_after es).config.gates))
@@ -175,11 +184,11 @@ module _ (handed : StatesAreHanded) (es : List Event) (run : IsRun es) (folds : 
           by made (inl here) = absurd (cc (sym kind ∙ ap (λ i. (come es i).kind) here ∙ w.row.src.kind))
           by made (inr on) = few_on (state_after es) (come es) (length past) w.ms w.p w.t (owner (state_after es).config q) q w.row.way (row_few w quiet.1) on (port_there q made) kind
 
-      idle : (q : ℕ) → is_idle (exchange (state_after es) q).phase ≡ true
-      idle q = true_from_ne_false (is_idle (exchange (state_after es) q).phase) (λ busy.
+      idle : (q : ℕ) → row_port (state_after es).config q ≡ true → is_idle (exchange (state_after es) q).phase ≡ true
+      idle q of_port = true_from_ne_false (is_idle (exchange (state_after es) q).phase) (λ busy.
           let live = and_parts (nat_lt q (length (state_after es).config.gates)) (is_live (state_after es).config (owner (state_after es).config q)) (busy_is_live (state_after es) q (runs_are_consistent es run) busy) in
           let made = ltb-true q (length (state_after es).config.gates) live.0 in
-          both_ways (is_idle (exchange (state_after es) q).phase) busy (by made (all_nodes (owner (state_after es).config q) live.1)))
+          both_ways (is_idle (exchange (state_after es) q).phase) busy (by made (row_nodes (owner (state_after es).config q) of_port live.1)))
         where
           by : q < length (state_after es).config.gates → (owner (state_after es).config q ≡ w.a) ⊎ IsOnWay w.ms w.t (owner (state_after es).config q) → is_idle (exchange (state_after es) q).phase ≡ true
           by made (inl here) = ap (λ i. is_idle (exchange (state_after es) i).phase) (at_source q made here) ∙ quiet.1
@@ -188,10 +197,10 @@ module _ (handed : StatesAreHanded) (es : List Event) (run : IsRun es) (folds : 
               (λ is. cc (sym (on_way_port (state_after es).config (come es) w.ms w.p w.t (owner (state_after es).config q) q w.row.way on (port_there q made)) ∙ ap (λ i. (come es i).kind) is ∙ end_kind (state_after es).config (come es) w.ms w.p w.t w.row.way)) refl
               (λ m r to is. sole_port (state_after es).config (come es) m r q to (subst (λ k. IsPortOf (state_after es).config k q) is (port_there q made)))
 
-      opened : (q : ℕ) → (gate (state_after es).config q).closed ≡ false → (come es (owner (state_after es).config q)).kind ≡ Map
-      opened q open_ = ⊎_elim
+      opened : (q : ℕ) → (gate (state_after es).config q).closed ≡ false → row_port (state_after es).config q ≡ true → (come es (owner (state_after es).config q)).kind ≡ Map
+      opened q open_ of_port = ⊎_elim
           (λ (made : q < length (state_after es).config.gates). ⊎_elim
-          (λ (live : is_live (state_after es).config (owner (state_after es).config q) ≡ true). by made (all_nodes (owner (state_after es).config q) live))
+          (λ (live : is_live (state_after es).config (owner (state_after es).config q) ≡ true). by made (row_nodes (owner (state_after es).config q) of_port live))
           (λ (dead : is_live (state_after es).config (owner (state_after es).config q) ≡ false). absurd (both_ways (gate (state_after es).config q).closed open_ ((runs_are_consistent es run).removed q dead).0))
           (cases_Bool (is_live (state_after es).config (owner (state_after es).config q))))
           (λ (beyond : length (state_after es).config.gates ≤ q). absurd (both_ways (gate (state_after es).config q).closed open_ (ap (λ (g : Gate). g.closed) (get_or_past (state_after es).config.gates q fresh_gate beyond))))

@@ -25,7 +25,7 @@ use Rattle.quiesce_core.proofs.RunLaws.{nodes_are_named, runs_are_consistent, ru
 use Rattle.quiesce_core.proofs.SameWiringLaws.{alive_if}
 use Rattle.change_round_laws.proofs.FoldLaws.{StatesAreHanded}
 use Rattle.result_laws.specs.Describing.{kind_at}
-use Rattle.result_laws.specs.Rows.{IsRow}
+use Rattle.result_laws.specs.Rows.{IsRow, is_of_row}
 use Rattle.result_laws.specs.Coming.{HasFolds, come}
 use Rattle.result_laws.proofs.Ends.{OneEach}
 use Rattle.result_laws.proofs.Passing.{Few, Stop, Way}
@@ -33,6 +33,7 @@ use Rattle.result_laws.proofs.ComingLaws.{fits_of}
 use Rattle.result_laws.proofs.Resting.{InRow, Rest}
 use Rattle.result_laws.proofs.Rounds.{resting}
 use Rattle.result_laws.proofs.RowLinks.{on_map, on_source}
+use Rattle.result_laws.proofs.RowSlots.{row_port, row_slot, slot_is}
 use Rattle.result_laws.proofs.RowWays.{one_stand, sink_ends, ways}
 
 record Ended (c : Configuration) (t : ℕ) : Type 0 where
@@ -90,10 +91,8 @@ module _ (handed : StatesAreHanded) (es : List Event) (run : IsRun es) (folds : 
       let end_ = way_ends c f sound w.stops p w.end_ w.way in
       let last_source = one_source a at.made at.there at.live kind in
       let last_sink = one_sink w.end_ end_.made end_.there end_.live end_.kind in
+      let of_port : row_port c p ≡ true = ap (row_slot c) owned ∙ slot_is c a at.made at.there ∙ ap is_of_row kind in
       record {
-        graph = g;
-        stands = is;
-        is_row = r;
         a = a;
         p = p;
         ms = w.stops;
@@ -101,11 +100,10 @@ module _ (handed : StatesAreHanded) (es : List Event) (run : IsRun es) (folds : 
         row = record {
           src = record { made = at.made; there = at.there; first = refl; owned = owned; kind = fits.kinds a at.made at.there ∙ kind; small = argument_small at.made.node.arg (fits.args a at.made at.there) (named.arguments a at.made at.there).below };
           way = w.way;
-          stands = resting (rest.still.idle p) (sym (ap (λ o. option_map_or (λ a. (come es a).kept.count) o 0) last_source) ∙ rest.ends.count)
+          stands = resting (rest.still.idle p of_port) (sym (ap (λ o. option_map_or (λ a. (come es a).kept.count) o 0) last_source) ∙ rest.ends.count)
               (sym (ap (λ o. option_map_or (λ t. (come es t).kept.items) o []) last_sink) ∙ rest.ends.items)
               (few_there (state_after es) (come es) sound (length past) w.stops p w.end_ w.way rest.few);
         };
-        same = w.same;
         source = last_source;
         sink = last_sink;
         nodes = λ n m there live of_row.
@@ -115,5 +113,5 @@ module _ (handed : StatesAreHanded) (es : List Event) (run : IsRun es) (folds : 
             (λ (s : listed.0 ≡ r.source). inl (one_stand c sound named alive.from f fits g is r n a r.source (subst (StandsAt c g.nodes n) s here) at))
             (λ (others : Contains r.maps listed.0 ⊎ (listed.0 ≡ r.sink)). inr (w.on_way n listed.0 here others))
             (r.no_others listed.0 m.node.kind (ap (option_map (λ (x : Node). x.kind)) listed.1) of_row);
-        begun = λ busy. absurd (both_ways (is_idle (exchange (state_after es) p).phase) busy (rest.still.idle p));
+        begun = λ busy. absurd (both_ways (is_idle (exchange (state_after es) p).phase) busy (rest.still.idle p of_port));
       }

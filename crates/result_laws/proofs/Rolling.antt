@@ -33,8 +33,6 @@ use Rattle.change_spec.proofs.SerialLaws.{one_course}
 use Rattle.change_round_laws.specs.SoundStatements.{AreSound, GoOnSoundly}
 use Rattle.change_round_laws.proofs.CourseLaws.{turn_events}
 use Rattle.result_laws.specs.Describing.{Describes, LinksAre}
-use Rattle.result_laws.specs.Flows.{AreApart}
-use Rattle.result_laws.specs.Rolling.{ItemsBalance}
 
 -- what laws of change_round_laws say
 abbrev pub HaveReports : Type 0
@@ -86,18 +84,19 @@ to_the_end statements report s =
     (further (world_after s.parts) s.stops.waiting (after_rounds false s.stops.waiting s.stops.rounds)
     (subst (WentOn (world_after s.parts)) (sym s.stops.waits) (all_changed (world_after s.parts) (map event.Close (live_ports (world_after s.parts).machine.config)))) (rounds_on false s.stops.waiting s.stops.rounds))
 
--- ---- items
+-- ---- what holds at each place holds where a roll ends
 
-abbrev pub KeptAtPlaces : Type 0
-KeptAtPlaces = (statements : List Statement) (report : Report) → (l : Lawful statements report) → AreApart statements → (before after : List Event) → events l.members ≡ before ++ after → ItemsBalance before
+abbrev pub HoldsAtPlaces : (List Event → Type 0) → (List Statement → Type 0) → Type 0
+HoldsAtPlaces P Are = (statements : List Statement) (report : Report) → (l : Lawful statements report) → Are statements → (before after : List Event) → events l.members ≡ before ++ after → P before
 
-pub items_in_roll : HaveReports → RoundsAreLawful → KeptAtPlaces → (statements : List Statement) (given_up : Option ℕ) → AreSound statements → AreApart statements → (roll : IsRoll statements given_up) → ItemsBalance (world_after roll.played).events
-items_in_roll reports rounds_lawful kept statements given_up sound apart roll =
+pub in_roll : HaveReports → RoundsAreLawful → (P : List Event → Type 0) (Are : List Statement → Type 0) → HoldsAtPlaces P Are → (statements : List Statement) (given_up : Option ℕ) → AreSound statements → Are statements → (roll : IsRoll statements given_up)
+    → P (world_after roll.played).events
+in_roll reports rounds_lawful P Are kept statements given_up sound are roll =
     let w = reports statements sound in
     let lawful = rounds_lawful statements w.0 sound w.1 in
     let on = to_the_end statements w.0 w.1 in
-    let here = kept statements w.0 lawful.lawful apart (world_after w.1.parts).events on.more_ (lawful.order ∙ on.events_are) in
-    subst (λ ps. ItemsBalance (world_after ps).events) (one_course [] w.1.parts roll.played w.1.played roll.are_played (w.1.statements_are ∙ sym roll.statements_are)) here
+    let here = kept statements w.0 lawful.lawful are (world_after w.1.parts).events on.more_ (lawful.order ∙ on.events_are) in
+    subst (λ ps. P (world_after ps).events) (one_course [] w.1.parts roll.played w.1.played roll.are_played (w.1.statements_are ∙ sym roll.statements_are)) here
 
 -- ---- links of stages
 

@@ -1,6 +1,6 @@
--- From a row to a row nothing is created unless something is unlinked or removed: so a change of rows that makes a node
--- freezes the source, and finds its port closed and idle before it makes one.
-use Rattle.std.proofs.Common.{◌≡◌, ◌∙◌, ℕ, List, [], ◌∷◌, Option, Some, None, refl, sym, ap, subst, inl, inr}
+-- From a row to a row nothing of it is created unless something of it is unlinked or removed: so a change that makes a node of the
+-- row freezes the source, and finds its port closed and idle before it makes one.
+use Rattle.std.proofs.Common.{◌≡◌, ◌∙◌, ℕ, true, List, [], ◌∷◌, Option, Some, None, refl, sym, ap, subst, inl, inr}
 use Rattle.std.specs.Prelude.{◌⊎◌, All, Contains, option_map, slice_get}
 use Rattle.std.proofs.lemmas.Option.{none-some, same_Some}
 use Rattle.std.proofs.lemmas.List.Elements.{All-head, All-tail}
@@ -17,16 +17,17 @@ use Rattle.config_graph.proofs.PathLaws.{one_place}
 use Rattle.change_plan.specs.Differences.{IsGone, IsKeptLink, IsTwin}
 use Rattle.change_plan.proofs.StepLaws.{has_node}
 use Rattle.result_laws.specs.Describing.{kind_at}
-use Rattle.result_laws.specs.Rows.{IsAlone, IsRow, LeadsThrough}
+use Rattle.result_laws.specs.Rows.{IsRow, LeadsThrough, is_of_row}
 use Rattle.result_laws.proofs.RowLinks.{one_end}
 
-module _ (old new : Graph) (sound_old : Sound old) (sound_new : Sound new) (r : IsRow old) (q : IsRow new) (alone : IsAlone new) (nodes_kept : (i : ℕ) → IsGone old new i → ⊥) (links_kept : (l : Link) → Contains old.links l → ¬ (¬ IsKeptLink old new l)) where
+module _ (old new : Graph) (sound_old : Sound old) (sound_new : Sound new) (r : IsRow old) (q : IsRow new) (nodes_kept : (i : ℕ) (k : Kind) → kind_at old i ≡ Some k → is_of_row k ≡ true → IsGone old new i → ⊥)
+    (links_kept : (l : Link) (k : Kind) → kind_at old l.from ≡ Some k → is_of_row k ≡ true → Contains old.links l → ¬ (¬ IsKeptLink old new l)) where
   twin_kind : (i j : ℕ) (k : Kind) → IsTwin old new i j → kind_at old i ≡ Some k → kind_at new j ≡ Some k
   twin_kind i j k t h = ap (option_map (λ (n : Node). n.kind)) t.there ∙ sym (ap (option_map (λ (n : Node). n.kind)) t.here) ∙ h
 
   -- a link of the old row goes on from the twin of the node at which it begins
-  step : (i i' j : ℕ) → IsTwin old new i i' → IsLinked old i 0 j 0 → ((j' : ℕ) → IsTwin old new j j' → IsLinked new i' 0 j' 0 → ⊥) → ⊥
-  step i i' j t h then = links_kept (record { from = i; require = 0; to = j; provide = 0 }) ((linked_if_listed old sound_old.in_order i 0 j 0).0 h) (λ kept.
+  step : (i i' j : ℕ) (k : Kind) → kind_at old i ≡ Some k → is_of_row k ≡ true → IsTwin old new i i' → IsLinked old i 0 j 0 → ((j' : ℕ) → IsTwin old new j j' → IsLinked new i' 0 j' 0 → ⊥) → ⊥
+  step i i' j k kind of_row t h then = links_kept (record { from = i; require = 0; to = j; provide = 0 }) k kind of_row ((linked_if_listed old sound_old.in_order i 0 j 0).0 h) (λ kept.
       let l = kept.0 in
       let same = kept.2 in
       let one : t.node ≡ same.from.node = same_Some t.node same.from.node (sym t.here ∙ same.from.here) in
@@ -38,23 +39,23 @@ module _ (old new : Graph) (sound_old : Sound old) (sound_new : Sound new) (r : 
   not_both j a b = cc (sym a ∙ b)
 
   -- each node on the new way is the twin of one on the old
-  along : (xs ys : List ℕ) (i i' x : ℕ) → IsTwin old new i i' → LeadsThrough old i xs r.sink → All (λ k. kind_at old k ≡ Some Map) xs → LeadsThrough new i' ys q.sink → All (λ k. kind_at new k ≡ Some Map) ys
+  along : (xs ys : List ℕ) (i i' x : ℕ) (o : Kind) → kind_at old i ≡ Some o → is_of_row o ≡ true → IsTwin old new i i' → LeadsThrough old i xs r.sink → All (λ k. kind_at old k ≡ Some Map) xs → LeadsThrough new i' ys q.sink → All (λ k. kind_at new k ≡ Some Map) ys
       → Contains ys x ⊎ (x ≡ q.sink) → ((j : ℕ) → IsTwin old new j x → ⊥) → ⊥
-  along [] [] i i' x t l k l' k' at none_ = step i i' r.sink t l (λ j tw h. by j tw (one_end new i' 0 j 0 q.sink 0 h l') at)
+  along [] [] i i' x o kind of_row t l k l' k' at none_ = step i i' r.sink o kind of_row t l (λ j tw h. by j tw (one_end new i' 0 j 0 q.sink 0 h l') at)
     where
       by : (j : ℕ) → IsTwin old new r.sink j → j ≡ q.sink → Contains [] x ⊎ (x ≡ q.sink) → ⊥
       by j tw one (inl c) = Contains-nil x c
       by j tw one (inr is) = none_ r.sink (subst (IsTwin old new r.sink) (one ∙ sym is) tw)
-  along [] (m ∷ ys) i i' x t l k l' k' at none_ = step i i' r.sink t l (λ j tw h.
+  along [] (m ∷ ys) i i' x o kind of_row t l k l' k' at none_ = step i i' r.sink o kind of_row t l (λ j tw h.
       let one = one_end new i' 0 j 0 m 0 h l'.0 in
       not_both j (ap (kind_at new) one ∙ All-head (λ k. kind_at new k ≡ Some Map) m ys k') (twin_kind r.sink j Sink tw r.is_sink))
-  along (n ∷ xs) [] i i' x t l k l' k' at none_ = step i i' n t l.0 (λ j tw h.
+  along (n ∷ xs) [] i i' x o kind of_row t l k l' k' at none_ = step i i' n o kind of_row t l.0 (λ j tw h.
       let one = one_end new i' 0 j 0 q.sink 0 h l' in
       not_both j (twin_kind n j Map tw (All-head (λ k. kind_at old k ≡ Some Map) n xs k)) (ap (kind_at new) one ∙ q.is_sink))
-  along (n ∷ xs) (m ∷ ys) i i' x t l k l' k' at none_ = step i i' n t l.0 (λ j tw h.
+  along (n ∷ xs) (m ∷ ys) i i' x o kind of_row t l k l' k' at none_ = step i i' n o kind of_row t l.0 (λ j tw h.
       let one = one_end new i' 0 j 0 m 0 h l'.0 in
       let tw' : IsTwin old new n m = subst (IsTwin old new n) one tw in
-      by tw' (λ at'. along xs ys n m x tw' l.1 (All-tail (λ k. kind_at old k ≡ Some Map) n xs k) l'.1 (All-tail (λ k. kind_at new k ≡ Some Map) m ys k') at' none_) (cases at))
+      by tw' (λ at'. along xs ys n m x Map (All-head (λ k. kind_at old k ≡ Some Map) n xs k) refl tw' l.1 (All-tail (λ k. kind_at old k ≡ Some Map) n xs k) l'.1 (All-tail (λ k. kind_at new k ≡ Some Map) m ys k') at' none_) (cases at))
     where
       cases : Contains (m ∷ ys) x ⊎ (x ≡ q.sink) → (x ≡ m) ⊎ Contains ys x ⊎ (x ≡ q.sink)
       cases (inl c) = more_ (Contains-cons_cases m ys x c)
@@ -83,20 +84,20 @@ module _ (old new : Graph) (sound_old : Sound old) (sound_new : Sound new) (r : 
 
       held : (n : Node) → slice_get old.nodes r.source ≡ Some n → Contains new.nodes n ⊎ (¬ Contains new.nodes n) → IsTwin old new r.source q.source
       held n here (inl c) = let p = at_some_place new.nodes n c in at_source n here p.0 p.1 (q.no_others p.0 Source (ap (option_map (λ (x : Node). x.kind)) (p.1 ∙ sym here) ∙ r.is_source) refl)
-      held n here (inr none_) = absurd (nodes_kept r.source (record { node = n; here = here; gone = none_ }))
+      held n here (inr none_) = absurd (nodes_kept r.source Source r.is_source refl (record { node = n; here = here; gone = none_ }))
 
       by : (o : Option Node) → slice_get old.nodes r.source ≡ o → IsTwin old new r.source q.source
       by None none_ = absurd (none-some Source (sym (ap (option_map (λ (x : Node). x.kind)) none_) ∙ r.is_source))
       by (Some n) here = held n here (has_node new.nodes n)
 
-  -- so nothing is created
-  pub nothing_created : (x : ℕ) → IsGone new old x → ⊥
-  nothing_created x gone = let kind = ap (option_map (λ (n : Node). n.kind)) gone.here in by (q.no_others x gone.node.kind kind (alone x gone.node.kind kind))
+  -- so nothing of it is created
+  pub nothing_created : (x : ℕ) → (gone : IsGone new old x) → is_of_row gone.node.kind ≡ true → ⊥
+  nothing_created x gone of_row = by (q.no_others x gone.node.kind (ap (option_map (λ (n : Node). n.kind)) gone.here) of_row)
     where
       no_twin : (j : ℕ) → IsTwin old new j x → ⊥
       no_twin j t = gone.gone (subst (Contains old.nodes) (same_Some t.node gone.node (sym t.there ∙ gone.here)) (Contains-at old.nodes j t.node t.here))
 
       by : (x ≡ q.source) ⊎ Contains q.maps x ⊎ (x ≡ q.sink) → ⊥
       by (inl is) = no_twin r.source (subst (IsTwin old new r.source) (sym is) source_twin)
-      by (inr (inl c)) = along r.maps q.maps r.source q.source x source_twin r.leads r.are_maps q.leads q.are_maps (inl c) no_twin
-      by (inr (inr is)) = along r.maps q.maps r.source q.source x source_twin r.leads r.are_maps q.leads q.are_maps (inr is) no_twin
+      by (inr (inl c)) = along r.maps q.maps r.source q.source x Source r.is_source refl source_twin r.leads r.are_maps q.leads q.are_maps (inl c) no_twin
+      by (inr (inr is)) = along r.maps q.maps r.source q.source x Source r.is_source refl source_twin r.leads r.are_maps q.leads q.are_maps (inr is) no_twin

@@ -20,14 +20,15 @@ use Rattle.quiesce_core.proofs.InductionLaws.{IsNext, place}
 use Rattle.change_round_laws.proofs.FoldLaws.{StatesAreHanded}
 use Rattle.result_laws.specs.Items.{IsOfSource}
 use Rattle.result_laws.specs.Rows.{IsRow, through}
-use Rattle.result_laws.proofs.Answered.{answered, untouched_at}
+use Rattle.result_laws.proofs.Answered.{answered, source_there, untouched_at}
 use Rattle.result_laws.specs.Coming.{HasFolds, come}
 use Rattle.result_laws.proofs.ComingLaws.{at_place, facts, folds_before, folds_on}
 use Rattle.result_laws.proofs.Course.{Course, CourseNext, Grown, RowAt, counted, course_at, course_next}
-use Rattle.result_laws.proofs.Ends.{MakesWell, last_made, last_more, last_next, touch_next, touched, touched_more}
+use Rattle.result_laws.proofs.Ends.{MakesWell, last_made, last_more, last_next, touched, untouched_on}
 use Rattle.result_laws.proofs.EventLaws.{Now}
-use Rattle.result_laws.proofs.Passing.{passed}
-use Rattle.result_laws.proofs.Resting.{InRow}
+use Rattle.result_laws.proofs.Passing.{Stop, passed}
+use Rattle.result_laws.proofs.Resting.{Begun, InRow}
+use Rattle.result_laws.proofs.RowSlots.{shapes_row}
 use Rattle.result_laws.proofs.Rounds.{SourceDoes, answered_well, begins, does, ends, other}
 
 -- ---- the End of a transaction that is answered adds an item
@@ -59,7 +60,7 @@ module _ (handed : StatesAreHanded) (es : List Event) (e : Event) (here : IsNext
       by : (on.next ≡ past) ⊎ Grown es e past on.next → Grown es e past on.next
       by (inr g) = g
       by (inl same) =
-          let w' = on.course.in_row (touched_more es e ∙ ap (touch_next (touched es)) is ∙ calm) in
+          let w' = on.course.in_row (untouched_on es e (ap (shapes_row (state_after es).config) is) calm) in
           let last : last_made Source (es ++ e ∷ []) ≡ Some w.a = last_more Source es e ∙ ap (last_next Source (last_made Source es)) is ∙ w.source in
           let one : w'.a ≡ w.a = same_Some w'.a w.a (sym w'.source ∙ last) in
           let after : (come (es ++ e ∷ []) w.a).kept.count ≡ length on.next =
@@ -72,8 +73,8 @@ module _ (handed : StatesAreHanded) (es : List Event) (e : Event) (here : IsNext
 new_there : (es : List Event) (e : Event) (past next : List ℕ) → (g : Grown es e past next) → slice_get next (length past) ≡ Some (passed (length past + 1) g.row.ms)
 new_there es e past next g = ap (λ (xs : List ℕ). slice_get xs (length past)) g.more_ ∙ slice_get-last past (passed (length past + 1) g.row.ms)
 
-same_item : (es : List Event) (past : List ℕ) (w : InRow es past) (v : ℕ) → v ≡ length past + 1 → Some (passed (length past + 1) w.ms) ≡ Some (through w.graph w.is_row.maps v)
-same_item es past w v is = ap Some (w.same (length past + 1) ∙ ap (through w.graph w.is_row.maps) (sym is))
+same_item : (es : List Event) (p n v : ℕ) (ms : List Stop) (b : Begun es p n ms) → v ≡ n → Some (passed n ms) ≡ Some (through b.graph b.row.maps v)
+same_item es p n v ms b is = ap Some (b.passes n ∙ ap (through b.graph b.row.maps) (sym is))
 
 -- ---- and it stays there
 
@@ -115,7 +116,8 @@ module _ (handed : StatesAreHanded) (all : List Event) (run : IsRun all) (folds 
       let at = at_place handed all run folds es after e parts' in
       let here = place es after e (subst IsRun parts' run) in
       let past = second.past in
-      let calm = untouched_at handed es e here at.0 at.1 refl past second.course in
+      let source_ = source_there handed all run folds before between after p k v r parts of_source in
+      let calm = untouched_at handed es p k r here at.0 at.1 (makes.linked es (e ∷ after) parts') source_ past second.course in
       let on = course_next handed all run folds opens makes es after e parts' past second.course in
       let w = second.course.in_row calm in
       let a = answered handed all run folds before between after p k v r parts of_source past w in
@@ -125,14 +127,14 @@ module _ (handed : StatesAreHanded) (all : List Event) (run : IsRun all) (folds 
       let whole : all ≡ (es ++ e ∷ []) ++ after = parts' ∙ sym (append_assoc es (e ∷ []) after) in
       let rest = onto_from (es ++ e ∷ []) after [] (whole ∙ ap (λ xs. (es ++ e ∷ []) ++ xs) (sym (append-nil after))) on.next on.course in
       record {
-        graph = u.graph;
-        stands = subst (λ xs. IsGraphOf (state_after xs).config u.graph) b.there b.begun.stands;
-        row = u.is_row;
+        graph = b.begun.graph;
+        stands = subst (λ xs. IsGraphOf (state_after xs).config b.begun.graph) b.there b.begun.stands;
+        row = b.begun.row;
         place = length past;
         value = b.value;
         items = rest.next;
         course = subst (λ xs. Course xs rest.next) (sym whole) rest.course;
-        there = rest.keeps (length past) _ (new_there es e past on.next g) ∙ same_item es past u v b.value;
+        there = rest.keeps (length past) _ (new_there es e past on.next g) ∙ same_item es u.p (length past + 1) v u.ms b.begun b.value;
       }
 
   -- no transaction of a source is answered 0
@@ -144,6 +146,7 @@ module _ (handed : StatesAreHanded) (all : List Event) (run : IsRun all) (folds 
       let second = course_at handed all run folds opens makes es (e ∷ after) parts' in
       let at = at_place handed all run folds es after e parts' in
       let here = place es after e (subst IsRun parts' run) in
-      let w = second.course.in_row (untouched_at handed es e here at.0 at.1 refl second.past second.course) in
+      let source_ = source_there handed all run folds before between after p k v r parts of_source in
+      let w = second.course.in_row (untouched_at handed es p k r here at.0 at.1 (makes.linked es (e ∷ after) parts') source_ second.past second.course) in
       let a = answered handed all run folds before between after p k v r parts of_source second.past w in
       answered_well (state_after es) (come es) (facts handed es here.run (folds_before handed es e here at.0 at.1)) w.a w.p w.ms w.t second.past w.row.stands k r (subst (λ q. Legal (state_after es) (End q k r)) a.port here.legal)

@@ -1,6 +1,6 @@
 -- The definitions on small systems.
-use Rattle.std.proofs.Common.{◌≡◌, ◌∙◌, ℕ, zero, suc, ◌+◌, ◌<◌, Bool, false, true, List, [], ◌∷◌, ◌++◌, length, Option, Some, None, refl, sym, ap, subst, arith, inl, inr}
-use Rattle.std.specs.Prelude.{◌⊎◌, ◌||◌, All, Contains, is_some, slice_get}
+use Rattle.std.proofs.Common.{◌≡◌, ◌∙◌, ℕ, zero, suc, ◌+◌, Bool, false, true, List, [], ◌∷◌, ◌++◌, Option, Some, None, refl, sym, ap, subst, arith, inl, inr}
+use Rattle.std.specs.Prelude.{codes, ◌⊎◌, ◌||◌, All, Contains, is_some, slice_get}
 use Rattle.std.specs.List.{list_any}
 use Rattle.std.proofs.lemmas.List.Elements.{All-cons, All-head, All-nil, All-tail}
 use Rattle.std.proofs.lemmas.Bool.{both_ways, ne_eqb, or_parts}
@@ -22,7 +22,7 @@ use Rattle.change_spec.specs.Standing.{is_graph_of}
 use Rattle.result_laws.specs.Items.{HasItems, IsItem, WasAnswered}
 use Rattle.result_laws.specs.Describing.{kind_at}
 use Rattle.result_laws.specs.Rows.{IsRow, LeadsThrough, is_of_row, rows_serve_rows, through}
-use Rattle.result_laws.specs.WorkedBanks.{bank_beside_row}
+use Rattle.result_laws.specs.WorkedBanks.{bank_beside_row, beside}
 use Rattle.result_laws.proofs.Testing.{links_pass}
 use Rattle.result_laws.specs.Worked.{members, row_of_none, row_of_one, row_of_two, row_with_teller, sink_log, source_log, under_way, until_begun, with_one_aside}
 
@@ -91,39 +91,39 @@ one_is_row = record {
     each (suc (suc zero)) k h of_row = inr (inr refl)
     each (suc (suc (suc i))) k h of_row = absurd (none-some k h)
 
--- a row beside a bank: its one map adds 5
-pub beside_is_row : IsRow bank_beside_row
-beside_is_row = record {
+-- a row beside a bank
+unfoldable pub beside_is_row : (n b : ℕ) (sink : List ℕ) → IsRow (beside n b sink)
+beside_is_row n b sink = record {
   source = 4;
   maps = 2 ∷ [];
   sink = 5;
   is_source = refl;
-  are_maps = All-cons (λ i. kind_at bank_beside_row i ≡ Some Map) 2 [] refl (All-nil (λ i. kind_at bank_beside_row i ≡ Some Map));
+  are_maps = All-cons (λ i. kind_at (beside n b sink) i ≡ Some Map) 2 [] refl (All-nil (λ i. kind_at (beside n b sink) i ≡ Some Map));
   is_sink = refl;
   no_others = each;
-  links = links_pass rows_serve_rows bank_beside_row refl;
+  links = links_pass rows_serve_rows (beside n b sink) refl;
   leads = (refl, refl);
 }
   where
-    beside : (k l : Kind) → Some l ≡ Some k → is_of_row l ≡ false → is_of_row k ≡ true → ⊥
-    beside k l h none_ of_row = both_ways (is_of_row l) none_ (ap is_of_row (same_Some l k h) ∙ of_row)
+    other : (k l : Kind) → Some l ≡ Some k → is_of_row l ≡ false → is_of_row k ≡ true → ⊥
+    other k l h none_ of_row = both_ways (is_of_row l) none_ (ap is_of_row (same_Some l k h) ∙ of_row)
 
-    each : (i : ℕ) (k : Kind) → kind_at bank_beside_row i ≡ Some k → is_of_row k ≡ true → (i ≡ 4) ⊎ Contains (2 ∷ []) i ⊎ (i ≡ 5)
-    each zero k h of_row = absurd (beside k Account h refl of_row)
-    each (suc zero) k h of_row = absurd (beside k Account h refl of_row)
+    each : (i : ℕ) (k : Kind) → kind_at (beside n b sink) i ≡ Some k → is_of_row k ≡ true → (i ≡ 4) ⊎ Contains (2 ∷ []) i ⊎ (i ≡ 5)
+    each zero k h of_row = absurd (other k Account h refl of_row)
+    each (suc zero) k h of_row = absurd (other k Account h refl of_row)
     each (suc (suc zero)) k h of_row = inr (inl (0, omega arith, refl))
-    each (suc (suc (suc zero))) k h of_row = absurd (beside k Branch h refl of_row)
+    each (suc (suc (suc zero))) k h of_row = absurd (other k Branch h refl of_row)
     each (suc (suc (suc (suc zero)))) k h of_row = inl refl
     each (suc (suc (suc (suc (suc zero))))) k h of_row = inr (inr refl)
-    each (suc (suc (suc (suc (suc (suc zero)))))) k h of_row = absurd (beside k Teller h refl of_row)
+    each (suc (suc (suc (suc (suc (suc zero)))))) k h of_row = absurd (other k Teller h refl of_row)
     each (suc (suc (suc (suc (suc (suc (suc i))))))) k h of_row = absurd (none-some k h)
 
-pub beside_passes : through bank_beside_row beside_is_row.maps 1 ≡ 6
+pub beside_passes : through bank_beside_row (beside_is_row 5 0 (codes "t")).maps 1 ≡ 6
 unfolding beside_is_row
 beside_passes = refl
 
 pub beside_is_so : (row : IsRow bank_beside_row) × (through bank_beside_row row.maps 1 ≡ 6)
-beside_is_so = (beside_is_row, beside_passes)
+beside_is_so = (beside_is_row 5 0 (codes "t"), beside_passes)
 
 -- a teller leads to its sink
 pub teller_is_none : IsRow row_with_teller → ⊥

@@ -1,15 +1,15 @@
 -- Which of the small scripts meet which premise.
-use Rattle.std.proofs.Common.{◌≡◌, ◌∙◌, ℕ, zero, suc, ◌<◌, false, true, List, [], ◌∷◌, ◌++◌, length, Option, Some, None, refl, sym, ap, arith, inl, inr}
+use Rattle.std.proofs.Common.{◌≡◌, ◌∙◌, ℕ, zero, suc, ◌<◌, false, true, List, [], ◌∷◌, ◌++◌, length, Option, Some, None, refl, sym, ap, subst, arith, inl, inr}
 use Rattle.std.specs.Prelude.{◌⊎◌, All, Contains, codes, pos, sum_by}
 use Rattle.std.specs.Option.{option_map_or}
 use Rattle.std.specs.Fmt.{digits}
 use Rattle.config_graph.specs.GraphText.{graph_text}
 use Rattle.std.proofs.lemmas.Bool.{both_ways}
-use Rattle.std.proofs.lemmas.Option.{none-some, same_Some}
-use Rattle.std.proofs.lemmas.List.Elements.{All-cons, All-head, All-nil, All-tail}
+use Rattle.std.proofs.lemmas.Option.{none-some}
+use Rattle.std.proofs.lemmas.List.Elements.{All-cons, All-head, All-nil}
 use Rattle.config_graph.specs.Graph.{Graph}
 use Rattle.config_graph.specs.declared.kind.Kind.{Kind}
-use Rattle.config_graph.specs.declared.kind.Kind.TheVariants.{Account, Branch, Buffer, Fork, Map, Philosopher, Sink, Source, Teller}
+use Rattle.config_graph.specs.declared.kind.Kind.TheVariants.{Branch, Buffer, Fork, Map, Philosopher, Sink, Teller}
 use Rattle.config_graph.specs.declared.node.Node.{Node}
 use Rattle.change_plan_laws.specs.Systems.{bank, line, sink_t, source_at}
 use Rattle.change_spec.specs.Statements.{Statement, start, change, run, finish}
@@ -17,12 +17,16 @@ use Rattle.result_laws.specs.Banks.{AreBanks, IsBank, LeadsToAccount, banks_serv
 use Rattle.result_laws.specs.Describing.{Describes, LinksAre, kind_at}
 use Rattle.result_laws.specs.Flows.{AreApart, same_side}
 use Rattle.result_laws.specs.Holding.{AreTables, forks_serve_places}
-use Rattle.result_laws.specs.Keeping.{AreRows, IsKeptOrMoved, KeepsOrMoves}
-use Rattle.result_laws.specs.Rows.{IsAlone, IsRow, is_of_row, rows_serve_rows}
+use Rattle.change_plan.specs.Differences.{IsTwin}
+use Rattle.change_plan.specs.declared.plan_data.Move.{Move}
+use Rattle.result_laws.specs.Keeping.{AreRows, IsKeptOrMoved, KeepsEnds}
+use Rattle.result_laws.specs.Rows.{IsRow, is_of_row, rows_serve_rows}
 use Rattle.result_laws.specs.WorkedFlows.{with_philosopher_at_fork, with_teller_at_sink}
-use Rattle.result_laws.specs.WorkedBanks.{with_teller_at_account}
-use Rattle.result_laws.specs.WorkedScripts.{bank_change, beside_change, beside_run, buffered, fan, fan_change, line_grows, row_change, same_path, sink_change, table, table_change, table_of_two, with_another_sink}
+use Rattle.result_laws.specs.WorkedBanks.{bank_beside_row, beside, with_teller_at_account}
+use Rattle.result_laws.specs.WorkedScripts.{bank_change, beside_another_sink, beside_change, beside_run, both_change, buffered, fan, fan_change, line_grows, row_change, same_path, sink_change, table, table_change, table_of_two, with_another_sink}
+use Rattle.result_laws.proofs.Making.{one_sink_at, one_source_at}
 use Rattle.result_laws.proofs.Testing.{links_pass}
+use Rattle.result_laws.proofs.WorkedRows.{beside_is_row}
 
 -- both graphs of such a script are of a shape
 both : (P : Graph → Type 0) (s : List Statement) (a b c d : Statement) → s ≡ a ∷ b ∷ c ∷ d ∷ [] → Describes P a → Describes P b → Describes P c → Describes P d → All (Describes P) s
@@ -75,46 +79,44 @@ line_is_row k = record {
     each (suc (suc zero)) j h of_row = inr (inr refl)
     each (suc (suc (suc i))) j h of_row = absurd (none-some j h)
 
-line_is_alone : (k : ℕ) → IsAlone (line k)
-line_is_alone n zero k h = sym (ap is_of_row (same_Some Map k h))
-line_is_alone n (suc zero) k h = sym (ap is_of_row (same_Some Source k h))
-line_is_alone n (suc (suc zero)) k h = sym (ap is_of_row (same_Some Sink k h))
-line_is_alone n (suc (suc (suc i))) k h = absurd (none-some k h)
-
-keeps_source : KeepsOrMoves Source (line 10) (line 20) []
-keeps_source (suc zero) (suc zero) h k = inl (record { node = source_at (codes "s") 3; here = refl; there = refl })
-keeps_source zero j h k = absurd (cc h)
-keeps_source (suc (suc zero)) j h k = absurd (cc h)
-keeps_source (suc (suc (suc i))) j h k = absurd (cc h)
-keeps_source (suc zero) zero h k = absurd (cc k)
-keeps_source (suc zero) (suc (suc zero)) h k = absurd (cc k)
-keeps_source (suc zero) (suc (suc (suc j))) h k = absurd (cc k)
-
-keeps_sink : KeepsOrMoves Sink (line 10) (line 20) []
-keeps_sink (suc (suc zero)) (suc (suc zero)) h k = inl (record { node = sink_t; here = refl; there = refl })
-keeps_sink zero j h k = absurd (cc h)
-keeps_sink (suc zero) j h k = absurd (cc h)
-keeps_sink (suc (suc (suc i))) j h k = absurd (cc h)
-keeps_sink (suc (suc zero)) zero h k = absurd (cc k)
-keeps_sink (suc (suc zero)) (suc zero) h k = absurd (cc k)
-keeps_sink (suc (suc zero)) (suc (suc (suc j))) h k = absurd (cc k)
+-- where both graphs of a change are rows, and each end is the same node in both
+keeps_ends : (old new : Graph) (moves : List Move) (r : IsRow old) (q : IsRow new) → IsTwin old new r.source q.source → IsTwin old new r.sink q.sink → KeepsEnds old new moves
+keeps_ends old new moves r q source sink = record {
+  source = λ i j h k. inl (subst (λ x. IsTwin old new x j) (sym (one_source_at old r i h)) (subst (IsTwin old new r.source) (sym (one_source_at new q j k)) source));
+  sink = λ i j h k. inl (subst (λ x. IsTwin old new x j) (sym (one_sink_at old r i h)) (subst (IsTwin old new r.sink) (sym (one_sink_at new q j k)) sink));
+}
 
 pub row_is_row : AreRows row_change
+unfolding line_is_row
 row_is_row = record {
   rows = both IsRow row_change _ _ _ _ refl (line_is_row 10) tt (line_is_row 20) tt;
-  ends = (record { from_alone = line_is_alone 10; to_alone = line_is_alone 20; source = keeps_source; sink = keeps_sink }, tt);
+  ends = (keeps_ends (line 10) (line 20) [] (line_is_row 10) (line_is_row 20) (record { node = source_at (codes "s") 3; here = refl; there = refl }) (record { node = sink_t; here = refl; there = refl }), tt);
 }
 
 -- a row beside a bank, while nothing changes
 pub beside_is_rows : AreRows beside_run
 beside_is_rows = record {
-  rows = both IsRow beside_run _ _ _ _ refl Rattle.result_laws.proofs.WorkedRows.beside_is_row tt tt tt;
+  rows = both IsRow beside_run _ _ _ _ refl (beside_is_row 5 0 (codes "t")) tt tt tt;
   ends = tt;
 }
 
--- and not where a change comes
-pub beside_changes : AreRows beside_change → ⊥
-beside_changes rows = both_ways false refl (rows.ends.0.from_alone 0 Account refl)
+-- and where the bank does, or both
+beside_kept : (k b : ℕ) → KeepsEnds bank_beside_row (beside k b (codes "t")) []
+unfolding beside_is_row
+beside_kept k b = keeps_ends bank_beside_row (beside k b (codes "t")) [] (beside_is_row 5 0 (codes "t")) (beside_is_row k b (codes "t")) (record { node = source_at (codes "s") 3; here = refl; there = refl })
+    (record { node = sink_t; here = refl; there = refl })
+
+pub beside_changes : AreRows beside_change
+beside_changes = record {
+  rows = both IsRow beside_change _ _ _ _ refl (beside_is_row 5 0 (codes "t")) tt (beside_is_row 5 7 (codes "t")) tt;
+  ends = (beside_kept 5 7, tt);
+}
+
+pub both_change_is_rows : AreRows both_change
+both_change_is_rows = record {
+  rows = both IsRow both_change _ _ _ _ refl (beside_is_row 5 0 (codes "t")) tt (beside_is_row 9 7 (codes "t")) tt;
+  ends = (beside_kept 9 7, tt);
+}
 
 -- a buffer leads to no sink of a row
 pub line_is_no_row : AreRows line_grows → ⊥
@@ -122,15 +124,24 @@ line_is_no_row rows =
     let row : IsRow (buffered 2) = All-head (Describes IsRow) (start (codes "Line") (pos 2 ∷ []) (buffered 2)) (run 2 ∷ change (codes "Line") (pos 3 ∷ []) (buffered 3) 10 (same_path (codes "b") ∷ []) ∷ finish 100 ∷ []) rows.rows in
     both_ways false refl (row.links 0 0 2 0 Buffer Sink refl refl refl)
 
--- nor may the sink be replaced without its state
+-- nor may the sink be replaced without its state, whatever stands beside
+path_sum : Option Node → ℕ
+path_sum o = option_map_or (λ (n : Node). sum_by (λ b. b) n.path) o 0
+
+pub sink_is_lost_beside : AreRows beside_another_sink → ⊥
+unfolding path_sum
+sink_is_lost_beside rows = by (rows.ends.0.sink 5 5 refl refl)
+  where
+    by : IsKeptOrMoved bank_beside_row (beside 5 7 (codes "u")) [] 5 5 → ⊥
+    by (inl twin) = absurd (omega (arith, ap path_sum (twin.here ∙ sym twin.there)))
+    by (inr move) = absurd (omega (arith, move.1))
+
 pub sink_is_lost : AreRows sink_change → ⊥
+unfolding path_sum
 sink_is_lost rows = by (rows.ends.0.sink 2 2 refl refl)
   where
-    named : Option Node → ℕ
-    named o = option_map_or (λ (n : Node). sum_by (λ b. b) n.path) o 0
-
     by : IsKeptOrMoved (line 10) with_another_sink [] 2 2 → ⊥
-    by (inl twin) = absurd (omega (arith, ap named (twin.here ∙ sym twin.there)))
+    by (inl twin) = absurd (omega (arith, ap path_sum (twin.here ∙ sym twin.there)))
     by (inr move) = absurd (omega (arith, move.1))
 
 -- ---- banks

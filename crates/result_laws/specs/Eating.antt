@@ -1,5 +1,5 @@
 -- Meals: transactions of a philosopher that were answered 1.
-use Rattle.std.specs.Prelude.{ℕ, Bool, false, ◌==◌}
+use Rattle.std.specs.Prelude.{Bool, false, ◌==◌}
 use Rattle.quiesce_core.specs.declared.event.Event.{Event}
 use Rattle.quiesce_core.specs.declared.event.Event.TheVariants.{End}
 

@@ -1,6 +1,6 @@
 -- To be believed (definitions.md).
 -- Which places hold which forks, and systems in which places alone lead to forks.
-use Rattle.std.specs.Prelude.{ℕ, ◌<◌, Bool, true, false, not, ◌==◌, ◌&&◌, ◌||◌, List, [], ◌∷◌, All, if◌then◌else◌, sum_by}
+use Rattle.std.specs.Prelude.{◌≡◌, ◌≢◌, ◌⊎◌, ℕ, ◌<◌, Bool, true, false, not, ◌==◌, ◌&&◌, ◌||◌, List, [], ◌∷◌, Some, All, if◌then◌else◌, sum_by}
 use Rattle.std.specs.List.{list_any}
 use Rattle.std.specs.Option.{option_map_or}
 use Rattle.component_trait.specs.States.{NodeState, Service}
@@ -9,8 +9,9 @@ use Rattle.config_graph.specs.declared.kind.Kind.TheVariants.{Fork, Place}
 use Rattle.quiesce_word.specs.Phases.{is_idle}
 use Rattle.quiesce_word.specs.declared.word.TheConstants.{LAST_SERIAL}
 use Rattle.quiesce_core.specs.Runs.{state_after}
-use Rattle.quiesce_core.specs.State.{State, exchange, gate, owner}
+use Rattle.quiesce_core.specs.State.{State, exchange, gate, owner, slot, target}
 use Rattle.quiesce_core.specs.declared.event.Event.{Event}
+use Rattle.quiesce_core.specs.declared.state.Slot.{Slot}
 use Rattle.report_types.specs.declared.report.HistoryLine.{HistoryLine}
 use Rattle.report_types.specs.declared.report.Last.{Last}
 use Rattle.report_types.specs.declared.report.Last.TheVariants as last
@@ -58,6 +59,31 @@ abbrev pub holds : List Event → ℕ → Bool
 holds es p =
     is_idle (exchange (state_after es) p).phase
     && has_fork (come es (owner (state_after es).config p)) (gate (state_after es).config p).require
+
+-- two ports that hold one fork are the same port
+abbrev pub AreHeldOnce : List Event → Type 0
+AreHeldOnce es = (p q n x y : ℕ) (m : Slot) → target (state_after es).config p ≡ Some (record { node = n; provide = x })
+    → target (state_after es).config q ≡ Some (record { node = n; provide = y }) → slot (state_after es).config n ≡ Some m
+    → m.node.kind ≡ Fork → holds es p ≡ true → holds es q ≡ true → p ≡ q
+
+-- fork n is lent: a port that leads to it holds it, or has a transaction there that is open
+pub record IsLent (es : List Event) (n : ℕ) : Type 0 where
+  pub port : ℕ
+  pub provide : ℕ
+  pub leads : target (state_after es).config port ≡ Some (record { node = n; provide = provide })
+  pub has : (holds es port ≡ true) ⊎ (is_idle (exchange (state_after es) port).phase ≡ false)
+
+-- each fork that isn't free is lent
+abbrev pub AreLent : List Event → Type 0
+AreLent es = (n : ℕ) (m : Slot) → slot (state_after es).config n ≡ Some m → m.node.kind ≡ Fork → (come es n).kept.count ≢ 0 → IsLent es n
+
+-- each fork is free
+abbrev pub AreFree : List Event → Type 0
+AreFree es = (n : ℕ) (m : Slot) → slot (state_after es).config n ≡ Some m → m.node.kind ≡ Fork → (come es n).kept.count ≡ 0
+
+-- no transaction is open
+abbrev pub NothingIsOpenAt : List Event → Type 0
+NothingIsOpenAt es = (p : ℕ) → is_idle (exchange (state_after es) p).phase ≡ true
 
 -- ---- in a report
 

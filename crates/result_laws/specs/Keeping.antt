@@ -9,7 +9,7 @@ use Rattle.change_plan.specs.Moves.{MoveLeads}
 use Rattle.change_plan.specs.declared.plan_data.Move.{Move}
 use Rattle.change_spec.specs.Statements.{Statement, start, change, run, finish, show}
 use Rattle.result_laws.specs.Describing.{Describes, kind_at}
-use Rattle.result_laws.specs.Rows.{IsAlone, IsRow}
+use Rattle.result_laws.specs.Rows.{IsRow}
 
 -- a node of the old graph is one of the new graph, or its state goes over to one
 abbrev pub IsKeptOrMoved : Graph → Graph → List Move → ℕ → ℕ → Type 0
@@ -19,10 +19,8 @@ IsKeptOrMoved old new moves i j = IsTwin old new i j ⊎ Any (λ m. MoveLeads ol
 abbrev pub KeepsOrMoves : Kind → Graph → Graph → List Move → Type 0
 KeepsOrMoves k old new moves = (i j : ℕ) → kind_at old i ≡ Some k → kind_at new j ≡ Some k → IsKeptOrMoved old new moves i j
 
--- a change from a row that stands alone to one that does
+-- the source and the sink of a row, whatever becomes of its maps and of what stands beside
 pub record KeepsEnds (old new : Graph) (moves : List Move) : Type 0 where
-  pub from_alone : IsAlone old
-  pub to_alone : IsAlone new
   pub source : KeepsOrMoves Source old new moves
   pub sink : KeepsOrMoves Sink old new moves
 
@@ -35,8 +33,7 @@ KeepEndsFrom old (run k ∷ rest) = KeepEndsFrom old rest
 KeepEndsFrom old (finish n ∷ rest) = KeepEndsFrom old rest
 KeepEndsFrom old (show ∷ rest) = KeepEndsFrom old rest
 
--- Each description is a row system. Where a change comes nothing stands beside the row, before it or behind it, and it
--- keeps or moves the source and the sink.
+-- Each description is a row system, and each change keeps or moves the source and the sink.
 pub record AreRows (statements : List Statement) : Type 0 where
   pub rows : All (Describes IsRow) statements
   pub ends : KeepEndsFrom (record { nodes = []; links = [] }) statements

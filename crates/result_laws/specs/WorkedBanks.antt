@@ -1,5 +1,5 @@
 -- Small systems on which the definitions are evaluated.
-use Rattle.std.specs.Prelude.{ℕ, [], ◌∷◌, Some, None, codes}
+use Rattle.std.specs.Prelude.{ℕ, List, [], ◌∷◌, Some, None, codes}
 use Rattle.config_graph.specs.Graph.{Graph}
 use Rattle.config_graph.specs.declared.kind.Kind.TheVariants.{Source, Map, Sink, Teller, Branch, Account}
 use Rattle.quiesce_laws.specs.Worked.{node}
@@ -17,13 +17,16 @@ bank = record {
   links = leads 2 0 0 ∷ leads 2 1 1 ∷ leads 3 0 2 ∷ [];
 }
 
--- a bank with a row beside it
-abbrev pub bank_beside_row : Graph
-bank_beside_row = record {
-  nodes = node (codes "a") Account (Some 100) ∷ node (codes "b") Account (Some 0) ∷ node (codes "m") Map (Some 5) ∷ node (codes "r") Branch None ∷ node (codes "s") Source (Some 3)
-      ∷ node (codes "t") Sink None ∷ node (codes "w") Teller (Some 3) ∷ [];
+-- a bank with a row beside it, whose map adds k, and whose sink has this path; account b was opened with so much
+abbrev pub beside : ℕ → ℕ → List ℕ → Graph
+beside k b sink = record {
+  nodes = node (codes "a") Account (Some 100) ∷ node (codes "b") Account (Some b) ∷ node (codes "m") Map (Some k) ∷ node (codes "r") Branch None ∷ node (codes "s") Source (Some 3)
+      ∷ node sink Sink None ∷ node (codes "w") Teller (Some 3) ∷ [];
   links = leads 2 0 5 ∷ leads 3 0 0 ∷ leads 3 1 1 ∷ leads 4 0 2 ∷ leads 6 0 3 ∷ [];
 }
+
+abbrev pub bank_beside_row : Graph
+bank_beside_row = beside 5 0 (codes "t")
 
 -- a branch that has whence to take, and nowhere to put it
 abbrev pub with_half_a_branch : Graph

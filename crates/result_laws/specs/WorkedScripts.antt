@@ -7,7 +7,7 @@ use Rattle.quiesce_laws.specs.Worked.{node}
 use Rattle.change_plan.specs.declared.plan_data.Move.{Move}
 use Rattle.change_plan_laws.specs.Systems.{bank, leads, line, map_m, sink_u, source_at}
 use Rattle.change_spec.specs.Statements.{Statement, start, change, run, finish, show}
-use Rattle.result_laws.specs.WorkedBanks.{bank_beside_row}
+use Rattle.result_laws.specs.WorkedBanks.{bank_beside_row, beside}
 
 -- a source of three items leads through a buffer to a sink
 abbrev pub buffered : ℕ → Graph
@@ -63,12 +63,18 @@ fan_change = changing (codes "Fan") (pos 2 ∷ pos 1 ∷ pos 2 ∷ []) (fan 1) 1
 abbrev pub table_change : List Statement
 table_change = changing (codes "Table") (pos 3 ∷ pos 1 ∷ pos 9 ∷ []) table 1 (pos 3 ∷ pos 1 ∷ pos 0 ∷ []) table_of_two 20 [] 100
 
--- a row beside a bank, and a change of that to itself
+-- a row beside a bank, of which an account is replaced; or the map of the row too; or its sink, by one that knows nothing
 abbrev pub beside_run : List Statement
 beside_run = start (codes "Both") [] bank_beside_row ∷ run 1 ∷ show ∷ finish 100 ∷ []
 
 abbrev pub beside_change : List Statement
-beside_change = changing (codes "Both") [] bank_beside_row 1 [] bank_beside_row 10 [] 100
+beside_change = changing (codes "Both") (pos 5 ∷ pos 0 ∷ []) bank_beside_row 1 (pos 5 ∷ pos 7 ∷ []) (beside 5 7 (codes "t")) 10 [] 100
+
+abbrev pub both_change : List Statement
+both_change = changing (codes "Both") (pos 5 ∷ pos 0 ∷ []) bank_beside_row 1 (pos 9 ∷ pos 7 ∷ []) (beside 9 7 (codes "t")) 10 [] 100
+
+abbrev pub beside_another_sink : List Statement
+beside_another_sink = changing (codes "Both") (pos 5 ∷ pos 0 ∷ []) bank_beside_row 1 (pos 5 ∷ pos 7 ∷ []) (beside 5 7 (codes "u")) 10 [] 100
 
 -- a row whose sink is replaced by another, and takes what it keeps with it
 abbrev pub with_another_sink : Graph

@@ -5,12 +5,9 @@ ghost use Rattle.report_types.specs.declared.report.Report.{Report};
 ghost use Rattle.change_spec.specs.Lawful.{Lawful};
 ghost use Rattle.change_spec.specs.Statements.{Statement};
 ghost use Rattle.change_spec.specs.Members.{events};
-ghost use Rattle.config_graph.specs.declared.kind.Kind.TheVariants.{Fork};
 ghost use Rattle.quiesce_core.specs.Runs.{IsRun, state_after};
-ghost use Rattle.quiesce_core.specs.State.{slot, target};
 ghost use Rattle.quiesce_core.specs.declared.event.Event.{Event};
-ghost use Rattle.quiesce_core.specs.declared.state.Slot.{Slot};
-ghost use Rattle.result_laws.specs.Holding.{AreTables, NoneSpent, forks_not_free, forks_serve_places, holds};
+ghost use Rattle.result_laws.specs.Holding.{AreFree, AreHeldOnce, AreLent, AreTables, NoneSpent, NothingIsOpenAt, forks_not_free, forks_serve_places, holds};
 ghost use Rattle.result_laws.specs.WorkedPlaces.{counted, given, taken, with_fork};
 ghost use Rattle.result_laws.specs.WorkedFlows.{mixed, report, with_philosopher_at_fork, with_teller_at_sink};
 ghost use Rattle.result_laws.specs.UnderWay.{of_nodes, spent, stock, under_way};
@@ -74,14 +71,17 @@ pub fn items_are_kept_at_each_place()
 }
 
 /// Where places alone lead to forks, each fork is held by one place at most, at each place of the run behind a report: two
-/// ports that hold one fork are the same port.
+/// ports that hold one fork are the same port. One that isn't free is lent by such a port, or a transaction is open there;
+/// so where nothing is open, each is free.
 pub fn forks_are_held_once()
     ensures once { (statements : List Statement) (report : Report) → (l : Lawful statements report) → AreTables statements
-        → (before after : List Event) → events l.members ≡ before ++ after → (p q n x y : ℕ) (m : Slot)
-        → target (state_after before).config p ≡ Some (record { node = n; provide = x })
-        → target (state_after before).config q ≡ Some (record { node = n; provide = y })
-        → slot (state_after before).config n ≡ Some m → m.node.kind ≡ Fork
-        → holds before p ≡ true → holds before q ≡ true → p ≡ q }
+        → (before after : List Event) → events l.members ≡ before ++ after → AreHeldOnce before }
+    ensures lent { (statements : List Statement) (report : Report) → (l : Lawful statements report) → AreTables statements
+        → (before after : List Event) → events l.members ≡ before ++ after → NoneSpent (state_after before)
+        → AreLent before }
+    ensures free { (statements : List Statement) (report : Report) → (l : Lawful statements report) → AreTables statements
+        → (before after : List Event) → events l.members ≡ before ++ after → NoneSpent (state_after before)
+        → NothingIsOpenAt before → AreFree before }
     ensures none_at_the_end { (statements : List Statement) (report : Report) → (l : Lawful statements report) → (p : ℕ)
         → holds (events l.members) p ≡ false }
     ensures free_at_the_end { (statements : List Statement) (report : Report) → (l : Lawful statements report)

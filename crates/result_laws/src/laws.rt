@@ -26,10 +26,10 @@ use crate::{
 };
 use command_spec::{a_script_has_a_report, checks_end_by_what_is_lawful};
 
-/// Where the descriptions of a script that was run are rows, and its changes keep or move the source and the sink, the
-/// last sink in the report of that run has the items that the last source counted. Each is what became of its value in
-/// the row that stood when its transaction began, and no transaction of a source was answered 0. The report has logs of
-/// a live source and of a live sink.
+/// Where the descriptions of a script that was run are rows, whatever stands beside, and its changes keep or move the source
+/// and the sink, the last sink in the report of that run has the items that the last source counted. Each is what became of
+/// its value in the row that stood when its transaction began, and no transaction of a source was answered 0. The report
+/// has logs of a live source and of a live sink.
 pub fn runs_of_rows_have_their_items()
     ensures items { (schedule : Schedule) (files : Option Files) (name : List ℕ) (own : Status)
         → (ran : WasRunBy schedule files name own)

@@ -26,7 +26,8 @@ pub use laws::{
 };
 pub use meal_laws::meals_are_counted;
 pub use roll_laws::{
-    changes_at_once_are_there, rolls_commit_what_commits_at_once, rolls_keep_items,
+    changes_at_once_are_there, rolls_commit_what_commits_at_once, rolls_keep_forks,
+    rolls_keep_items,
 };
 pub use row_laws::{
     rows_are_told_from_others, rows_have_their_items, sources_alone_begin,

@@ -11,14 +11,16 @@ ghost use Rattle.change_spec.specs.Serial.{world_after};
 ghost use Rattle.change_spec.specs.Statements.{Statement};
 ghost use Rattle.change_round_laws.specs.SoundStatements.{AreSound, made_of_graph};
 ghost use Rattle.quiesce_core.specs.Rest.{rest};
+ghost use Rattle.quiesce_core.specs.Runs.{state_after};
 ghost use Rattle.change_parts.specs.Parts.{AreParts};
 ghost use Rattle.change_parts.specs.Rolls.{IsRoll, roll_statements};
 ghost use Rattle.change_parts.specs.declared.part.Part.{Part};
 ghost use Rattle.result_laws.specs.Describing.{LinksAre};
 ghost use Rattle.result_laws.specs.Flows.{AreApart, same_side};
+ghost use Rattle.result_laws.specs.Holding.{AreFree, AreHeldOnce, AreLent, AreTables, NoneSpent, NothingIsOpenAt, forks_serve_places};
 ghost use Rattle.result_laws.specs.Rolling.{ItemsBalance, WaitTogether, at_once};
 
-use crate::items_are_kept_at_each_place;
+use crate::{forks_are_held_once, items_are_kept_at_each_place};
 use change_parts::no_link_is_lost;
 use change_plan_laws::{commits_can_not_fail, commits_leave_the_new_graph, each_plan_may_commit};
 use change_round_laws::{
@@ -39,6 +41,30 @@ pub fn rolls_keep_items()
     a_sound_script_has_a_report();
     reports_of_rounds_are_lawful();
     items_are_kept_at_each_place();
+    no_link_is_lost();
+}
+
+/// Where a roll ends, given up or not, no fork is held by two places. Where no port has come to its last serial, each that
+/// isn't free is lent by a port that holds it, or has a transaction there that is open; so where nothing is open, each is
+/// free. In the stages too places alone lead to forks, where that is so in the two graphs.
+pub fn rolls_keep_forks()
+    ensures once { (statements : List Statement) (given_up : Option ℕ) → AreSound statements → AreTables statements
+        → (roll : IsRoll statements given_up) → AreHeldOnce (world_after roll.played).events }
+    ensures lent { (statements : List Statement) (given_up : Option ℕ) → AreSound statements → AreTables statements
+        → (roll : IsRoll statements given_up) → NoneSpent (state_after (world_after roll.played).events)
+        → AreLent (world_after roll.played).events }
+    ensures free { (statements : List Statement) (given_up : Option ℕ) → AreSound statements → AreTables statements
+        → (roll : IsRoll statements given_up) → NoneSpent (state_after (world_after roll.played).events)
+        → NothingIsOpenAt (world_after roll.played).events → AreFree (world_after roll.played).events }
+    ensures stages { (name : List ℕ) (args : List ℤ) (old : Graph) (k : ℕ) (new_name : List ℕ) (new_args : List ℤ) (within : ℕ)
+        (new : Graph) (moves : List Move) (ps : List Part) → IsGraph old → IsGraph new → AreParts old new moves ps
+        → AreSound (roll_statements name args old k new_name new_args within ps)
+        → LinksAre forks_serve_places old → LinksAre forks_serve_places new
+        → AreTables (roll_statements name args old k new_name new_args within ps) }
+{
+    a_sound_script_has_a_report();
+    reports_of_rounds_are_lawful();
+    forks_are_held_once();
     no_link_is_lost();
 }
 

@@ -22,9 +22,10 @@ use change_spec::{
     plans_and_graphs_are_found_by_tests,
 };
 
-/// Where each description is a row system, and each change keeps or moves the source and the sink, the last sink has as
-/// many items as the last source says that it sent, and each is what became of its value on the way that stood when
-/// its transaction began. There are logs of a live source and of a live sink.
+/// Where each description is a row system, whatever stands beside, and each change keeps or moves the source and the sink,
+/// whatever it does beside, the last sink has as many items as the last source says that it sent. Each is what became of its
+/// value on the way that stood when its transaction began, also in the midst of a commit beside. There are logs of a live
+/// source and of a live sink.
 pub fn rows_have_their_items()
     ensures items { (statements : List Statement) (report : Report) → AreSound statements
         → AreRows statements → (l : Lawful statements report) → (source sink : NodeLog)
