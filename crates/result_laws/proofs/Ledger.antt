@@ -15,6 +15,7 @@ use Rattle.quiesce_core.specs.declared.event.Event.{Event}
 use Rattle.quiesce_core.specs.declared.event.Event.TheVariants.{Make}
 use Rattle.quiesce_core.specs.declared.state.Slot.{Slot}
 use Rattle.result_laws.specs.Coming.{come}
+pub use Rattle.result_laws.specs.Carrying.{opened_in}
 use Rattle.result_laws.specs.Sums.{is_account}
 use Rattle.result_laws.proofs.Balance.{BranchHas, answers, at_rest, first_idle, first_open, second_idle, second_open}
 use Rattle.result_laws.proofs.Giving.{hands_on}
@@ -60,11 +61,6 @@ held_by account given total = cond account (cond given 0 total) 0
 
 abbrev pub holds : List Event → ℕ → ℕ
 holds es n = held_by (is_account_at (state_after es).config n) (list_any (hands_on n) es) (come es n).kept.total
-
--- what a node that is made opens with, where it took over from none
-abbrev pub opened_in : Event → ℕ
-opened_in (Make k node None) = cond (is_account node.kind) (option_map_or (λ a. a) node.arg 0) 0
-opened_in _ = 0
 
 -- the sum of all is that of what was opened
 pub record Ledger (es : List Event) : Type 0 where

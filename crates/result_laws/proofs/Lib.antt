@@ -47,6 +47,7 @@ pub mod Paying
 pub mod Handing
 pub mod Giving
 pub mod Books
+pub mod Carried
 pub mod Reported
 pub mod WorkedBanks
 pub mod Measures
@@ -74,6 +75,7 @@ pub mod WorkedScripts
 pub mod Bounds
 pub mod Fitting
 pub mod Rolling
+pub mod RollingBanks
 pub mod PartTelling
 pub mod Mirroring
 pub mod MirrorMoves

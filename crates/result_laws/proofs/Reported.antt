@@ -1,5 +1,5 @@
 -- The sums that a report tells are those of the books.
-use Rattle.std.proofs.Common.{◌≡◌, ◌∙◌, ℕ, ◌+◌, Bool, true, false, cond, List, [], ◌∷◌, length, filter, Option, Some, None, refl, sym, ap, arith}
+use Rattle.std.proofs.Common.{◌≡◌, ◌∙◌, ℕ, ◌+◌, Bool, true, false, cond, List, [], ◌∷◌, ◌++◌, append_assoc, length, filter, Option, Some, None, refl, sym, ap, subst, arith}
 use Rattle.std.specs.Prelude.{sum_by}
 use Rattle.std.specs.List.{cons_option, list_any, range_with_len}
 use Rattle.std.specs.Option.{option_map_or}
@@ -13,7 +13,7 @@ use Rattle.component_trait.specs.States.{Kept}
 use Rattle.component_trait.specs.Tables.{numbers}
 use Rattle.quiesce_core.specs.Doers.{is_of_change}
 use Rattle.quiesce_core.specs.Runs.{IsRun, state_after}
-use Rattle.quiesce_core.specs.State.{slot}
+use Rattle.quiesce_core.proofs.RunLaws.{fronts_are_runs}
 use Rattle.quiesce_core.specs.declared.event.Event.{Event}
 use Rattle.quiesce_core.specs.declared.event.Event.TheVariants as event
 use Rattle.quiesce_core.specs.declared.state.Slot.{Slot}
@@ -35,8 +35,10 @@ use Rattle.result_laws.specs.Banks.{AreBanks, IsBank, banks_serve_tellers}
 use Rattle.result_laws.proofs.Linking.{all_linked}
 use Rattle.result_laws.specs.Describing.{makes}
 use Rattle.result_laws.specs.Sums.{balance, gone_at, is_account, live_at, live_sum, opened_by, opened_sum, removed_sum, removes}
+use Rattle.result_laws.specs.Carrying.{AmountsBalance, amount}
 use Rattle.result_laws.proofs.Books.{Books, keep_books}
-use Rattle.result_laws.proofs.ComingLaws.{fits_of}
+use Rattle.result_laws.proofs.Carried.{amounts_balance, holds_so}
+use Rattle.result_laws.proofs.ComingLaws.{fronts_fold}
 use Rattle.result_laws.proofs.Giving.{hands_on}
 use Rattle.result_laws.proofs.Ledger.{holds, held_by, opened_in, rest_has}
 use Rattle.result_laws.proofs.Measures.{has, nothing_or, past_slot, unmade_has}
@@ -74,19 +76,14 @@ told_both history l = by (list_any (makes is_account l.slot) history) (list_any 
     by true false = omega arith
     by false b = omega arith
 
--- what an account keeps
-abbrev total_of : Kind → Kept → ℕ
-total_of Account s = s.total
-total_of _ s = 0
-
-balances_tell : Tells is_account total_of balance
+balances_tell : Tells is_account amount balance
 balances_tell = record { on = on_; off = off_; moved = λ j. refl }
   where
-    on_ : (k : Kind) (s : Kept) → is_account k ≡ true → balance (last.State (numbers k s)) ≡ total_of k s
+    on_ : (k : Kind) (s : Kept) → is_account k ≡ true → balance (last.State (numbers k s)) ≡ amount k s
     on_ Account s h = refl
     on_ _ s h = absurd (both_ways false refl h)
 
-    off_ : (k : Kind) (s : Kept) → is_account k ≡ false → total_of k s ≡ 0
+    off_ : (k : Kind) (s : Kept) → is_account k ≡ false → amount k s ≡ 0
     off_ Account s h = absurd (both_ways true h refl)
     off_ _ s h = refl
 
@@ -112,21 +109,6 @@ module _ (handed : StatesAreHanded) (each_may : EachMayCommit) (by_config : Comm
   all_held =
       sum_same (holds es) (λ n. books.ledger.carries n + holds es n) (length (state_after es).config.slots) (λ n. let z = carries_none n in omega (arith, z)) ∙ books.ledger.sum
 
-  -- what accounts have by their books is what they have by this measure
-  holds_so : (n : ℕ) → has total_of es n ≡ holds es n
-  holds_so n = by (slot (state_after es).config n) refl
-    where
-      by : (o : Option Slot) → slot (state_after es).config n ≡ o → has total_of es n ≡ holds es n
-      by None is = unmade_has total_of refl es n is ∙ sym (ap (λ o. held_by (option_map_or (λ (x : Slot). is_account x.node.kind) o false) (list_any (hands_on n) es) (come es n).kept.total) is)
-      by (Some made) is =
-          ap (λ y. cond (list_any (hands_on n) es) 0 (total_of y (come es n).kept)) ((fits_of handed es run folds).kinds n made is)
-          ∙ test_of made.node.kind (list_any (hands_on n) es) (come es n).kept
-          ∙ sym (ap (λ o. held_by (option_map_or (λ (x : Slot). is_account x.node.kind) o false) (list_any (hands_on n) es) (come es n).kept.total) is)
-        where
-          test_of : (k : Kind) (b : Bool) (s : Kept) → cond b 0 (total_of k s) ≡ held_by (is_account k) b s.total
-          test_of Account b s = refl
-          test_of _ b s = nothing_or b 0 refl
-
   opened_so : opened_sum report ≡ sum_by opened_in es
   opened_so = sum_line opened_by opened_in line_opens report.history ∙ ap (sum_by opened_in) (sym (lines_changed statements report l)) ∙ sum_change opened_in opens_none es
     where
@@ -144,8 +126,19 @@ module _ (handed : StatesAreHanded) (each_may : EachMayCommit) (by_config : Comm
   kept_so =
       let size = length (state_after es).config.slots in
       sum_both (live_at report.history) (gone_at report.history) (log_tells report.history) (told_both report.history) report.logs
-      ∙ told_so handed statements report l is_account total_of refl balance balances_tell
-      ∙ sum_longer (has total_of es) 0 size MAX_NODES (λ i past. unmade_has total_of refl es i (past_slot (state_after es).config i (omega (arith, past))))
-      ∙ sum_same (has total_of es) (holds es) size holds_so
+      ∙ told_so handed statements report l is_account amount refl balance balances_tell
+      ∙ sum_longer (has amount es) 0 size MAX_NODES (λ i past. unmade_has amount refl es i (past_slot (state_after es).config i (omega (arith, past))))
+      ∙ sum_same (has amount es) (holds es) size (holds_so es run handed folds)
       ∙ all_held
       ∙ sym opened_so
+
+  -- at a place of the run
+  pub amounts_there : (before after : List Event) → es ≡ before ++ after → AmountsBalance before
+  amounts_there before after parts =
+      let goes = subst (λ xs. IsRun xs) parts run in
+      let front = fronts_are_runs before after goes in
+      let front_folds = fronts_fold handed before after goes (subst (λ xs. HasFolds xs) parts folds) in
+      let there = keep_books handed before front
+      (λ xs ys p is. opened_at each_may by_config leaves statements IsBank report l.members sound banks l.follows l.by_them.merge run xs (ys ++ after) p (parts ∙ ap (λ zs. zs ++ after) is ∙ append_assoc xs (event.Reopen p ∷ ys) after)) front_folds
+      (λ xs ys is. all_linked statements report l IsBank banks banks_serve_tellers (λ g h. h.links) xs (ys ++ after) (parts ∙ ap (λ zs. zs ++ after) is ∙ append_assoc xs ys after)) in
+      amounts_balance before front handed front_folds there.ledger

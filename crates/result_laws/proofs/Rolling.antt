@@ -106,7 +106,7 @@ module _ (test : Kind → Kind → Bool) (old new : Graph) (moves : List Move) (
       let w = linked_at g graph from r to x c in
       links w.i r w.j x from.kind to.kind w.linked (ap (option_map (λ (n : Node). n.kind)) w.from_there) (ap (option_map (λ (n : Node). n.kind)) w.to_there)
 
-  stage_links : (stage : Graph) → IsGraph stage → HasLinksOf old new moves stage → LinksAre test stage
+  pub stage_links : (stage : Graph) → IsGraph stage → HasLinksOf old new moves stage → LinksAre test stage
   stage_links stage graph has i r j x k l linked at_i at_j =
       let from = option_map_some (λ (n : Node). n.kind) (slice_get stage.nodes i) k at_i in
       let to = option_map_some (λ (n : Node). n.kind) (slice_get stage.nodes j) l at_j in
@@ -120,19 +120,17 @@ module _ (test : Kind → Kind → Bool) (old new : Graph) (moves : List Move) (
       by from to (inl (in_, c)) = of_graph new new_graph new_links from r to x c
       by from to (inr (out, c)) = of_graph old old_graph old_links from r to x c
 
-  module _ (new_name : List ℕ) (new_args : List ℤ) (within : ℕ) where
-    abbrev part_change : Part → Statement
-    part_change p = change new_name new_args p.next within p.moves
+module _ (P : Graph → Type 0) (old new : Graph) (moves : List Move) (old_has : P old) (stages_have : (stage : Graph) → IsGraph stage → HasLinksOf old new moves stage → P stage) (new_name : List ℕ) (new_args : List ℤ) (within : ℕ) where
+  abbrev pub part_change : Part → Statement
+  part_change p = change new_name new_args p.next within p.moves
 
-    parts_pass : (ps : List Part) (g : Graph) (made : Made) → GoOnSoundly (map part_change ps) g made → ((p : Part) → Contains ps p → HasLinksOf old new moves p.next) → All (Describes (LinksAre test)) (map part_change ps)
-    parts_pass [] g made sound has = All-nil (Describes (LinksAre test))
-    parts_pass (p ∷ ps) g made sound has =
-        All-cons (Describes (LinksAre test)) (part_change p) (map part_change ps) (stage_links p.next sound.graph.is_graph (has p (Contains-here p ps)))
-        (parts_pass ps p.next _ sound.below (λ q there. has q (Contains-there p q ps there)))
+  parts_pass : (ps : List Part) (g : Graph) (made : Made) → GoOnSoundly (map part_change ps) g made → ((p : Part) → Contains ps p → HasLinksOf old new moves p.next) → All (Describes P) (map part_change ps)
+  parts_pass [] g made sound has = All-nil (Describes P)
+  parts_pass (p ∷ ps) g made sound has =
+      All-cons (Describes P) (part_change p) (map part_change ps) (stages_have p.next sound.graph.is_graph (has p (Contains-here p ps))) (parts_pass ps p.next _ sound.below (λ q there. has q (Contains-there p q ps there)))
 
-    pub roll_passes : (name : List ℕ) (args : List ℤ) (k : ℕ) (ps : List Part) → ((i : ℕ) (p : Part) → slice_get ps i ≡ Some p → HasLinksOf old new moves p.next) → AreSound (roll_statements name args old k new_name new_args within ps)
-        → All (Describes (LinksAre test)) (roll_statements name args old k new_name new_args within ps)
-    roll_passes name args k ps has sound =
-        All-cons (Describes (LinksAre test)) (start name args old) (run k ∷ map part_change ps) old_links
-        (All-cons (Describes (LinksAre test)) (run k) (map part_change ps) tt
-        (parts_pass ps old _ sound.below (λ p there. let w = at_some_place ps p there in has w.0 p w.1)))
+  pub roll_has : (name : List ℕ) (args : List ℤ) (k : ℕ) (ps : List Part) → ((i : ℕ) (p : Part) → slice_get ps i ≡ Some p → HasLinksOf old new moves p.next) → AreSound (roll_statements name args old k new_name new_args within ps)
+      → All (Describes P) (roll_statements name args old k new_name new_args within ps)
+  roll_has name args k ps has sound =
+      All-cons (Describes P) (start name args old) (run k ∷ map part_change ps) old_has
+      (All-cons (Describes P) (run k) (map part_change ps) tt (parts_pass ps old _ sound.below (λ p there. let w = at_some_place ps p there in has w.0 p w.1)))

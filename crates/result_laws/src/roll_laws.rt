@@ -15,12 +15,14 @@ ghost use Rattle.quiesce_core.specs.Runs.{state_after};
 ghost use Rattle.change_parts.specs.Parts.{AreParts};
 ghost use Rattle.change_parts.specs.Rolls.{IsRoll, roll_statements};
 ghost use Rattle.change_parts.specs.declared.part.Part.{Part};
+ghost use Rattle.result_laws.specs.Banks.{AreBanks, IsBank};
+ghost use Rattle.result_laws.specs.Carrying.{AmountsBalance};
 ghost use Rattle.result_laws.specs.Describing.{LinksAre};
 ghost use Rattle.result_laws.specs.Flows.{AreApart, same_side};
 ghost use Rattle.result_laws.specs.Holding.{AreFree, AreHeldOnce, AreLent, AreTables, NoneSpent, NothingIsOpenAt, forks_serve_places};
 ghost use Rattle.result_laws.specs.Rolling.{ItemsBalance, WaitTogether, at_once};
 
-use crate::{forks_are_held_once, items_are_kept_at_each_place};
+use crate::{forks_are_held_once, items_are_kept_at_each_place, sums_are_kept_at_each_place};
 use change_parts::no_link_is_lost;
 use change_plan_laws::{commits_can_not_fail, commits_leave_the_new_graph, each_plan_may_commit};
 use change_round_laws::{
@@ -65,6 +67,22 @@ pub fn rolls_keep_forks()
     a_sound_script_has_a_report();
     reports_of_rounds_are_lawful();
     forks_are_held_once();
+    no_link_is_lost();
+}
+
+/// Where a roll between banks ends, given up or not, what accounts have, live or not, with what branches carry from one to
+/// another, is what they were opened with by then. Each of its stages is a bank.
+pub fn rolls_keep_sums()
+    ensures sum { (statements : List Statement) (given_up : Option ℕ) → AreSound statements → AreBanks statements
+        → (roll : IsRoll statements given_up) → AmountsBalance (world_after roll.played).events }
+    ensures stages { (name : List ℕ) (args : List ℤ) (old : Graph) (k : ℕ) (new_name : List ℕ) (new_args : List ℤ) (within : ℕ)
+        (new : Graph) (moves : List Move) (ps : List Part) → IsGraph old → IsGraph new → AreParts old new moves ps
+        → AreSound (roll_statements name args old k new_name new_args within ps) → IsBank old → IsBank new
+        → AreBanks (roll_statements name args old k new_name new_args within ps) }
+{
+    a_sound_script_has_a_report();
+    reports_of_rounds_are_lawful();
+    sums_are_kept_at_each_place();
     no_link_is_lost();
 }
 
