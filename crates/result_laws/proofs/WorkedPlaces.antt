@@ -3,10 +3,11 @@ use Rattle.std.proofs.Common.{◌≡◌, true, false, refl}
 use Rattle.quiesce_core.specs.Reach.{has_no_cycle, reaches}
 use Rattle.quiesce_core.specs.Runs.{IsRun}
 use Rattle.quiesce_core.proofs.RunLaws.{run_if}
+use Rattle.result_laws.specs.Carrying.{amount, carried}
 use Rattle.result_laws.specs.Flows.{one}
 use Rattle.result_laws.specs.Holding.{holds}
 use Rattle.result_laws.specs.UnderWay.{of_nodes, spent, stock, under_way}
-use Rattle.result_laws.specs.WorkedPlaces.{counted, given, taken, with_fork}
+use Rattle.result_laws.specs.WorkedPlaces.{asked_to_pay, between_accounts, counted, given, paid, put, taken, with_fork}
 
 pub fork_run : IsRun with_fork
 unfolding has_no_cycle reaches
@@ -39,3 +40,21 @@ one_sent = refl
 
 pub none_under_way : under_way one counted ≡ 0
 none_under_way = refl
+
+-- ---- what a branch carries
+
+pub bank_run : IsRun put
+unfolding has_no_cycle reaches
+bank_run = run_if put refl
+
+pub none_carried_before : (of_nodes amount asked_to_pay ≡ 100) × (carried asked_to_pay 2 ≡ 0)
+none_carried_before = (refl, refl)
+
+pub carried_paid : (of_nodes amount paid ≡ 99) × (carried paid 2 ≡ 1)
+carried_paid = (refl, refl)
+
+pub carried_between : (of_nodes amount between_accounts ≡ 99) × (carried between_accounts 2 ≡ 1)
+carried_between = (refl, refl)
+
+pub none_carried_behind : (of_nodes amount put ≡ 100) × (carried put 2 ≡ 0)
+none_carried_behind = (refl, refl)

@@ -8,7 +8,8 @@ ghost use Rattle.change_spec.specs.Members.{events};
 ghost use Rattle.quiesce_core.specs.Runs.{IsRun, state_after};
 ghost use Rattle.quiesce_core.specs.declared.event.Event.{Event};
 ghost use Rattle.result_laws.specs.Holding.{AreFree, AreHeldOnce, AreLent, AreTables, NoneSpent, NothingIsOpenAt, forks_not_free, forks_serve_places, holds};
-ghost use Rattle.result_laws.specs.WorkedPlaces.{counted, given, taken, with_fork};
+ghost use Rattle.result_laws.specs.Carrying.{amount, carried};
+ghost use Rattle.result_laws.specs.WorkedPlaces.{asked_to_pay, between_accounts, counted, given, paid, put, taken, with_fork};
 ghost use Rattle.result_laws.specs.WorkedFlows.{mixed, report, with_philosopher_at_fork, with_teller_at_sink};
 ghost use Rattle.result_laws.specs.UnderWay.{of_nodes, spent, stock, under_way};
 ghost use Rattle.result_laws.specs.Flows.{AddsNothing, AreApart, AreFlows, IsOfFlows, KeepsWeight, held, one, only, same_side, sent};
@@ -105,7 +106,8 @@ pub fn flows_are_told_from_others()
 {}
 
 /// And at places of small runs. A place that has heard that its fork was given holds it, by the port that leads there and
-/// no other; before that it doesn't. An item that a sink took in is under way until its source has heard of it.
+/// no other; before that it doesn't. An item that a sink took in is under way until its source has heard of it. A branch
+/// carries what one account took off until the other has put it on.
 pub fn places_are_told_from_others()
     ensures fork { IsRun with_fork × (holds with_fork 0 ≡ true) }
     ensures others { (holds given 0 ≡ false) × (holds with_fork 1 ≡ false) }
@@ -113,4 +115,8 @@ pub fn places_are_told_from_others()
         × (under_way one taken ≡ 1) }
     ensures counted { (of_nodes (stock one) counted ≡ 1) × (of_nodes (spent one) counted ≡ 1)
         × (under_way one counted ≡ 0) }
+    ensures paid { IsRun put × (of_nodes amount asked_to_pay ≡ 100) × (carried asked_to_pay 2 ≡ 0)
+        × (of_nodes amount paid ≡ 99) × (carried paid 2 ≡ 1) }
+    ensures put { (of_nodes amount between_accounts ≡ 99) × (carried between_accounts 2 ≡ 1)
+        × (of_nodes amount put ≡ 100) × (carried put 2 ≡ 0) }
 {}
