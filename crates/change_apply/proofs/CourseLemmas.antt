@@ -7,7 +7,7 @@ use Rattle.std.proofs.lemmas.List.{append-nil}
 use Rattle.std.proofs.lemmas.List.Elements.{All-contains, filter_agree}
 use Rattle.std.proofs.lemmas.List.Sums.{AllPass-from_list_all}
 use Rattle.change_plan.specs.Refusals.{CanPlan}
-use Rattle.change_plan_laws.specs.Commit.{commit_events, is_one_of, ports_to_close}
+use Rattle.change_plan_laws.specs.Commit.{commit_events, is_frozen_or_new, is_one_of, ports_to_close}
 use Rattle.change_plan_laws.specs.Committing.{MayCommit, made_in}
 use Rattle.change_spec.proofs.PortLaws.{closed_live, same_here}
 use Rattle.config_graph.specs.Graph.{Graph, ports}
@@ -17,7 +17,6 @@ use Rattle.quiesce_core.specs.declared.event.Event.{Event}
 use Rattle.quiesce_core.specs.declared.event.Event.TheVariants.{Close, Reopen}
 use Rattle.quiesce_core.specs.declared.state.Gate.{Gate}
 use Rattle.quiesce_core.specs.declared.state.Slot.{Slot}
-use Rattle.quiesce_core.specs.Doers.{is_of_change}
 use Rattle.quiesce_core.specs.Effect.{change_next, effect, with_closed}
 use Rattle.quiesce_core.specs.Live.{IsGraphOf}
 use Rattle.quiesce_core.specs.Rules.{denial, is_live_port, is_open}
@@ -28,6 +27,7 @@ use Rattle.quiesce_core.proofs.RunLaws.{effect_config, state_more}
 use Rattle.quiesce_laws.specs.Drained.{is_drained}
 use Rattle.quiesce_laws.specs.Lists.{In}
 use Rattle.quiesce_laws.specs.Starts.{start_of}
+use Rattle.quiesce_laws.specs.Steps.{MayStepAll}
 use Rattle.quiesce_laws.proofs.GateLaws.{all_open}
 use Rattle.quiesce_laws.proofs.MemberLaws.{contains_in, in_contains}
 use Rattle.quiesce_laws.proofs.TurningLaws.{IsLivePort, SameLinks, live_port, same_graph, same_then}
@@ -38,6 +38,7 @@ use Rattle.change_apply.specs.declared.said.Phase.{Phase}
 use Rattle.change_apply.specs.declared.said.Phase.TheVariants as phase
 use Rattle.change_apply.specs.declared.said.Said.{Said}
 use Rattle.change_apply.specs.declared.said.Said.TheVariants as says
+use Rattle.change_apply.proofs.ReopenLemmas.{closed_is_frozen, open_then, reopens_of_change}
 use Rattle.change_apply.proofs.StandLemmas.{are_told, grow, are_opened, same_made, still_drained}
 use Rattle.base.proofs.ContainsLaws.{any_of}
 
@@ -46,11 +47,18 @@ pub record Plans (c : Change) : Type 0 where
   pub listed : (d : Configuration) (p : ℕ) → p < length d.gates → is_one_of c.old c.plan.freeze d (owner d p) ≡ true → Contains (ports_to_close c.old c.plan d) p
   pub runs : (es : List Event) → MayCommit c.old c.new [] c.plan es → IsRun (es ++ commit_events c.old c.new c.plan (state_after es).config)
   pub graph : (es : List Event) → MayCommit c.old c.new [] c.plan es → IsGraphOf (state_after (es ++ commit_events c.old c.new c.plan (state_after es).config)).config c.new
+  pub by_steps :
+      (es : List Event) → MayCommit c.old c.new [] c.plan es
+      → MayStepAll (is_frozen_or_new c.old c.plan (state_after es).config) (state_after es).config (commit_events c.old c.new c.plan (state_after es).config)
+  pub left :
+      (es : List Event) (p : ℕ) → MayCommit c.old c.new [] c.plan es → p < length (state_after es).config.gates
+      → is_one_of c.old c.plan.freeze (state_after es).config (owner (state_after es).config p) ≡ false
+      → (gate (state_after (es ++ commit_events c.old c.new c.plan (state_after es).config)).config p).closed ≡ (gate (state_after es).config p).closed
   pub closes : (d : Configuration) → SameLinks (state_after (start_of c.old)).config d → ports_to_close c.old c.plan d ≡ asked c
   pub first_run : IsRun (start_of c.old)
   pub first_is : state_after (start_of c.old) ≡ started c.old
   pub first_graph : IsGraphOf (state_after (start_of c.old)).config c.old
-  pub first_open : (p : ℕ) → In (asked c) p → (gate (state_after (start_of c.old)).config p).closed ≡ false
+  pub first_open : (p : ℕ) → p < length (state_after (start_of c.old)).config.gates → (gate (state_after (start_of c.old)).config p).closed ≡ false
 
 abbrev first : Change → Configuration
 first c = (state_after (start_of c.old)).config
@@ -135,10 +143,6 @@ ready_course c s h o is drained = record {
 
 -- it is left
 
-reopens_of_change : (ps : List ℕ) → filter is_of_change (map Reopen ps) ≡ map Reopen ps
-reopens_of_change [] = refl
-reopens_of_change (p ∷ ps) = ap (λ es. Reopen p ∷ es) (reopens_of_change ps)
-
 asked_live : (c : Change) (s : Scene) → Plans c → Open c s → All (λ p. is_live_port (state_of s).config p ≡ true) (asked c)
 asked_live c s h o = subst (λ ps. All (λ p. is_live_port (state_of s).config p ≡ true) ps) (h.closes (state_of s).config o.links) (closed_live c.old c.plan (state_of s).config)
 
@@ -168,7 +172,7 @@ left_course c s h o e n is =
         graph = same_graph (state_of s).config (state_after (s.events ++ map Reopen (asked c))).config c.old on.links (graph_of c s h o);
         gates = λ p. ⊎_elim
             (λ (i : In (asked c) p). ⊎_elim (λ (j : In [] p). absurd j)
-            (λ (x : (gate (state_after (s.events ++ map Reopen (asked c))).config p).closed ≡ false). x ∙ sym (h.first_open p i)) (turned.turned p i))
+            (λ (x : (gate (state_after (s.events ++ map Reopen (asked c))).config p).closed ≡ false). x ∙ sym (h.first_open p (asked_made c p i))) (turned.turned p i))
             (λ (out : In (asked c) p → ⊥). turned.others p out ∙ o.others p out)
             (in_or_out (asked c) p);
       });
@@ -190,6 +194,22 @@ may_commit_at c s can h o drained = record {
       (subst (λ ps. Contains ps p) (h.closes (state_of s).config o.links) (h.listed (state_of s).config p made frozen));
 }
 
+-- a gate that isn't to be closed was open, and still is
+open_still : (c : Change) (s : Scene) → Plans c → Open c s → (p : ℕ) → p < length (state_of s).config.gates
+    → is_one_of c.old c.plan.freeze (state_of s).config (owner (state_of s).config p) ≡ false → (gate (state_of s).config p).closed ≡ false
+open_still c s h o p made unfrozen =
+    let d = (state_of s).config in
+    let long = o.links.long in
+    o.others p (λ i. both_ways (is_one_of c.old c.plan.freeze d (owner d p)) unfrozen (closed_is_frozen c.old c.plan d p (subst (λ ps. In ps p) (sym (h.closes d o.links)) i)))
+    ∙ h.first_open p (omega (arith, made, long))
+
+open_then_at : (c : Change) (s : Scene) → Plans c → Open c s → MayCommit c.old c.new [] c.plan s.events → (p : ℕ)
+    → is_live_port (state_after (s.events ++ commit_events c.old c.new c.plan (state_of s).config)).config p ≡ true
+    → (gate (state_after (s.events ++ commit_events c.old c.new c.plan (state_of s).config)).config p).closed ≡ false
+open_then_at c s h o may p live =
+    open_then c.old c.new c.plan s.events (h.by_steps s.events may)
+    (λ q made unfrozen. h.left s.events q may made unfrozen ∙ open_still c s h o q made unfrozen) p live
+
 committed_course : (c : Change) (s : Scene) → CanChange c → Plans c → Open c s → all_drained c s.events ≡ true → Course c (commits c s).next
 committed_course c s can h o drained =
     let may = may_commit_at c s can h o drained in
@@ -200,7 +220,7 @@ committed_course c s can h o drained =
       are = ap (λ es. es ++ ce) o.are;
       by_lines = o.by_lines;
       run = h.runs s.events may;
-      ends = subst (λ es. IsMade c es ce) o.are (record { drained = drained; commit = refl; graph = h.graph s.events may });
+      ends = subst (λ es. IsMade c es ce) o.are (record { drained = drained; commit = refl; graph = h.graph s.events may; gates = open_then_at c s h o may });
     }
 
 -- and what stays
@@ -260,7 +280,7 @@ all_told_by : (s : State) (e : Event) (rest : List Event) (o : Option ℕ) → i
 all_told_by s e rest None h k = and_from (is_told e) (list_all is_told rest) h k
 all_told_by s e rest (Some rule) h k = refl
 
-happened_told : (s : State) (es : List Event) → list_all is_told es ≡ true → list_all is_told (happened s es) ≡ true
+pub happened_told : (s : State) (es : List Event) → list_all is_told es ≡ true → list_all is_told (happened s es) ≡ true
 happened_told s [] h = refl
 happened_told s (e ∷ es) h =
     let parts = and_parts (is_told e) (list_all is_told es) h in

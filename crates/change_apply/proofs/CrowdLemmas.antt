@@ -13,12 +13,17 @@ use Rattle.quiesce_core.proofs.StepsLaws.{end_is}
 use Rattle.quiesce_laws.specs.Starts.{start_of}
 use Rattle.quiesce_laws.proofs.MeanwhileLaws.{after_more}
 
+-- where the machine of a crowd is
+pub machine_in_crowd : (g : Graph) (w : World) (acts : List Act) → Steps w.machine (events_told w acts) (world_after w acts).machine → w.machine ≡ started g → state_after (start_of g) ≡ started g
+    → (world_after w acts).machine ≡ state_after (start_of g ++ events_told w acts)
+machine_in_crowd g w acts steps first is =
+    let told = events_told w acts in
+    end_is w.machine (world_after w acts).machine told steps ∙ ap (λ s. fold effect s told) (first ∙ sym is) ∙ sym (after_more empty (start_of g) told)
+
 pub change_may_come : (g : Graph) (w : World) (acts : List Act) (events after : List Event) (e : Event) → Steps w.machine (events_told w acts) (world_after w acts).machine
     → w.machine ≡ started g → state_after (start_of g) ≡ started g → IsRun events → events ≡ (start_of g ++ events_told w acts) ++ e ∷ after
     → ((s : State) → is_change s e ≡ true) → MayChange (world_after w acts).machine e
 change_may_come g w acts events after e steps first is run are one =
     let told = events_told w acts in
-    let there : (world_after w acts).machine ≡ state_after (start_of g ++ told) =
-    end_is w.machine (world_after w acts).machine told steps ∙ ap (λ s. fold effect s told) (first ∙ sym is) ∙ sym (after_more empty (start_of g) told) in
-    subst (λ s. MayChange s e) (sym there)
+    subst (λ s. MayChange s e) (sym (machine_in_crowd g w acts steps first is))
     (record { is_one = one (state_after (start_of g ++ told)); allowed = (run_parts (start_of g ++ told) (e ∷ after) (subst IsRun are run)).1.0.allowed })

@@ -1,7 +1,7 @@
 -- A session is over exactly behind an answer that ends it.
-use Rattle.std.proofs.Common.{◌≡◌, ℕ, ◌-◌, ◌++◌, Bool, true, false, cond, List, [], Option, Some, None, refl, sym, ap, subst}
+use Rattle.std.proofs.Common.{◌≡◌, ◌∙◌, ℕ, ◌-◌, ◌++◌, Bool, true, false, cond, List, [], Option, Some, None, refl, sym, ap, subst}
 use Rattle.std.specs.List.{list_all}
-use Rattle.std.specs.Prelude.{nat_le}
+use Rattle.std.specs.Prelude.{is_some, nat_le}
 use Rattle.std.proofs.lemmas.Bool.{both_ways}
 use Rattle.quiesce_core.specs.declared.event.Event.{Event}
 use Rattle.quiesce_laws.specs.Drained.{is_drained}
@@ -16,8 +16,44 @@ use Rattle.change_apply.specs.declared.said.Said.{Said}
 use Rattle.change_apply.specs.declared.said.Said.TheVariants as says
 use Rattle.change_apply.specs.declared.session.Session.{Session}
 
+-- the phase that a session ends in, by the phase itself and by its last answer
+abbrev pub end_in : Phase → Option Phase
+end_in phase.Committed = Some phase.Committed
+end_in phase.Left = Some phase.Left
+end_in _ = None
+
+abbrev pub end_by : Answer → Option Phase
+end_by answer.Waits = None
+end_by answer.Ready = None
+end_by answer.Committed = Some phase.Committed
+end_by _ = Some phase.Left
+
 abbrev pub Fits : Turned → Type 0
-Fits t = is_over t.next.phase ≡ is_end t.answer
+Fits t = end_in t.next.phase ≡ end_by t.answer
+
+pub no_end_yet : (p : Phase) → is_over p ≡ false → end_in p ≡ None
+no_end_yet phase.Waiting going = refl
+no_end_yet phase.Ready going = refl
+no_end_yet phase.Committed going = absurd (both_ways true going refl)
+no_end_yet phase.Left going = absurd (both_ways true going refl)
+
+over_in : (p : Phase) → is_over p ≡ is_some (end_in p)
+over_in phase.Waiting = refl
+over_in phase.Ready = refl
+over_in phase.Committed = refl
+over_in phase.Left = refl
+
+end_shown : (a : Answer) → is_end a ≡ is_some (end_by a)
+end_shown answer.Waits = refl
+end_shown answer.Ready = refl
+end_shown answer.Committed = refl
+end_shown answer.GivenUp = refl
+end_shown (answer.Denied rule) = refl
+end_shown answer.Bad = refl
+end_shown answer.Unread = refl
+
+pub fits_over : (p : Phase) (a : Answer) → end_in p ≡ end_by a → is_over p ≡ is_end a
+fits_over p a fits = over_in p ∙ ap (λ (o : Option Phase). is_some o) fits ∙ sym (end_shown a)
 
 either_fits : (b : Bool) (t u : Turned) → Fits t → Fits u → Fits (cond b t u)
 either_fits true t u h k = h
@@ -26,13 +62,13 @@ either_fits false t u h k = k
 settles_fits : (c : Change) (s : Scene) → is_over s.phase ≡ false → Fits (settles c s)
 settles_fits c s going =
     either_fits (list_all (is_drained (state_of s)) (asked c)) (gets_ready c s) (cond (nat_le s.left 0) (gives_up c s) (waits s)) refl
-    (either_fits (nat_le s.left 0) (gives_up c s) (waits s) refl going)
+    (either_fits (nat_le s.left 0) (gives_up c s) (waits s) refl (no_end_yet s.phase going))
 
 goes_fits_in : (p : Phase) (c : Change) (s : Scene) → is_over s.phase ≡ false → Fits (goes_on_in p c s)
 goes_fits_in phase.Waiting c s going = settles_fits c s going
-goes_fits_in phase.Ready c s going = going
-goes_fits_in phase.Committed c s going = going
-goes_fits_in phase.Left c s going = going
+goes_fits_in phase.Ready c s going = no_end_yet s.phase going
+goes_fits_in phase.Committed c s going = no_end_yet s.phase going
+goes_fits_in phase.Left c s going = no_end_yet s.phase going
 
 pub goes_fits : (c : Change) (s : Scene) → is_over s.phase ≡ false → Fits (goes_on c s)
 goes_fits c s going = goes_fits_in s.phase c s going
@@ -50,7 +86,7 @@ hears_fits c s says.Stop going = refl
 hears_fits c s says.Over going = refl
 hears_fits c s says.Broken going = refl
 hears_fits c s says.Go going = refl
-hears_fits c s says.Silent going = going
+hears_fits c s says.Silent going = no_end_yet s.phase going
 hears_fits c s says.Senseless going = tells_fits c s (events_told (state_of s) says.Senseless) going
 hears_fits c s (says.Busy p) going = tells_fits c s (events_told (state_of s) (says.Busy p)) going
 hears_fits c s (says.Closed p) going = tells_fits c s (events_told (state_of s) (says.Closed p)) going

@@ -28,7 +28,7 @@ over_stays c at [] over = refl
 over_stays c at (x ∷ xs) over =
     ap (λ p. fold (next_place c) p xs) (ap (λ b. cond b at (place_of (at.number + 1) at.text (turn c at.scene x))) over) ∙ over_stays c at xs over
 
-heard_over : (r : Request) (ss more_ : List Said) → is_over (heard r ss).scene.phase ≡ true → heard r (ss ++ more_) ≡ heard r ss
+pub heard_over : (r : Request) (ss more_ : List Said) → is_over (heard r ss).scene.phase ≡ true → heard r (ss ++ more_) ≡ heard r ss
 heard_over r ss more_ over = fold-append (next_place (change_in r)) (first_place r) ss more_ ∙ over_stays (change_in r) (heard r ss) more_ over
 
 -- what was heard of the first lines is what is heard of all, where it is over
@@ -60,11 +60,11 @@ one_place r came _ (by_fault lines first) over read = ⊎_elim
 pub scene_after_one : (c : Change) (xs : List Said) (x : Said) → scene_after c (xs ++ x ∷ []) ≡ (turn c (scene_after c xs) x).next
 scene_after_one c xs x = fold_push (λ s y. (turn c s y).next) (goes_on c (first_scene c)).next xs x
 
-abbrev is_made : Phase → Bool
+abbrev pub is_made : Phase → Bool
 is_made phase.Committed = true
 is_made _ = false
 
-unmade : (p : Phase) → is_over p ≡ false → is_made p ≡ false
+pub unmade : (p : Phase) → is_over p ≡ false → is_made p ≡ false
 unmade phase.Committed going = absurd (both_ways true going refl)
 unmade phase.Left going = absurd (both_ways true going refl)
 unmade phase.Waiting going = refl
@@ -79,7 +79,7 @@ settles_unmade c s going =
     either_unmade (list_all (is_drained (state_of s)) (asked c)) (gets_ready c s) (cond (nat_le s.left 0) (gives_up c s) (waits s)) refl
     (either_unmade (nat_le s.left 0) (gives_up c s) (waits s) refl (unmade s.phase going))
 
-goes_unmade : (p : Phase) (c : Change) (s : Scene) → is_over s.phase ≡ false → is_made (goes_on_in p c s).next.phase ≡ false
+pub goes_unmade : (p : Phase) (c : Change) (s : Scene) → is_over s.phase ≡ false → is_made (goes_on_in p c s).next.phase ≡ false
 goes_unmade phase.Waiting c s going = settles_unmade c s going
 goes_unmade phase.Ready c s going = unmade s.phase going
 goes_unmade phase.Committed c s going = unmade s.phase going

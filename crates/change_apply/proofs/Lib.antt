@@ -8,3 +8,6 @@ mod CourseLemmas
 mod LawLemmas
 mod CrowdLemmas
 mod RoundLemmas
+mod ReopenLemmas
+mod WrittenLemmas
+mod PromiseLemmas

@@ -1,5 +1,5 @@
 -- How many rounds are left.
-use Rattle.std.proofs.Common.{◌≡◌, ◌∙◌, ℕ, ◌+◌, ◌-◌, Bool, true, false, cond, List, [], ◌∷◌, ◌++◌, Option, Some, None, fold, refl, sym, ap, subst, ⊎_elim, arith}
+use Rattle.std.proofs.Common.{◌≡◌, ◌∙◌, ℕ, ◌+◌, ◌-◌, Bool, true, false, cond, List, [], ◌∷◌, ◌++◌, Option, Some, None, fold, refl, sym, ap, ⊎_elim, arith}
 use Rattle.std.specs.List.{list_all}
 use Rattle.std.specs.Prelude.{count_by, nat_le}
 use Rattle.std.proofs.lemmas.Bool.{both_ways, cases_Bool}
@@ -7,7 +7,7 @@ use Rattle.std.proofs.lemmas.List.Sums.{sum_by-cons}
 use Rattle.quiesce_core.specs.declared.event.Event.{Event}
 use Rattle.quiesce_laws.specs.Drained.{is_drained}
 use Rattle.change_apply.specs.Courses.{is_round, scene_after}
-use Rattle.change_apply.specs.Sessions.{Change, Scene, Turned, asked, commits, denied, events_told, first_scene, gets_ready, gives_up, goes_on, goes_on_in, happened, hears, is_over, leaves, may_say, settles, state_of, tells, tells_by, turn, waits}
+use Rattle.change_apply.specs.Sessions.{Change, Scene, Turned, asked, denied, events_told, first_scene, gets_ready, gives_up, goes_on, goes_on_in, happened, hears, is_over, leaves, may_say, state_of, tells, tells_by, turn, waits}
 use Rattle.change_apply.specs.declared.said.Answer.TheVariants as answer
 use Rattle.change_apply.specs.declared.said.Phase.{Phase}
 use Rattle.change_apply.specs.declared.said.Phase.TheVariants as phase

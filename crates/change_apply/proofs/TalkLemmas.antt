@@ -14,8 +14,8 @@ use Rattle.change_apply.specs.Reading.{HasNoLine, IsFirstLine}
 use Rattle.change_apply.specs.Replies.{opening_text, reply_text}
 use Rattle.change_apply.specs.Sessions.{Change, Scene, Turned, change_in, first_scene, goes_on, is_over, turn}
 use Rattle.change_apply.specs.Standing.{Stands, change_of, scene_of}
-use Rattle.change_apply.specs.Talking.{AreHeard, Going, HasAnswered, HasBegun, HasHeard, HasSaid, SaidCame, Stops, ended_by, is_end}
-use Rattle.change_apply.proofs.EndLemmas.{broken_ends, goes_fits, holds_stands, over_ends, turn_fits}
+use Rattle.change_apply.specs.Talking.{AreHeard, FaultsIn, Going, HasAnswered, HasBegun, HasHeard, HasSaid, SaidCame, Stops, ended_by, is_end}
+use Rattle.change_apply.proofs.EndLemmas.{broken_ends, fits_over, goes_fits, holds_stands, over_ends, turn_fits}
 use Rattle.change_apply.specs.Talks.{AreAll, AreFirst, Bytes, Ends, HasEnded, HasFailed, HasStopped, Reached, by_end, by_fault, by_lines}
 use Rattle.change_apply.specs.declared.applying.Stop.{Stop}
 use Rattle.change_apply.specs.declared.applying.Stop.TheVariants as stop
@@ -150,7 +150,9 @@ module _ (r : Request) (came k left k' left' k'' : Bytes) (d e : Session) (n : �
       came_
 
   fits : (s : Said) → is_over (t s).next.phase ≡ is_end (t s).answer
-  fits s = turn_fits (change_in r) (heard r (map said_by g.lines)).scene s g.going
+  fits s =
+      let scene = (heard r (map said_by g.lines)).scene in
+      fits_over (t s).next.phase (t s).answer (turn_fits (change_in r) scene s g.going)
 
   -- an answer that doesn't end it is to a line
   line_then : (s : Said) → SaidCame left left' s → is_end (t s).answer ≡ false → (line : List ℕ) × IsFirstLine left left' line × (s ≡ said_by line)
@@ -208,7 +210,7 @@ module _ (r : Request) (came k : Bytes) where
       left_all (Some xs) = refl
 
   first_fits : is_over (heard r []).scene.phase ≡ is_end (heard r []).answer
-  first_fits = goes_fits (change_in r) (first_scene (change_in r)) refl
+  first_fits = fits_over (heard r []).scene.phase (heard r []).answer (goes_fits (change_in r) (first_scene (change_in r)) refl)
 
   pub failed_first : (t : List ℕ) (n : ℕ) (k'' : Bytes) → t ≡ (heard r []).text → n < length t → k'' ≡ with_bytes k (take n t) → HasFailed r came k k''
   failed_first t n k'' is short put = record {
@@ -268,6 +270,16 @@ begun_then r d e a old mid new o h =
       scene = k.scene;
       holds = k.holds;
     }
+
+-- a turn whose text was taken
+pub steady_turn : (f f' : ℕ) (a : Answer) → f' ≡ f → FaultsIn f f' (ended_by (Ok a))
+steady_turn f f' answer.Waits h = h
+steady_turn f f' answer.Ready h = h
+steady_turn f f' answer.Committed h = h
+steady_turn f f' answer.GivenUp h = h
+steady_turn f f' (answer.Denied rule) h = h
+steady_turn f f' answer.Bad h = h
+steady_turn f f' answer.Unread h = h
 
 -- what comes of a turn, by what the session says of it
 pub turn_made : (r : Request) (came k left k' left' k'' : Bytes) (d e : Session) (n : ℕ) (g : Going r came k left k' d n) (s : Said) (x : Result Answer Stop) → SaidCame left left' s

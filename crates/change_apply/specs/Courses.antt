@@ -1,11 +1,12 @@
 -- To be believed (definitions.md).
 -- What has happened in a session, whatever was said: the start's events, those that lines told, and those of its end.
-use Rattle.std.specs.Prelude.{◌≡◌, ◌<◌, ℕ, Bool, true, false, List, [], ◌++◌, fold, map}
+use Rattle.std.specs.Prelude.{◌≡◌, ◌<◌, ℕ, Bool, true, false, List, [], ◌++◌, IsTrue, fold, map}
 use Rattle.std.specs.List.{list_all}
 use Rattle.change_plan_laws.specs.Commit.{commit_events}
 use Rattle.quiesce_core.specs.declared.event.Event.{Event}
 use Rattle.quiesce_core.specs.declared.event.Event.TheVariants.{Begin, Take, Give, End, Close, Reopen}
 use Rattle.quiesce_core.specs.Live.{IsGraphOf}
+use Rattle.quiesce_core.specs.Rules.{is_live_port}
 use Rattle.quiesce_core.specs.Runs.{IsRun, state_after}
 use Rattle.quiesce_core.specs.State.{gate}
 use Rattle.quiesce_laws.specs.Drained.{is_drained}
@@ -51,11 +52,12 @@ pub record IsReady (c : Change) (before ended : List Event) : Type 0 where
   pub drained : all_drained c before ≡ true
   pub graph : IsGraphOf (state_after before).config c.old
 
--- Where the change was made, all was drained, and the graph is the new one.
+-- Where the change was made, all was drained, the graph is the new one, and each gate of a live node is open.
 pub record IsMade (c : Change) (before ended : List Event) : Type 0 where
   pub drained : all_drained c before ≡ true
   pub commit : ended ≡ commit_events c.old c.new c.plan (state_after before).config
   pub graph : IsGraphOf (state_after (before ++ ended)).config c.new
+  pub gates : (p : ℕ) → IsTrue (is_live_port (state_after (before ++ ended)).config p) → (gate (state_after (before ++ ended)).config p).closed ≡ false
 
 -- Where it wasn't, the graph is the old one, and each gate is as it was where the session began.
 pub record IsLeft (c : Change) (before ended : List Event) : Type 0 where

@@ -7,3 +7,5 @@ pub mod Applied
 pub mod Talks
 pub mod Talking
 pub mod Reading
+pub mod Written
+pub mod Promises

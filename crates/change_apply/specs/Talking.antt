@@ -8,7 +8,7 @@ use Rattle.change_apply.specs.Reading.{HasNoLine, IsFirstLine}
 use Rattle.change_apply.specs.Replies.{opening_text, reply_text}
 use Rattle.change_apply.specs.Sessions.{Change, Turned, change_in, first_scene, is_over}
 use Rattle.change_apply.specs.Standing.{Holds, Stands, change_of, scene_of}
-use Rattle.change_apply.specs.Talks.{Bytes}
+use Rattle.change_apply.specs.Talks.{Bytes, CountsFaults}
 use Rattle.change_apply.specs.declared.applying.Stop.{Stop}
 use Rattle.change_apply.specs.declared.applying.Stop.TheVariants as stop
 use Rattle.change_apply.specs.declared.request.Request.{Request}
@@ -86,6 +86,11 @@ ended_by (Ok answer.Ready) = None
 ended_by (Ok a) = Some (ending_of a)
 ended_by (Err stop.Unwritten) = Some ending.Unwritten
 ended_by (Err stop.NoMemory) = Some ending.NoMemory
+
+-- how often the sink failed, where this came of a turn
+abbrev pub FaultsIn : ℕ → ℕ → Option Ending → Type 0
+FaultsIn faults faults' None = faults' ≡ faults
+FaultsIn faults faults' (Some e) = CountsFaults faults faults' e
 
 -- what is said by a line that is the first, or where there was none, or where the input can't be read on
 abbrev pub SaidCame : Bytes → Bytes → Said → Type 0

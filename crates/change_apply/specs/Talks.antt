@@ -1,6 +1,7 @@
 -- To be believed (definitions.md).
 -- A session over a reader and a sink, whose bytes may be known.
 use Rattle.std.specs.Prelude.{◌≡◌, ◌<◌, ◌⊎◌, ℕ, true, false, List, [], ◌∷◌, ◌++◌, Option, IfSome, length, map, take}
+use Rattle.base.specs.Count.{Rose}
 use Rattle.cfg_io.specs.Sink.{with_bytes}
 use Rattle.change_apply.specs.Applied.{Place, ending_of, heard}
 use Rattle.change_apply.specs.Lines.{lines_of, said_by}
@@ -53,3 +54,8 @@ abbrev pub Ends : Request → Bytes → Bytes → Bytes → Ending → Type 0
 Ends r came taken_before taken ending.NoMemory = (taken ≡ taken_before) ⊎ HasStopped r came taken_before taken
 Ends r came taken_before taken ending.Unwritten = HasFailed r came taken_before taken
 Ends r came taken_before taken e = HasEnded r came taken_before taken e
+
+-- How often the sink failed, before and after: its count of faults rose exactly where that ended the session.
+abbrev pub CountsFaults : ℕ → ℕ → Ending → Type 0
+CountsFaults faults faults' ending.Unwritten = Rose faults faults'
+CountsFaults faults faults' e = faults' ≡ faults

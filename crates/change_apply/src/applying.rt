@@ -5,8 +5,9 @@ ghost use Rattle.change_apply.specs.Applied as applied;
 ghost use Rattle.change_apply.specs.Sessions as sessions;
 ghost use Rattle.change_apply.specs.Sessions.{CanChange, change_in};
 ghost use Rattle.change_apply.specs.Standing.{Stands, change_of, scene_of};
-ghost use Rattle.change_apply.specs.Talking.{Going, HasAnswered, HasBegun, HasHeard, HasSaid, SaidCame, Stops, ended_by};
-ghost use Rattle.change_apply.specs.Talks.{Bytes, Ends};
+ghost use Rattle.change_apply.specs.Talking as talking;
+ghost use Rattle.change_apply.specs.Talking.{FaultsIn, Going, HasAnswered, HasBegun, HasHeard, HasSaid, SaidCame, Stops};
+ghost use Rattle.change_apply.specs.Talks.{Bytes, CountsFaults, Ends};
 ghost use Rattle.quiesce_core.specs.declared.event.Event.{Event};
 
 use crate::reading::{Came, read_line};
@@ -108,6 +109,7 @@ fn say<K: Sink>(
     ensures err { IfErr result (λ stop. (es : List Event) → Stands session.old es
         → Stops (sessions.turn (change_of session.old) (scene_of session.old es) said)
         number (K.taken sink.old) (K.taken sink.new) stop) }
+    ensures faults { FaultsIn (K.faults sink.old) (K.faults sink.new) (talking.ended_by result) }
 {
     text.clear();
     match answer_to(alloc, session, number, said, text) {
@@ -133,7 +135,7 @@ fn ending_by(answer: Answer) -> Ending
 
 /// How a session ends by what came of a turn, if it does.
 fn ended_by(said: Result<Answer, Stop>) -> Option<Ending>
-    ensures { result ≡ ended_by said }
+    ensures { result ≡ talking.ended_by said }
 {
     match said {
         Ok(Answer::Waits) | Ok(Answer::Ready) => None,
@@ -168,10 +170,11 @@ fn take_turn<R: BufRead, K: Sink>(
     requires few { number + 1 < 2 ^ 64 }
     requires going { (r : Request) × (came : Bytes) × (first : Bytes)
         × Going r came first (R.remaining reader.old) (K.taken sink.old) session.old number }
-    ensures { (r : Request) (came first : Bytes)
+    ensures goes { (r : Request) (came first : Bytes)
         → Going r came first (R.remaining reader.old) (K.taken sink.old) session.old number
         → MatchOption result (Going r came first (R.remaining reader.new) (K.taken sink.new) session.new (number + 1))
         (Ends r came first (K.taken sink.new)) }
+    ensures faults { FaultsIn (K.faults sink.old) (K.faults sink.new) result }
 {
     let Some(said) = read_said(reader, line) else {
         return Some(Ending::NoMemory);
@@ -188,9 +191,10 @@ fn talk<R: BufRead, K: Sink>(
 ) -> Ending
     requires { (r : Request) × (came : Bytes) × (first : Bytes)
         × Going r came first (R.remaining reader.old) (K.taken sink.old) session.old 0 }
-    ensures { (r : Request) (came first : Bytes)
+    ensures ends { (r : Request) (came first : Bytes)
         → Going r came first (R.remaining reader.old) (K.taken sink.old) session.old 0
         → Ends r came first (K.taken sink.new) result }
+    ensures faults { CountsFaults (K.faults sink.old) (K.faults sink.new) result }
 {
     let mut line = Vec::new(alloc);
     let mut text = Vec::new(alloc);
@@ -207,7 +211,7 @@ fn talk<R: BufRead, K: Sink>(
 /// Carries a change out on a system that runs elsewhere, by the lines that come from there.
 ///
 /// What is written is a function of what is asked and of these lines, and so is how it ends, unless the input can't be
-/// read on, the sink fails, or memory is wanted.
+/// read on, the sink fails, or memory is wanted. That the sink failed ends it exactly where its count of faults rose.
 pub fn apply<R: BufRead, K: Sink>(
     alloc: Global,
     request: Request,
@@ -215,7 +219,8 @@ pub fn apply<R: BufRead, K: Sink>(
     sink: &mut K,
 ) -> Ending
     requires { CanChange (change_in request) }
-    ensures { Ends request (R.remaining reader.old) (K.taken sink.old) (K.taken sink.new) result }
+    ensures ends { Ends request (R.remaining reader.old) (K.taken sink.old) (K.taken sink.new) result }
+    ensures faults { CountsFaults (K.faults sink.old) (K.faults sink.new) result }
 {
     let mut text = Vec::new(alloc);
     let Ok(begun) = begin(alloc, request, &mut text) else {

@@ -2,10 +2,11 @@
 
 ghost use Rattle.std.specs.Prelude.{◌-◌, count_by, ◌≡◌, [], ◌∷◌, ◌++◌, ℕ, List, true, false, Some};
 ghost use Rattle.cfg_io.specs.Sink.{with_bytes};
-ghost use Rattle.change_apply.specs.Applied.{applied, ending_of};
+ghost use Rattle.change_apply.specs.Applied.{applied, ending_of, heard};
 ghost use Rattle.change_apply.specs.Courses.{Course, is_round, scene_after};
-ghost use Rattle.change_apply.specs.Sessions.{CanChange, Change, is_over};
+ghost use Rattle.change_apply.specs.Sessions.{CanChange, Change, change_in, is_over};
 ghost use Rattle.change_apply.specs.Talks.{Bytes, HasEnded};
+ghost use Rattle.change_apply.specs.Written.{IsDoneBehind, IsWritten, Line, done_by};
 ghost use Rattle.crowd_laws.specs.Acts.{Act, MayGoOn, events_told, world_after};
 ghost use Rattle.crowd_laws.specs.Beginning.{IsStart};
 ghost use Rattle.crowd_laws.specs.Crowds.{World};
@@ -22,14 +23,15 @@ use crate::request::Request;
 use crate::said::{Ending, Phase, Said};
 use change_plan_laws::{
     commits_can_not_fail, commits_leave_the_new_graph, what_is_frozen_may_be_closed,
+    what_is_not_frozen_is_left,
 };
 use crowd_laws::{changes_find_crowds_quiescent, true_lines_are_allowed};
 use quiesce_core::a_started_system_has_its_graph;
 use quiesce_laws::{changes_find_nodes_quiescent, started_systems_are_reached};
 
 /// Whatever is said, what has happened is a run: the start, what lines told, and the end. Where the change was made, all
-/// was drained, and the graph is the new one; where it wasn't, the graph is the old one and each gate as it was. Where
-/// it waits, something isn't drained yet and rounds are left.
+/// was drained, the graph is the new one, and each gate of a live node is open; where it wasn't, the graph is the old one
+/// and each gate as it was. Where it waits, something isn't drained yet and rounds are left.
 pub fn sessions_keep_their_course()
     ensures { (c : Change) (said : List Said) → CanChange c → Course c (scene_after c said) }
 {
@@ -38,7 +40,17 @@ pub fn sessions_keep_their_course()
     commits_can_not_fail();
     commits_leave_the_new_graph();
     what_is_frozen_may_be_closed();
+    what_is_not_frozen_is_left();
 }
+
+/// What is written tells the run: it is the text of lines, by which all is said that was done in the run beside what lines of
+/// the runtime told, and each line stands where its event is.
+pub fn sessions_write_their_run()
+    ensures scene { (r : Request) (said : List Said) → (heard r said).scene ≡ scene_after (change_in r) said }
+    ensures written { (r : Request) (said : List Said) → IsWritten (heard r said).text (heard r said).scene.events }
+    ensures places { (text : List ℕ) (events : List Event) (w : IsWritten text events) (front back : List Line) (l : Line) (e : Event)
+        → w.lines ≡ front ++ l ∷ back → done_by l ≡ Some e → IsDoneBehind front e events }
+{}
 
 /// At each link and unlink of a session the port's owner is quiescent, and at each removal the node is.
 pub fn sessions_find_nodes_quiescent()

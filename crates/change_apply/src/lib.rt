@@ -3,6 +3,7 @@
 
 mod applying;
 mod laws;
+mod promises;
 mod reading;
 mod replying;
 mod request;
@@ -15,7 +16,9 @@ pub use applying::apply;
 pub use laws::{
     one_input_has_one_answer, sessions_commit_by_go, sessions_count_rounds,
     sessions_find_crowds_quiescent, sessions_find_nodes_quiescent, sessions_keep_their_course,
+    sessions_write_their_run,
 };
+pub use promises::apply_promises;
 pub use request::{Called, Request};
 pub use said::{Answer, Ending, Phase, Said};
 pub use saying::LINE_LIMIT;
