@@ -4,31 +4,40 @@ use Rattle.std.proofs.lemmas.List.{take_rest}
 use Rattle.base.proofs.BytesLaws.{bytes_eq_self, same_bytes}
 use Rattle.command_words.specs.declared.keywords.Keyword.{Keyword}
 use Rattle.command_words.specs.declared.keywords.Keyword.TheVariants as keywords
+use Rattle.command_words.specs.declared.words.Change.{Change}
+use Rattle.command_words.specs.declared.words.Cut.TheVariants as cuts
 use Rattle.command_words.specs.declared.words.Command.{Command}
 use Rattle.command_words.specs.declared.words.Command.TheVariants as commands
 use Rattle.command_words.specs.declared.words.TopCall.{TopCall}
 use Rattle.command_words.specs.Keywords.{word_of}
-use Rattle.command_words.specs.CommandLine.{Asks, for_help, for_version, for_deed, BehindFile, BehindNumber, HasBody, IsCall, IsChange, IsEnd, IsFound, SaysThreads}
+use Rattle.command_words.specs.CommandLine.{Asks, for_help, for_version, for_deed, BehindFile, HasBody, IsCall, IsChange, IsEnd, IsFound, IsRolled, SaysThreads}
 use Rattle.command_words.proofs.Asking.{head_is, tail_is}
-use Rattle.command_words.proofs.WordsLaws.{no_deed, no_keyword, named_none, no_keyword_asks, one_keyword}
+use Rattle.command_words.proofs.WordsLaws.{is_of_change, no_cut, no_deed, no_keyword, named_none, no_keyword_asks, one_keyword}
 
 module _ (own : Keyword) (first : List ℕ) (words : List (List ℕ)) where
   pub no_flat : own ≡ keywords.Flat → ((call : TopCall) → IsCall words call → ⊥) → (c : Command) → HasBody own (first ∷ words) c → ⊥
   no_flat is none (commands.Flat f t) has = none t has.1.2
+  no_flat is none (commands.Change cut change) has = no_cut cut own (ap is_of_change is) has.0
   no_flat is none c has = cc has.0
 
-  pub no_plan : own ≡ keywords.Plan → ((call target : TopCall) → IsChange words call target → ⊥) → (c : Command) → HasBody own (first ∷ words) c → ⊥
-  no_plan is none (commands.Plan f t u) has = none t u has.1.2
+  pub no_plan : own ≡ keywords.Plan → ((change : Change) → (change.file ≡ first) × IsChange words change → ⊥) → (c : Command) → HasBody own (first ∷ words) c → ⊥
+  no_plan is none (commands.Change cuts.Whole change) has = none change (has.1.0, has.1.2)
+  no_plan is none (commands.Change cuts.InParts change) has = cc has.0
+  no_plan is none (commands.Change (cuts.Rolled run within) change) has = cc has.0
   no_plan is none c has = cc has.0
 
-  pub no_parts : own ≡ keywords.Parts → ((call target : TopCall) → IsChange words call target → ⊥) → (c : Command) → HasBody own (first ∷ words) c → ⊥
-  no_parts is none (commands.Parts f t u) has = none t u has.1.2
+  pub no_parts : own ≡ keywords.Parts → ((change : Change) → (change.file ≡ first) × IsChange words change → ⊥) → (c : Command) → HasBody own (first ∷ words) c → ⊥
+  no_parts is none (commands.Change cuts.InParts change) has = none change (has.1.0, has.1.2)
+  no_parts is none (commands.Change cuts.Whole change) has = cc has.0
+  no_parts is none (commands.Change (cuts.Rolled run within) change) has = cc has.0
   no_parts is none c has = cc has.0
 
   pub no_roll :
-      own ≡ keywords.Roll → ((n m : ℕ) (call target : TopCall) → BehindNumber n (BehindNumber m (λ ws. IsChange ws call target)) words → ⊥)
-      → (c : Command) → HasBody own (first ∷ words) c → ⊥
-  no_roll is none (commands.Roll f n m t u) has = none n m t u has.1.2
+      own ≡ keywords.Roll → ((run within : ℕ) (change : Change) → (change.file ≡ first) × IsRolled run within change words → ⊥) → (c : Command)
+      → HasBody own (first ∷ words) c → ⊥
+  no_roll is none (commands.Change (cuts.Rolled run within) change) has = none run within change (has.1.0, has.1.2)
+  no_roll is none (commands.Change cuts.Whole change) has = cc has.0
+  no_roll is none (commands.Change cuts.InParts change) has = cc has.0
   no_roll is none c has = cc has.0
 
   pub no_apply : own ≡ keywords.Apply → (c : Command) → HasBody own (first ∷ words) c → ⊥
@@ -36,22 +45,27 @@ module _ (own : Keyword) (first : List ℕ) (words : List (List ℕ)) where
 
   pub no_replay : own ≡ keywords.Replay → ((file : List ℕ) → BehindFile file IsEnd words → ⊥) → (c : Command) → HasBody own (first ∷ words) c → ⊥
   no_replay is none (commands.Replay f e) has = none e has.1.2
+  no_replay is none (commands.Change cut change) has = no_cut cut own (ap is_of_change is) has.0
   no_replay is none c has = cc has.0
 
   pub no_step : own ≡ keywords.Step → (IsEnd words → ⊥) → (c : Command) → HasBody own (first ∷ words) c → ⊥
   no_step is none (commands.Step f) has = none has.1.2
+  no_step is none (commands.Change cut change) has = no_cut cut own (ap is_of_change is) has.0
   no_step is none c has = cc has.0
 
   pub no_live : own ≡ keywords.Live → ((n m : ℕ) → SaysThreads words n m → ⊥) → (c : Command) → HasBody own (first ∷ words) c → ⊥
   no_live is none (commands.Live f n m) has = none n m has.1.2
+  no_live is none (commands.Change cut change) has = no_cut cut own (ap is_of_change is) has.0
   no_live is none c has = cc has.0
 
   pub no_check : own ≡ keywords.Check → ((file : List ℕ) → BehindFile file IsEnd words → ⊥) → (c : Command) → HasBody own (first ∷ words) c → ⊥
   no_check is none (commands.Check f e) has = none e has.1.2
+  no_check is none (commands.Change cut change) has = no_cut cut own (ap is_of_change is) has.0
   no_check is none c has = cc has.0
 
   pub no_upgrade : own ≡ keywords.Upgrade → (IsEnd words → ⊥) → (c : Command) → HasBody own (first ∷ words) c → ⊥
   no_upgrade is none (commands.Upgrade f) has = none has.1.2
+  no_upgrade is none (commands.Change cut change) has = no_cut cut own (ap is_of_change is) has.0
   no_upgrade is none c has = cc has.0
 
 -- words of a command that aren't its body, and don't ask for its help

@@ -1,5 +1,6 @@
 pub mod Asking
 pub mod Bodies
+pub mod Changes
 pub mod Parting
 pub mod Refusals
 pub mod SessionLaws

@@ -1,27 +1,48 @@
 -- Words that are no change.
-use Rattle.std.proofs.Common.{◌≡◌, ◌≤◌, ◌<◌, ◌∙◌, ℕ, List, [], ◌∷◌, Option, None, Some, length, map, codes, get_or, refl, sym, ap, subst, arith}
+use Rattle.std.proofs.Common.{◌≡◌, ◌≤◌, ◌<◌, ◌∙◌, ℕ, List, [], ◌∷◌, Option, None, Some, Result, Ok, Err, IfOk, length, map, codes, get_or, refl, sym, ap, subst, arith}
 use Rattle.std.specs.List.{AllByRecursion}
 use Rattle.std.specs.Option.{SomeIff}
 use Rattle.std.specs.Str.Parse.{digits_value}
+use Rattle.command_words.specs.declared.calls.Target.{Target}
+use Rattle.command_words.specs.declared.words.Change.{Change}
 use Rattle.command_words.specs.declared.words.TopCall.{TopCall}
-use Rattle.command_words.specs.CommandLine.{IsCall, IsChange, IsCount, IsFound, SaysObservers}
+use Rattle.command_words.specs.CommandLine.{IsCall, IsChange, IsCount, IsFound, IsOther, IsTarget, SaysObservers}
 use Rattle.command_words.proofs.Asking.{head_is, call_has_parts, one_parting, no_parting, IsPart, Parted}
 
 -- words that nothing parts
-pub not_parted : (words : List (List ℕ)) → AllByRecursion IsPart words → (call target : TopCall) → IsChange words call target → ⊥
-not_parted words all call target is = no_parting is.0 is.1 (subst (AllByRecursion IsPart) is.2 all)
+pub not_parted : (words : List (List ℕ)) → AllByRecursion IsPart words → (change : Change) → IsChange words change → ⊥
+not_parted words all change is = no_parting is.0 is.1 (subst (AllByRecursion IsPart) is.2 all)
 
--- words of which one part is no call
-module _ (words call target : List (List ℕ)) (parts : Parted words call target) where
-  same_parts : (first second : TopCall) (is : IsChange words first second) → (is.0 ≡ call) × (is.1 ≡ target)
-  same_parts first second is =
-      one_parting is.0 call is.1 target (call_has_parts is.0 first is.3) parts.first (sym is.2 ∙ parts.parted)
+-- words of which one part is no component
+module _ (words first second : List (List ℕ)) (parts : Parted words first second) where
+  same_parts : (change : Change) (is : IsChange words change) → (is.0 ≡ first) × (is.1 ≡ second)
+  same_parts change is =
+      one_parting is.0 first is.1 second (call_has_parts is.0 change.call is.3) parts.first (sym is.2 ∙ parts.parted)
 
-  pub no_call : ((asked : TopCall) → IsCall call asked → ⊥) → (first second : TopCall) → IsChange words first second → ⊥
-  no_call none first second is = none first (subst (λ ws. IsCall ws first) (same_parts first second is).0 is.3)
+  pub no_call : ((asked : TopCall) → IsCall first asked → ⊥) → (change : Change) → IsChange words change → ⊥
+  no_call none change is = none change.call (subst (λ ws. IsCall ws change.call) (same_parts change is).0 is.3)
 
-  pub no_target : ((asked : TopCall) → IsCall target asked → ⊥) → (first second : TopCall) → IsChange words first second → ⊥
-  no_target none first second is = none second (subst (λ ws. IsCall ws second) (same_parts first second is).1 is.4)
+  pub no_target : ((other : Option (List ℕ)) (target : TopCall) → IsTarget second other target → ⊥) → (change : Change) → IsChange words change → ⊥
+  no_target none change is = none change.other change.target (subst (λ ws. IsTarget ws change.other change.target) (same_parts change is).1 is.4)
+
+-- words that are neither a component of the file nor of another
+pub no_component :
+    (words : List (List ℕ)) → ((target : TopCall) → IsCall words target → ⊥) → ((other : Option (List ℕ)) (target : TopCall) → IsOther words other target → ⊥)
+    → (other : Option (List ℕ)) (target : TopCall) → IsTarget words other target → ⊥
+no_component words same apart None target is = same target is
+no_component words same apart (Some other) target is = apart (Some other) target is
+
+pub is_other : (words : List (List ℕ)) (other : Option (List ℕ)) (target : TopCall) → IsOther words other target → IsTarget words other target
+is_other [] other target never = absurd never
+is_other (word ∷ words) other target is = subst (λ o. IsTarget (word ∷ words) o target) (sym is.1) (is.0, refl, is.2)
+
+pub finds_other :
+    {E : Type 0} (words : List (List ℕ)) (r : Result (Option Target) E) → ((target : TopCall) → IsCall words target → ⊥)
+    → IfOk r (IsFound (λ (to : Target). IsOther words to.other to.target)) → IfOk r (IsFound (λ (to : Target). IsTarget words to.other to.target))
+finds_other words (Ok (Some to)) none is = is_other words to.other to.target is
+finds_other words (Ok None) none nothing = λ to is.
+    no_component words none (λ other target. nothing (record { other = other; target = target })) to.other to.target is
+finds_other words (Err e) none is = tt
 
 -- whether two words say a number of observers
 pub says_observers :

@@ -6,9 +6,9 @@ use Rattle.command_words.specs.SessionWords.{AsksToApply, SaysChange, SaysSessio
 use Rattle.command_words.specs.declared.keywords.Keyword.TheVariants as keywords
 use Rattle.command_words.specs.declared.sessions.SessionWords.{SessionWords}
 use Rattle.command_words.specs.declared.words.Command.{Command}
-use Rattle.command_words.specs.declared.words.TopCall.{TopCall}
 use Rattle.command_words.proofs.Asking.{head_is, tail_is}
-use Rattle.command_words.proofs.WordsLaws.{named_none, no_deed, no_keyword, no_keyword_asks, one_change, one_keyword}
+use Rattle.command_words.proofs.Changes.{MeaningOfNames, one_change}
+use Rattle.command_words.proofs.WordsLaws.{named_none, no_deed, no_keyword, no_keyword_asks, one_keyword}
 
 -- a number alone is no session
 no_session : (body : List (List ℕ)) (word : List ℕ) (asked : SessionWords) → body ≡ word ∷ [] → SaysSession body asked → ⊥
@@ -25,25 +25,19 @@ no_command (word ∷ body) _ (for_version is) asked y =
 no_command (word ∷ body) _ (for_deed own words c is other has) asked y =
     no_deed own c (one_keyword own keywords.Apply (sym (head_is word (word_of own) body words is) ∙ y.0)) has.0
 
-same_session :
-    (s t : SessionWords) → s.within ≡ t.within → s.file ≡ t.file → s.call ≡ t.call → s.target ≡ t.target → s ≡ t
-same_session s t within file call target =
-    let of : ℕ → List ℕ → TopCall → TopCall → SessionWords =
-    λ n f c d. record { within = n; file = f; call = c; target = d } in
-    ap (λ n. of n s.file s.call s.target) within
-    ∙ (ap (λ f. of t.within f s.call s.target) file
-    ∙ (ap (λ c. of t.within t.file c s.target) call ∙ ap (of t.within t.file t.call) target))
+-- by a law of names, as it stands in the crate below
+module _ (means : MeaningOfNames) where
+  one_body : (words : List (List ℕ)) (s t : SessionWords) → SaysChange words s → SaysChange words t → s.change ≡ t.change
+  one_body [] s t x y = absurd x
+  one_body (file ∷ parts) s t x y = one_change means parts s.change t.change (x.1 ∙ sym y.1) x.2 y.2
 
-one_body : (words : List (List ℕ)) (s t : SessionWords) → s.within ≡ t.within → SaysChange words s → SaysChange words t → s ≡ t
-one_body [] s t within x y = absurd x
-one_body (file ∷ parts) s t within x y =
-    let calls = one_change parts s.call s.target t.call t.target x.2 y.2 in
-    same_session s t within (x.1 ∙ sym y.1) calls.0 calls.1
+  one_said : (words : List (List ℕ)) (s t : SessionWords) → SaysSession words s → SaysSession words t → s ≡ t
+  one_said [] s t x y = absurd x
+  one_said (count ∷ words) s t x y =
+      let within = x.1 ∙ sym y.1 in
+      let change = one_body words s t x.2 y.2 in
+      λ i. record { within = within i; change = change i }
 
-one_said : (words : List (List ℕ)) (s t : SessionWords) → SaysSession words s → SaysSession words t → s ≡ t
-one_said [] s t x y = absurd x
-one_said (count ∷ words) s t x y = one_body words s t (x.1 ∙ sym y.1) x.2 y.2
-
-pub one_session : (words : List (List ℕ)) (s t : SessionWords) → AsksToApply words s → AsksToApply words t → s ≡ t
-one_session [] s t x y = absurd x
-one_session (word ∷ words) s t x y = one_said words s t x.1 y.1
+  pub one_session : (words : List (List ℕ)) (s t : SessionWords) → AsksToApply words s → AsksToApply words t → s ≡ t
+  one_session [] s t x y = absurd x
+  one_session (word ∷ words) s t x y = one_said words s t x.1 y.1

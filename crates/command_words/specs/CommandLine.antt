@@ -1,14 +1,17 @@
 -- To be believed (definitions.md).
 -- The words of a command line, and which command they ask for: the first word names it, and the others are its body.
-use Rattle.std.specs.Prelude.{◌≡◌, ◌≢◌, ◌⊎◌, ◌≤◌, ◌<◌, ◌^◌, ℕ, ℤ, List, [], ◌∷◌, ◌++◌, Option, None, Some, map, codes, slice_index, FitsSigned, Bool, not, bytes_eq}
+use Rattle.std.specs.Prelude.{◌≡◌, ◌≢◌, ◌⊎◌, ◌≤◌, ◌<◌, ◌^◌, ℕ, ℤ, List, [], ◌∷◌, ◌++◌, Option, None, Some, map, codes, slice_index, FitsSigned, Bool, true, not, ◌||◌, ◌==◌, bytes_eq}
 use Rattle.std.specs.Int.{w32}
-use Rattle.std.specs.List.{AllByRecursion}
+use Rattle.std.specs.List.{AllByRecursion, list_any}
 use Rattle.std.specs.Str.Parse.{IsNumeral, digits_value, signed_digits_value, without_leading_sign}
 use Rattle.command_words.specs.declared.big_texts.TheConstants.{MAX_LANES}
 use Rattle.darwin_lexer.specs.Naming.{IsName}
 use Rattle.command_words.specs.declared.words.TopCall.{TopCall}
 use Rattle.command_words.specs.declared.keywords.Keyword.{Keyword}
 use Rattle.command_words.specs.declared.keywords.Keyword.TheVariants as keywords
+use Rattle.command_words.specs.declared.words.Change.{Change}
+use Rattle.command_words.specs.declared.words.Cut.{Cut}
+use Rattle.command_words.specs.declared.words.Cut.TheVariants as cuts
 use Rattle.command_words.specs.declared.words.Command.{Command}
 use Rattle.command_words.specs.declared.words.Command.TheVariants as commands
 use Rattle.command_words.specs.Keywords.{word_of}
@@ -54,10 +57,25 @@ IsCall words call =
     (integers : List (List ℕ)) × (words ≡ call.top ∷ integers) × IsName call.top × AllByRecursion IsInteger integers
     × (call.args ≡ map integer_of integers)
 
--- the words of a change: those of two calls, and `--` between them
-abbrev pub IsChange : List (List ℕ) → TopCall → TopCall → Type 0
-IsChange words call target =
-    (first second : List (List ℕ)) × (words ≡ first ++ codes "--" ∷ second) × IsCall first call × IsCall second target
+-- a word that holds a dot or a slash, as no component's name does
+abbrev pub is_file_name : List ℕ → Bool
+is_file_name word = list_any (λ byte. (byte == 46) || (byte == 47)) word
+
+-- the words of a component of another file: behind `--`, such a word names a file
+abbrev pub IsOther : List (List ℕ) → Option (List ℕ) → TopCall → Type 0
+IsOther [] other target = ⊥
+IsOther (word ∷ words) other target = (is_file_name word ≡ true) × (other ≡ Some word) × IsCall words target
+
+-- the words of a component of the same file, or of another
+abbrev pub IsTarget : List (List ℕ) → Option (List ℕ) → TopCall → Type 0
+IsTarget words None target = IsCall words target
+IsTarget words (Some other) target = IsOther words (Some other) target
+
+-- the words of a change behind its first file: those of two components, and `--` between them
+abbrev pub IsChange : List (List ℕ) → Change → Type 0
+IsChange words change =
+    (first second : List (List ℕ)) × (words ≡ first ++ codes "--" ∷ second) × IsCall first change.call
+    × IsTarget second change.other change.target
 
 -- a file is named, by a word that isn't empty, and such words stand behind it
 abbrev pub BehindFile : List ℕ → (List (List ℕ) → Type 0) → List (List ℕ) → Type 0
@@ -73,14 +91,29 @@ BehindNumber n Is (word ∷ words) = (n ≡ digits_value 10 word) × IsNumber wo
 abbrev pub IsEnd : List (List ℕ) → Type 0
 IsEnd words = words ≡ []
 
+-- what stands behind the file of a roll: how many transactions are run, for how many rounds each part may wait, and the
+-- change
+abbrev pub IsRolled : ℕ → ℕ → Change → List (List ℕ) → Type 0
+IsRolled run within change words = BehindNumber run (BehindNumber within (λ rest. IsChange rest change)) words
+
+-- the word that asks for a change that is made so
+abbrev pub cut_word : Cut → Keyword
+cut_word cuts.Whole = keywords.Plan
+cut_word cuts.InParts = keywords.Parts
+cut_word (cuts.Rolled run within) = keywords.Roll
+
+-- and what stands behind its file
+abbrev pub IsCutSo : Cut → Change → List (List ℕ) → Type 0
+IsCutSo cuts.Whole change words = IsChange words change
+IsCutSo cuts.InParts change words = IsChange words change
+IsCutSo (cuts.Rolled run within) change words = IsRolled run within change words
+
 -- the word that names a command, where it is one of those that take others behind it
 abbrev pub keyword : Command → Option Keyword
 keyword (commands.Help topic) = None
 keyword commands.Version = None
 keyword (commands.Flat file call) = Some keywords.Flat
-keyword (commands.Plan file call target) = Some keywords.Plan
-keyword (commands.Parts file call target) = Some keywords.Parts
-keyword (commands.Roll file run within call target) = Some keywords.Roll
+keyword (commands.Change cut change) = Some (cut_word cut)
 keyword (commands.Replay file events) = Some keywords.Replay
 keyword (commands.Upgrade file) = Some keywords.Upgrade
 keyword (commands.Step script) = Some keywords.Step
@@ -93,10 +126,7 @@ abbrev pub IsBody : Command → List (List ℕ) → Type 0
 IsBody (commands.Help topic) body = ⊥
 IsBody commands.Version body = ⊥
 IsBody (commands.Flat file call) body = BehindFile file (λ words. IsCall words call) body
-IsBody (commands.Plan file call target) body = BehindFile file (λ words. IsChange words call target) body
-IsBody (commands.Parts file call target) body = BehindFile file (λ words. IsChange words call target) body
-IsBody (commands.Roll file run within call target) body =
-    BehindFile file (BehindNumber run (BehindNumber within (λ words. IsChange words call target))) body
+IsBody (commands.Change cut change) body = BehindFile change.file (IsCutSo cut change) body
 IsBody (commands.Replay file events) body = BehindFile file (BehindFile events IsEnd) body
 IsBody (commands.Upgrade file) body = BehindFile file IsEnd body
 IsBody (commands.Step script) body = BehindFile script IsEnd body

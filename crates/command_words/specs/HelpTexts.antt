@@ -11,10 +11,10 @@ use Rattle.command_words.specs.declared.keywords.TheConstants.{KEYWORDS}
 -- the form of a command
 abbrev pub form_of : Keyword → List ℕ
 form_of keywords.Flat = codes "darwin_run flat FILE NAME INT*\n"
-form_of keywords.Plan = codes "darwin_run plan FILE NAME INT* -- NAME INT*\n"
-form_of keywords.Parts = codes "darwin_run parts FILE NAME INT* -- NAME INT*\n"
-form_of keywords.Roll = codes "darwin_run roll FILE NUM NUM NAME INT* -- NAME INT*\n"
-form_of keywords.Apply = codes "darwin_run apply N FILE NAME INT* -- NAME INT*\n"
+form_of keywords.Plan = codes "darwin_run plan FILE NAME INT* -- [FILE] NAME INT*\n"
+form_of keywords.Parts = codes "darwin_run parts FILE NAME INT* -- [FILE] NAME INT*\n"
+form_of keywords.Roll = codes "darwin_run roll FILE NUM NUM NAME INT* -- [FILE] NAME INT*\n"
+form_of keywords.Apply = codes "darwin_run apply N FILE NAME INT* -- [FILE] NAME INT*\n"
 form_of keywords.Replay = codes "darwin_run replay FILE EVENTS\n"
 form_of keywords.Step = codes "darwin_run step SCRIPT\n"
 form_of keywords.Live = codes "darwin_run live SCRIPT [--workers W [--watch N]]\n"
@@ -34,7 +34,7 @@ deed_of keywords.Replay = codes "    apply events to the system that they start\
 deed_of keywords.Step = codes "    run a script on one thread, write its report\n"
 deed_of keywords.Live =
     codes "    run a script on W worker threads (1 to 8, or 4), and write lines of N observers behind it (1 to 4)\n"
-deed_of keywords.Check = codes "    say whether a report can be one of this machine\n"
+deed_of keywords.Check = codes "    say whether a report is consistent with the script\n"
 deed_of keywords.Big = codes "    run and change a system of N lanes (1 to 40)\n"
 deed_of keywords.Upgrade = codes "    write a report in version 2\n"
 
@@ -67,9 +67,9 @@ help_foot =
     ++ codes "  7  a change was given up\n"
     ++ codes "  8  a node isn't done behind finish\n"
     ++ codes "  9  an event is denied\n"
-    ++ codes " 10  a report can't be one of this machine\n"
+    ++ codes " 10  a report isn't consistent with the script\n"
     ++ codes "\n"
-    ++ codes "/dev/stdin serves for a file.\n"
+    ++ codes "/dev/stdin serves for a file. Behind -- a FILE has a dot or a slash in its name.\n"
 
 -- of all commands, or of one
 abbrev pub help_text : Option Keyword → List ℕ

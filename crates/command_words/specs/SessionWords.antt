@@ -1,5 +1,5 @@
 -- To be believed (definitions.md).
--- The words that ask for a session: `apply N FILE NAME INT* -- NAME INT*`.
+-- The words that ask for a session: `apply N FILE`, and the other words of a change.
 use Rattle.std.specs.Prelude.{◌≡◌, ◌≢◌, ℕ, List, [], ◌∷◌, codes}
 use Rattle.std.specs.Str.Parse.{digits_value}
 use Rattle.command_words.specs.CommandLine.{IsChange, IsNumber}
@@ -8,7 +8,7 @@ use Rattle.command_words.specs.declared.sessions.SessionWords.{SessionWords}
 -- a file, and the words of a change
 abbrev pub SaysChange : List (List ℕ) → SessionWords → Type 0
 SaysChange [] asked = ⊥
-SaysChange (file ∷ parts) asked = (file ≢ []) × (asked.file ≡ file) × IsChange parts asked.call asked.target
+SaysChange (file ∷ parts) asked = (file ≢ []) × (asked.change.file ≡ file) × IsChange parts asked.change
 
 -- a number of rounds, and these
 abbrev pub SaysSession : List (List ℕ) → SessionWords → Type 0

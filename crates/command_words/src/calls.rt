@@ -1,30 +1,31 @@
-//! Calls of components, and the numbers among words.
+//! Changes and calls of components, and the numbers among words.
 
-ghost use Rattle.std.specs.Prelude.{◌≡◌, map, string_bytes, IfOk, IfSome, IfNone};
+ghost use Rattle.std.specs.Prelude.{◌≡◌, ◌∷◌, map, string_bytes, IfOk, IfSome, IfNone};
 ghost use Rattle.std.specs.List.{AllByRecursion, prefix_len};
 ghost use Rattle.std.specs.Option.{SomeIff};
 ghost use Rattle.std.specs.Str.Parse.{digits_value};
-ghost use Rattle.command_words.specs.CommandLine.{IsCall, IsChange, IsInteger, IsNumber, integer_of, is_part};
+ghost use Rattle.command_words.specs.CommandLine.{IsCall, IsChange, IsFound, IsInteger, IsNumber, IsOther, IsTarget, integer_of, is_file_name, is_part};
 ghost use Rattle.command_words.specs.declared.words.TopCall.{TopCall};
 
-use crate::words::{TopCall, Word};
+use crate::words::{Change, TopCall, Word};
 use config_graph::{List, NoMemory};
 use darwin_lexer::is_name;
 use std::alloc::Global;
 
-/// A component with arguments, and the one to which a change leads.
+/// A component to which a change leads, and its file where that is named.
 #[derive(Drop)]
-pub struct Change<'a> {
-    pub call: TopCall<'a>,
-    pub target: TopCall<'a>,
+struct Target<'a> {
+    other: Option<Word<'a>>,
+    target: TopCall<'a>,
 }
 
-/// The two calls that these words are, with `--` between them.
-pub fn read_change(alloc: Global, words: &[String]) -> Result<Option<Change<'_>>, NoMemory>
-    ensures found { IfOk result (λ found. IfSome found
-        (λ change. IsChange (map string_bytes words.now) change.call change.target)) }
-    ensures none { IfOk result (λ found. IfNone found ((call target : TopCall)
-        → IsChange (map string_bytes words.now) call target → ⊥)) }
+/// The change that a file and the words behind it say, with `--` between two components.
+pub fn read_change<'a>(
+    alloc: Global,
+    file: &'a str,
+    words: &'a [String],
+) -> Result<Option<Change<'a>>, NoMemory>
+    ensures { IfOk result (IsFound (λ change. (change.file ≡ file.now) × IsChange (map string_bytes words.now) change)) }
 {
     let at = parting(words);
     if at >= words.len() {
@@ -33,10 +34,67 @@ pub fn read_change(alloc: Global, words: &[String]) -> Result<Option<Change<'_>>
     let Some(call) = read_call(alloc, &words[..at])? else {
         return Ok(None);
     };
-    let Some(target) = read_call(alloc, &words[at + 1..])? else {
+    let Some(to) = read_target(alloc, &words[at + 1..])? else {
         return Ok(None);
     };
-    Ok(Some(Change { call, target }))
+    Ok(Some(Change {
+        file: Word::of(file),
+        call,
+        other: to.other,
+        target: to.target,
+    }))
+}
+
+/// The component to which a change leads, where these words stand behind `--`.
+fn read_target(alloc: Global, words: &[String]) -> Result<Option<Target<'_>>, NoMemory>
+    ensures { IfOk result (IsFound (λ to. IsTarget (map string_bytes words.now) to.other to.target)) }
+{
+    match read_call(alloc, words)? {
+        Some(target) => Ok(Some(Target {
+            other: None,
+            target,
+        })),
+        None => read_other(alloc, words),
+    }
+}
+
+/// The component of a file that these words name.
+fn read_other(alloc: Global, words: &[String]) -> Result<Option<Target<'_>>, NoMemory>
+    ensures { IfOk result (IsFound (λ to. IsOther (map string_bytes words.now) to.other to.target)) }
+{
+    match words {
+        [] => Ok(None),
+        [file, ..] => other_of(alloc, file.as_str(), &words[1..]),
+    }
+}
+
+/// The component of a file that a word names and these words behind it.
+fn other_of<'a>(
+    alloc: Global,
+    file: &'a str,
+    words: &'a [String],
+) -> Result<Option<Target<'a>>, NoMemory>
+    ensures { IfOk result (IsFound (λ to. IsOther (file.now ∷ map string_bytes words.now) to.other to.target)) }
+{
+    if !is_file_name(file) {
+        return Ok(None);
+    }
+    match read_call(alloc, words)? {
+        Some(target) => Ok(Some(Target {
+            other: Some(Word::of(file)),
+            target,
+        })),
+        None => Ok(None),
+    }
+}
+
+/// Whether a word holds a dot or a slash, and so names a file behind `--`.
+fn is_file_name(word: &str) -> bool
+    ensures { result ≡ is_file_name word.now }
+{
+    word.as_bytes()
+        .iter()
+        .any(|byte| *byte == b'.' || *byte == b'/')
 }
 
 /// How many words stand before the first `--`, or how many there are where none is.

@@ -15,7 +15,7 @@ const HEAD: &str =
     "darwin_run --help\n    write this text, as -h and help do; behind a command, its form alone\ndarwin_run --version\n    write the program's name and version\n";
 
 const FOOT: &str =
-    "\nstatus\n  0  what was asked for is written\n  1  the words have no form\n  2  a description is refused\n  3  a script, a file of events, a report or a line is refused\n  4  a file or standard input can't be read\n  5  standard output failed\n  6  memory ran out\n  7  a change was given up\n  8  a node isn't done behind finish\n  9  an event is denied\n 10  a report can't be one of this machine\n\n/dev/stdin serves for a file.\n";
+    "\nstatus\n  0  what was asked for is written\n  1  the words have no form\n  2  a description is refused\n  3  a script, a file of events, a report or a line is refused\n  4  a file or standard input can't be read\n  5  standard output failed\n  6  memory ran out\n  7  a change was given up\n  8  a node isn't done behind finish\n  9  an event is denied\n 10  a report isn't consistent with the script\n\n/dev/stdin serves for a file. Behind -- a FILE has a dot or a slash in its name.\n";
 
 /// The commands with their forms and what each does, and the statuses; or the lines of one command.
 pub fn help_text(alloc: Global, of: Option<Keyword>) -> Result<Vec<u8>, NoMemory>

@@ -82,10 +82,10 @@ impl Keyword {
     {
         match self {
             Keyword::Flat => "darwin_run flat FILE NAME INT*\n",
-            Keyword::Plan => "darwin_run plan FILE NAME INT* -- NAME INT*\n",
-            Keyword::Parts => "darwin_run parts FILE NAME INT* -- NAME INT*\n",
-            Keyword::Roll => "darwin_run roll FILE NUM NUM NAME INT* -- NAME INT*\n",
-            Keyword::Apply => "darwin_run apply N FILE NAME INT* -- NAME INT*\n",
+            Keyword::Plan => "darwin_run plan FILE NAME INT* -- [FILE] NAME INT*\n",
+            Keyword::Parts => "darwin_run parts FILE NAME INT* -- [FILE] NAME INT*\n",
+            Keyword::Roll => "darwin_run roll FILE NUM NUM NAME INT* -- [FILE] NAME INT*\n",
+            Keyword::Apply => "darwin_run apply N FILE NAME INT* -- [FILE] NAME INT*\n",
             Keyword::Replay => "darwin_run replay FILE EVENTS\n",
             Keyword::Step => "darwin_run step SCRIPT\n",
             Keyword::Live => "darwin_run live SCRIPT [--workers W [--watch N]]\n",
@@ -112,7 +112,7 @@ impl Keyword {
             Keyword::Live => {
                 "    run a script on W worker threads (1 to 8, or 4), and write lines of N observers behind it (1 to 4)\n"
             }
-            Keyword::Check => "    say whether a report can be one of this machine\n",
+            Keyword::Check => "    say whether a report is consistent with the script\n",
             Keyword::Big => "    run and change a system of N lanes (1 to 40)\n",
             Keyword::Upgrade => "    write a report in version 2\n",
         }

@@ -22,4 +22,4 @@ pub use laws::{
 };
 pub use reading::read_words;
 pub use sessions::{SessionWords, read_session};
-pub use words::{Command, MAX_OBSERVERS, MAX_WORKERS, TopCall, USUAL_WORKERS, Word};
+pub use words::{Change, Command, Cut, MAX_OBSERVERS, MAX_WORKERS, TopCall, USUAL_WORKERS, Word};

@@ -3,13 +3,13 @@
 ghost use Rattle.std.specs.Prelude.{◌≡◌, ◌<◌, ◌↔◌, ◌∷◌, [], IsTrue, codes, length, map, string_bytes, IfOk, IfSome, IfNone};
 ghost use Rattle.std.specs.Option.{SomeIff};
 ghost use Rattle.std.specs.Str.Parse.{digits_value};
-ghost use Rattle.command_words.specs.CommandLine.{Asks, BehindFile, BehindNumber, HasBody, HasNoForm, IsChange, IsCount, IsEnd, IsFound, IsNumber, SaysCounts, SaysObservers, SaysThreads};
+ghost use Rattle.command_words.specs.CommandLine.{Asks, BehindFile, HasBody, HasNoForm, IsCount, IsEnd, IsFound, IsNumber, IsRolled, SaysCounts, SaysObservers, SaysThreads};
 ghost use Rattle.command_words.specs.Keywords.{word_of};
 
 use crate::MAX_LANES;
-use crate::calls::{Change, number, read_call, read_change};
+use crate::calls::{number, read_call, read_change};
 use crate::keywords::{Keyword, keyword_of};
-use crate::words::{Command, MAX_OBSERVERS, MAX_WORKERS, USUAL_WORKERS, Word};
+use crate::words::{Change, Command, Cut, MAX_OBSERVERS, MAX_WORKERS, USUAL_WORKERS, Word};
 use config_graph::NoMemory;
 use std::alloc::Global;
 
@@ -106,22 +106,20 @@ fn read_body<'a>(
     let file = Word::of(first);
     match own {
         Keyword::Flat => found!(read_call(alloc, words)?, call => Command::Flat { file, call }),
-        Keyword::Plan => found!(read_change(alloc, words)?, made => Command::Plan {
-            file,
-            call: made.call,
-            target: made.target,
+        Keyword::Plan => found!(read_change(alloc, first, words)?, change => Command::Change {
+            cut: Cut::Whole,
+            change,
         }),
-        Keyword::Parts => found!(read_change(alloc, words)?, made => Command::Parts {
-            file,
-            call: made.call,
-            target: made.target,
+        Keyword::Parts => found!(read_change(alloc, first, words)?, change => Command::Change {
+            cut: Cut::InParts,
+            change,
         }),
-        Keyword::Roll => found!(read_rolled(alloc, words)?, roll => Command::Roll {
-            file,
-            run: roll.run,
-            within: roll.within,
-            call: roll.change.call,
-            target: roll.change.target,
+        Keyword::Roll => found!(read_rolled(alloc, first, words)?, roll => Command::Change {
+            cut: Cut::Rolled {
+                run: roll.run,
+                within: roll.within,
+            },
+            change: roll.change,
         }),
         // These words ask for a session, which is no command.
         Keyword::Apply => Ok(None),
@@ -172,41 +170,47 @@ fn read_lanes(word: &str, words: &[String]) -> Option<u32>
     }
 }
 
-/// Two numbers and a change.
-fn read_rolled(alloc: Global, words: &[String]) -> Result<Option<Rolled<'_>>, NoMemory>
-    ensures { IfOk result (IsFound (λ roll. BehindNumber roll.run (BehindNumber roll.within
-        (λ rest. IsChange rest roll.change.call roll.change.target)) (map string_bytes words.now))) }
+/// Two numbers, and the change of a file.
+fn read_rolled<'a>(
+    alloc: Global,
+    file: &'a str,
+    words: &'a [String],
+) -> Result<Option<Rolled<'a>>, NoMemory>
+    ensures { IfOk result (IsFound (λ roll. (roll.change.file ≡ file.now)
+        × IsRolled roll.run roll.within roll.change (map string_bytes words.now))) }
 {
     match words {
         [] => Ok(None),
-        [run, ..] => rolled_behind(alloc, run.as_str(), &words[1..]),
+        [run, ..] => rolled_behind(alloc, file, run.as_str(), &words[1..]),
     }
 }
 
 /// The same of a word and those behind it.
 fn rolled_behind<'a>(
     alloc: Global,
+    file: &'a str,
     run: &str,
     words: &'a [String],
 ) -> Result<Option<Rolled<'a>>, NoMemory>
-    ensures { IfOk result (IsFound (λ roll. BehindNumber roll.run (BehindNumber roll.within
-        (λ rest. IsChange rest roll.change.call roll.change.target)) (run.now ∷ map string_bytes words.now))) }
+    ensures { IfOk result (IsFound (λ roll. (roll.change.file ≡ file.now) × IsRolled roll.run roll.within roll.change
+        (run.now ∷ map string_bytes words.now))) }
 {
     match words {
         [] => Ok(None),
-        [within, ..] => rolled_change(alloc, run, within.as_str(), &words[1..]),
+        [within, ..] => rolled_change(alloc, file, run, within.as_str(), &words[1..]),
     }
 }
 
 /// The same of two words and those behind them.
 fn rolled_change<'a>(
     alloc: Global,
+    file: &'a str,
     run: &str,
     within: &str,
     words: &'a [String],
 ) -> Result<Option<Rolled<'a>>, NoMemory>
-    ensures { IfOk result (IsFound (λ roll. BehindNumber roll.run (BehindNumber roll.within
-        (λ rest. IsChange rest roll.change.call roll.change.target)) (run.now ∷ within.now ∷ map string_bytes words.now))) }
+    ensures { IfOk result (IsFound (λ roll. (roll.change.file ≡ file.now) × IsRolled roll.run roll.within roll.change
+        (run.now ∷ within.now ∷ map string_bytes words.now))) }
 {
     let Some(run) = number(run) else {
         return Ok(None);
@@ -214,7 +218,7 @@ fn rolled_change<'a>(
     let Some(within) = number(within) else {
         return Ok(None);
     };
-    match read_change(alloc, words)? {
+    match read_change(alloc, file, words)? {
         Some(change) => Ok(Some(Rolled {
             run,
             within,

@@ -4,18 +4,16 @@ ghost use Rattle.std.specs.Prelude.{◌≡◌, ◌∷◌, map, string_bytes, IfO
 ghost use Rattle.command_words.specs.SessionWords.{AskForNoSession, AsksToApply, SaysChange, SaysSession};
 
 use crate::calls::{number, read_change};
-use crate::words::{TopCall, Word};
+use crate::words::Change;
 use config_graph::NoMemory;
 use std::alloc::Global;
 
-/// A change that is to be carried out on a system elsewhere: from the first component of a file to the second.
+/// A change that is to be carried out on a system elsewhere.
 #[derive(Drop)]
 pub struct SessionWords<'a> {
     /// In rounds: how long the ports have to drain.
     pub within: u32,
-    pub file: Word<'a>,
-    pub call: TopCall<'a>,
-    pub target: TopCall<'a>,
+    pub change: Change<'a>,
 }
 
 /// What the words ask for, where they ask for a session.
@@ -105,13 +103,8 @@ fn change_in<'a>(
     if file.is_empty() {
         return Ok(None);
     }
-    match read_change(alloc, words)? {
-        Some(change) => Ok(Some(SessionWords {
-            within,
-            file: Word::of(file),
-            call: change.call,
-            target: change.target,
-        })),
+    match read_change(alloc, file, words)? {
+        Some(change) => Ok(Some(SessionWords { within, change })),
         None => Ok(None),
     }
 }

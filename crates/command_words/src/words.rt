@@ -50,6 +50,28 @@ pub struct TopCall<'a> {
     pub args: List<i32>,
 }
 
+/// A change from one component to another: of the same description, or each of its own.
+#[derive(Drop)]
+pub struct Change<'a> {
+    pub file: Word<'a>,
+    pub call: TopCall<'a>,
+    /// The file of the second component, where one is named.
+    pub other: Option<Word<'a>>,
+    pub target: TopCall<'a>,
+}
+
+/// How a change is made.
+#[derive(Drop)]
+pub enum Cut {
+    /// By one plan, which is told.
+    Whole,
+    /// In parts, which are told.
+    InParts,
+    /// In parts, and carried out in a run: the first component is started, and this many transactions end before the
+    /// parts. Each of these waits for so many rounds at most.
+    Rolled { run: u32, within: u32 },
+}
+
 /// What words may ask for.
 #[derive(Drop)]
 pub enum Command<'a> {
@@ -63,27 +85,10 @@ pub enum Command<'a> {
         file: Word<'a>,
         call: TopCall<'a>,
     },
-    /// The plan from the first component to the second.
-    Plan {
-        file: Word<'a>,
-        call: TopCall<'a>,
-        target: TopCall<'a>,
-    },
-    /// The same change, cut into parts that may be made one after the other.
-    Parts {
-        file: Word<'a>,
-        call: TopCall<'a>,
-        target: TopCall<'a>,
-    },
-    /// What making these parts one after the other comes to.
-    Roll {
-        file: Word<'a>,
-        /// The transactions that are run before the first part.
-        run: u32,
-        /// For how many rounds each part may wait to come to rest.
-        within: u32,
-        call: TopCall<'a>,
-        target: TopCall<'a>,
+    /// A change, made as it is cut: by the words `plan`, `parts` and `roll`.
+    Change {
+        cut: Cut,
+        change: Change<'a>,
     },
     /// The events of a file, over a component of a description.
     Replay {
@@ -104,7 +109,7 @@ pub enum Command<'a> {
         workers: u32,
         observers: u32,
     },
-    /// Whether a report can be one of this machine for the script of a file.
+    /// Whether a report is consistent with the script of a file.
     Check {
         script: Word<'a>,
         report: Word<'a>,

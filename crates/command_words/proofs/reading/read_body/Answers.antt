@@ -9,16 +9,16 @@ returns-in-None c =
 
 pub returns-in-None-2 : goal.returns-in-None-2
 returns-in-None-2 c =
-    bodies.no_plan c.args.own c.args.first.now (map string_bytes c.args.words.now) c.in-Plan.is (rw c.in-None-2.is at c.in_ok-made-in-Plan.ensures.none)
+    bodies.no_plan c.args.own c.args.first.now (map string_bytes c.args.words.now) c.in-Plan.is (rw c.in-None-2.is at c.in_ok-change-in-Plan.ensures)
 
 pub returns-in-None-3 : goal.returns-in-None-3
 returns-in-None-3 c =
-    bodies.no_parts c.args.own c.args.first.now (map string_bytes c.args.words.now) c.in-Parts.is (rw c.in-None-3.is at c.in_ok-made-in-Parts.ensures.none)
+    bodies.no_parts c.args.own c.args.first.now (map string_bytes c.args.words.now) c.in-Parts.is (rw c.in-None-3.is at c.in_ok-change-in-Parts.ensures)
 
 pub returns-in-None-4 : goal.returns-in-None-4
 returns-in-None-4 c =
     bodies.no_roll c.args.own c.args.first.now (map string_bytes c.args.words.now) c.in-Roll.is
-    (λ n m t u is. (rw c.in-None-4.is at c.in_ok-roll-in-Roll.ensures) (record { run = n; within = m; change = record { call = t; target = u } }) is)
+    (λ n m change is. (rw c.in-None-4.is at c.in_ok-roll-in-Roll.ensures) (record { run = n; within = m; change = change }) is)
 
 pub returns-in-Apply : goal.returns-in-Apply
 returns-in-Apply c = bodies.no_apply c.args.own c.args.first.now (map string_bytes c.args.words.now) c.in-Apply.is
