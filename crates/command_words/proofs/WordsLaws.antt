@@ -14,7 +14,7 @@ use Rattle.command_words.specs.declared.words.Cut.TheVariants as cuts
 use Rattle.command_words.specs.Keywords.{word_of}
 use Rattle.command_words.specs.CommandLine.{Asks, for_help, for_version, for_deed, BehindFile, BehindNumber, IsBody, IsCall, IsChange, IsCutSo, IsEnd, IsHelpOf, cut_word, keyword, SaysObservers, SaysThreads}
 use Rattle.command_words.proofs.Asking.{head_is, tail_is, one_call}
-use Rattle.command_words.proofs.Changes.{MeaningOfNames, one_change}
+use Rattle.command_words.proofs.Changes.{one_change}
 
 -- the command that a word names
 pub named : List ℕ → Option Keyword
@@ -122,15 +122,15 @@ one_number n m Is Js (word ∷ words) x y = (x.0 ∙ sym y.0, (words, x.2, y.2))
 
 -- the words of a change tell how it is made, and what it leads from and to
 one_cut :
-    (means : MeaningOfNames) (a b : Cut) (c d : Change) (words : List (List ℕ)) → cut_word a ≡ cut_word b → c.file ≡ d.file → IsCutSo a c words → IsCutSo b d words
+    (a b : Cut) (c d : Change) (words : List (List ℕ)) → cut_word a ≡ cut_word b → c.file ≡ d.file → IsCutSo a c words → IsCutSo b d words
     → (a ≡ b) × (c ≡ d)
-one_cut means cuts.Whole cuts.Whole c d words same file x y = (refl, one_change means words c d file x y)
-one_cut means cuts.InParts cuts.InParts c d words same file x y = (refl, one_change means words c d file x y)
-one_cut means (cuts.Rolled k n) (cuts.Rolled m o) c d words same file x y =
+one_cut cuts.Whole cuts.Whole c d words same file x y = (refl, one_change words c d file x y)
+one_cut cuts.InParts cuts.InParts c d words same file x y = (refl, one_change words c d file x y)
+one_cut (cuts.Rolled k n) (cuts.Rolled m o) c d words same file x y =
     let run = one_number k m (BehindNumber n (λ ws. IsChange ws c)) (BehindNumber o (λ ws. IsChange ws d)) words x y in
     let within = one_number n o (λ ws. IsChange ws c) (λ ws. IsChange ws d) run.1.0 run.1.1 run.1.2 in
-    (rw (run.0, within.0) refl, one_change means within.1.0 c d file within.1.1 within.1.2)
-one_cut means a b c d words same file x y = absurd (cc same)
+    (rw (run.0, within.0) refl, one_change within.1.0 c d file within.1.1 within.1.2)
+one_cut a b c d words same file x y = absurd (cc same)
 
 -- no other command has a word that asks for a change
 abbrev asks_change : Option Keyword → Bool
@@ -149,56 +149,56 @@ no_change : (cut : Cut) (word : Option Keyword) → asks_change word ≡ false �
 no_change cut word other same = false≢true (sym other ∙ ap asks_change (sym same) ∙ cut_asks cut)
 
 -- the words behind the first tell what a command carries
-one_body : (means : MeaningOfNames) (c d : Command) (body : List (List ℕ)) → keyword c ≡ keyword d → IsBody c body → IsBody d body → c ≡ d
-one_body means (commands.Help t) d body same x y = absurd x
-one_body means commands.Version d body same x y = absurd x
-one_body means c (commands.Help t) body same x y = absurd y
-one_body means c commands.Version body same x y = absurd y
-one_body means (commands.Flat f t) (commands.Flat g u) body same x y =
+one_body : (c d : Command) (body : List (List ℕ)) → keyword c ≡ keyword d → IsBody c body → IsBody d body → c ≡ d
+one_body (commands.Help t) d body same x y = absurd x
+one_body commands.Version d body same x y = absurd x
+one_body c (commands.Help t) body same x y = absurd y
+one_body c commands.Version body same x y = absurd y
+one_body (commands.Flat f t) (commands.Flat g u) body same x y =
     let b = one_file f g (λ ws. IsCall ws t) (λ ws. IsCall ws u) body x y in
     let call = one_call b.1.0 b.1.0 t u b.1.1 b.1.2 refl in rw (b.0, call) refl
-one_body means (commands.Change a c) (commands.Change b d) body same x y =
+one_body (commands.Change a c) (commands.Change b d) body same x y =
     let f = one_file c.file d.file (IsCutSo a c) (IsCutSo b d) body x y in
-    let both = one_cut means a b c d f.1.0 (same_Some (cut_word a) (cut_word b) same) f.0 f.1.1 f.1.2 in rw (both.0, both.1) refl
-one_body means (commands.Replay f e) (commands.Replay g h) body same x y =
+    let both = one_cut a b c d f.1.0 (same_Some (cut_word a) (cut_word b) same) f.0 f.1.1 f.1.2 in rw (both.0, both.1) refl
+one_body (commands.Replay f e) (commands.Replay g h) body same x y =
     let b = one_file f g (BehindFile e IsEnd) (BehindFile h IsEnd) body x y in
     let events = one_file e h IsEnd IsEnd b.1.0 b.1.1 b.1.2 in rw (b.0, events.0) refl
-one_body means (commands.Upgrade f) (commands.Upgrade g) body same x y =
+one_body (commands.Upgrade f) (commands.Upgrade g) body same x y =
     let b = one_file f g IsEnd IsEnd body x y in rw b.0 refl
-one_body means (commands.Step f) (commands.Step g) body same x y =
+one_body (commands.Step f) (commands.Step g) body same x y =
     let b = one_file f g IsEnd IsEnd body x y in rw b.0 refl
-one_body means (commands.Live f w n) (commands.Live g v m) body same x y =
+one_body (commands.Live f w n) (commands.Live g v m) body same x y =
     let b = one_file f g (λ ws. SaysThreads ws w n) (λ ws. SaysThreads ws v m) body x y in
     let counts = one_threads b.1.0 w n v m b.1.1 b.1.2 in rw (b.0, counts.0, counts.1) refl
-one_body means (commands.Check f e) (commands.Check g h) body same x y =
+one_body (commands.Check f e) (commands.Check g h) body same x y =
     let b = one_file f g (BehindFile e IsEnd) (BehindFile h IsEnd) body x y in
     let report = one_file e h IsEnd IsEnd b.1.0 b.1.1 b.1.2 in rw (b.0, report.0) refl
-one_body means (commands.Big n) (commands.Big m) body same x y =
+one_body (commands.Big n) (commands.Big m) body same x y =
     let lanes = x.3 ∙ ap (digits_value 10) (head_is x.0 y.0 [] [] (sym x.1 ∙ y.1)) ∙ sym y.3 in rw lanes refl
-one_body means (commands.Change a c) d body same x y = absurd (no_change a (keyword d) (other_word d refl) same)
-one_body means c (commands.Change b d) body same x y = absurd (no_change b (keyword c) (other_word c refl) (sym same))
-one_body means c d body same x y = absurd (cc same)
+one_body (commands.Change a c) d body same x y = absurd (no_change a (keyword d) (other_word d refl) same)
+one_body c (commands.Change b d) body same x y = absurd (no_change b (keyword c) (other_word c refl) (sym same))
+one_body c d body same x y = absurd (cc same)
 
 -- words ask for one command at most
-pub one_command : (means : MeaningOfNames) (words : List (List ℕ)) (c d : Command) → Asks words c → Asks words d → c ≡ d
-one_command means words _ _ (for_help a x) (for_help b y) = ap commands.Help (one_topic words a b x y)
-one_command means words _ _ (for_help a x) (for_version is) = absurd (no_version words a x is)
-one_command means words _ _ (for_help None x) (for_deed own body d is other has) = absurd (no_keyword_asks words own body is x)
-one_command means words _ _ (for_help (Some a) x) (for_deed own body d is other has) =
+pub one_command : (words : List (List ℕ)) (c d : Command) → Asks words c → Asks words d → c ≡ d
+one_command words _ _ (for_help a x) (for_help b y) = ap commands.Help (one_topic words a b x y)
+one_command words _ _ (for_help a x) (for_version is) = absurd (no_version words a x is)
+one_command words _ _ (for_help None x) (for_deed own body d is other has) = absurd (no_keyword_asks words own body is x)
+one_command words _ _ (for_help (Some a) x) (for_deed own body d is other has) =
     absurd (other (sym (tail_is (word_of a) (word_of own) (codes "--help" ∷ []) body (sym x ∙ is))))
-one_command means words _ _ (for_version is) (for_help b y) = absurd (no_version words b y is)
-one_command means words _ _ (for_version x) (for_version y) = refl
-one_command means words _ _ (for_version x) (for_deed own body d is other has) =
+one_command words _ _ (for_version is) (for_help b y) = absurd (no_version words b y is)
+one_command words _ _ (for_version x) (for_version y) = refl
+one_command words _ _ (for_version x) (for_deed own body d is other has) =
     absurd (no_keyword own (codes "--version") (head_is (codes "--version") (word_of own) [] body (sym x ∙ is)) named_none.3)
-one_command means words _ _ (for_deed own body c is other has) (for_help None y) = absurd (no_keyword_asks words own body is y)
-one_command means words _ _ (for_deed own body c is other has) (for_help (Some b) y) =
+one_command words _ _ (for_deed own body c is other has) (for_help None y) = absurd (no_keyword_asks words own body is y)
+one_command words _ _ (for_deed own body c is other has) (for_help (Some b) y) =
     absurd (other (tail_is (word_of own) (word_of b) body (codes "--help" ∷ []) (sym is ∙ y)))
-one_command means words _ _ (for_deed own body c is other has) (for_version y) =
+one_command words _ _ (for_deed own body c is other has) (for_version y) =
     absurd (no_keyword own (codes "--version") (head_is (codes "--version") (word_of own) [] body (sym y ∙ is)) named_none.3)
-one_command means words _ _ (for_deed a xs c x _ has) (for_deed b ys d y _ also) =
+one_command words _ _ (for_deed a xs c x _ has) (for_deed b ys d y _ also) =
     let both = sym x ∙ y in
     let same = one_keyword a b (head_is (word_of a) (word_of b) xs ys both) in
-    one_body means c d xs (has.0 ∙ ap Some same ∙ sym also.0) has.1 (subst (IsBody d) (sym (tail_is (word_of a) (word_of b) xs ys both)) also.1)
+    one_body c d xs (has.0 ∙ ap Some same ∙ sym also.0) has.1 (subst (IsBody d) (sym (tail_is (word_of a) (word_of b) xs ys both)) also.1)
 
 -- the lanes that may be asked for
 pub lanes_asked : (words : List (List ℕ)) (lanes : ℕ) → Asks words (commands.Big lanes) → (1 ≤ lanes) × (lanes ≤ 40)

@@ -6,14 +6,10 @@ ghost use Rattle.command_words.specs.SessionWords.{AskForNoSession, AsksToApply}
 ghost use Rattle.command_words.specs.declared.sessions.SessionWords.{SessionWords};
 ghost use Rattle.command_words.specs.declared.words.Command.{Command};
 
-use darwin_lexer::fronts_as_spelled;
-
 /// A law: words ask for one command at most.
 pub fn words_ask_for_one_command()
     ensures { (words : List (List ℕ)) (c d : Command) → Asks words c → Asks words d → c ≡ d }
-{
-    fronts_as_spelled();
-}
+{}
 
 /// A law: words that ask for a command ask for no session.
 pub fn words_ask_for_a_command_or_a_session()
@@ -23,6 +19,4 @@ pub fn words_ask_for_a_command_or_a_session()
 /// A law: words ask for one session at most.
 pub fn words_ask_for_one_session()
     ensures { (words : List (List ℕ)) (s t : SessionWords) → AsksToApply words s → AsksToApply words t → s ≡ t }
-{
-    fronts_as_spelled();
-}
+{}

@@ -2,4 +2,4 @@ use Rattle.command_words.proofs.WordsLaws.{one_command}
 use Rattle.command_words.proofs.laws.words_ask_for_one_command.Goals as goal
 
 pub returns : goal.returns
-returns c = one_command c.fronts_as_spelled.ensures.meaning
+returns c = one_command

@@ -2,4 +2,4 @@ use Rattle.command_words.proofs.SessionLaws.{one_session}
 use Rattle.command_words.proofs.laws.words_ask_for_one_session.Goals as goal
 
 pub returns : goal.returns
-returns c = one_session c.fronts_as_spelled.ensures.meaning
+returns c = one_session
