@@ -200,3 +200,20 @@ decided_then Same k next (says Is) same = ((λ words x never is. never), same, (
 decided_then Same k next (fetches sort file Then) same = λ bytes. decided_then Same k next (Then bytes) (same bytes)
 decided_then Same k next (judges C sort file Refused Gives Then) same =
     (same.0, same.1, (λ x is. decided_then Same k next (Then x) (same.2 x is)))
+
+-- what a course comes to has a property, whatever the files hold
+abbrev pub ComesTo : {A : Type 0} → (A → Type 0) → Course A → Type 0
+ComesTo P (ends x) = P x
+ComesTo {A} P (says Is) = (x : A) → Is x → P x
+ComesTo P (fetches sort file Then) = (bytes : List ℕ) → ComesTo P (Then bytes)
+ComesTo P (judges B sort file Refused Gives Then) = (x : B) → Gives x → ComesTo P (Then x)
+
+-- a decided course, and then ones that are decided where it has that property
+pub decided_where :
+    {A B : Type 0} (P : A → Type 0) (Same : B → B → Type 0) (k : A → Course B) → ((x : A) → P x → Decided Same (k x)) → (c : Course A)
+    → Decided (λ x y. x ≡ y) c → ComesTo P c → Decided Same (then_by c k)
+decided_where P Same k next (ends x) same has = next x has
+decided_where P Same k next (says Is) same has = ((λ words x never is. never), same, (λ x is. next x (has x is)))
+decided_where P Same k next (fetches sort file Then) same has = λ bytes. decided_where P Same k next (Then bytes) (same bytes) (has bytes)
+decided_where P Same k next (judges C sort file Refused Gives Then) same has =
+    (same.0, same.1, (λ x is. decided_where P Same k next (Then x) (same.2 x is) (has x is)))

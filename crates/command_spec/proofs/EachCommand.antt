@@ -20,23 +20,24 @@ use Rattle.command_spec.proofs.LineLaws.{lines_use}
 use Rattle.command_spec.specs.Endings.{Comes}
 use Rattle.command_spec.specs.Files.{IsTold}
 use Rattle.command_spec.specs.declared.query.Query.{Query}
-use Rattle.command_spec.specs.Commands.{IsJudged, IsRunOf, IsSummary, Shown, course_of, judging, of_query, runs_by, own_files, can_be, can_not_be, shown, runs_script}
+use Rattle.command_spec.specs.Commands.{IsJudged, IsRunOf, IsSummary, Shown, ShowsChange, course_of, judging, of_query, runs_by, own_files, can_be, can_not_be, shown, runs_script}
 use Rattle.command_spec.specs.Courses.{Course, says, then_by, came, Follows, said, not_said, not_fetched, refusal, Here, here, leads_on, gives, End}
-use Rattle.command_spec.specs.Lines.{Progress, begun}
-use Rattle.command_spec.specs.Outcomes.{SameShown, Flattened, IsRollStatus, IsRunStatus, IsVerdict, Judged, Parted, Planned, RanBy, Replayed, Rolled, SummedUp, Upgraded, MayEnd, well, given_up, denied, unlawful, stepped, lived, summed_up, IsOfScript, MentionsFile, Ends}
-use Rattle.command_spec.specs.Queries.{AnswersQuery}
+use Rattle.command_spec.specs.Lines.{Progress, begun, of_lines}
+use Rattle.command_spec.specs.Outcomes.{SameShown, Flattened, IsRollStatus, IsRunStatus, IsVerdict, Judged, Parted, Planned, RanBy, Replayed, Rolled, SummedUp, Upgraded, WroteChange, MayEnd, well, given_up, denied, unlawful, stepped, lived, summed_up, IsOfScript, MentionsFile, Ends}
+use Rattle.command_spec.specs.Queries.{AnswersQuery, IsTextBy}
 use Rattle.command_spec.specs.Schedules.{IsReportBy, IsShownBy, rounds, threads, Schedule}
-use Rattle.command_spec.specs.Scripts.{prepares, lines_of_script}
+use Rattle.command_spec.specs.Scripts.{Uses, prepares, lines_of_script}
 use Rattle.command_spec.specs.Sorts.{TellsReport, limit_of, of_events, of_report}
-use Rattle.command_spec.proofs.CourseLaws.{Decided, decided_then, none_failed, came_by, comes_by}
+use Rattle.command_spec.proofs.CourseLaws.{Decided, decided_then, decided_where, none_failed, came_by, comes_by}
+use Rattle.command_spec.proofs.ChangeLines.{OfGraphs, change_of_graphs, change_shown, same_graphs, wrote_change}
 use Rattle.command_spec.proofs.GraphLaws.{GraphOrFault, PlanAlone}
 use Rattle.command_spec.proofs.OneRun.{one_verdict}
 use Rattle.command_spec.proofs.Wanting.{never_both, replays_status, roll_ends}
-use Rattle.command_spec.proofs.WayLaws.{prepares_decided}
+use Rattle.command_spec.proofs.WayLaws.{begun_in_order, lines_decided, prepares_decided}
 use Rattle.cfg_io.specs.Sink.{with_bytes}
-use Rattle.config_graph.specs.Graph.{Graph}
+use Rattle.config_graph.specs.Graph.{Graph, IsGraph}
 use Rattle.command_words.specs.declared.words.TopCall.{TopCall}
-use Rattle.command_spec.specs.Plans.{HasChange}
+use Rattle.command_spec.specs.Plans.{lines_of_change}
 use Rattle.command_spec.specs.Runs.{Answered, Run, Does, FollowsOwn, Written, status_of, text_of}
 use Rattle.command_spec.proofs.Saying.{say_statements}
 use Rattle.command_spec.proofs.ShownLaws.{query_shown, run_may, was_reported, OfPrepared, OfQuery, prepared}
@@ -44,7 +45,9 @@ use Rattle.command_spec.proofs.AnswerLaws.{given, either_own, is_own, run_own, e
 use Rattle.quiesce_core.specs.Start.{started}
 use Rattle.change_script.proofs.EventFileLaws as events
 use Rattle.command_words.specs.declared.words.Command.TheVariants as commands
-use Rattle.command_spec.specs.declared.query.Cut.TheVariants as cuts
+use Rattle.command_words.specs.declared.words.Change.{Change}
+use Rattle.command_words.specs.declared.words.Cut.{Cut}
+use Rattle.command_words.specs.declared.words.Cut.TheVariants as cuts
 use Rattle.command_spec.specs.declared.query.Query.TheVariants as queries
 use Rattle.command_answers.specs.declared.status.Status.TheVariants as status
 
@@ -53,9 +56,7 @@ pub short_at_once : (files : Option Files) (command : Command) → Does files co
 short_at_once files (commands.Help topic) = not_said
 short_at_once files commands.Version = not_said
 short_at_once files (commands.Flat file call) = not_fetched
-short_at_once files (commands.Plan file call target) = not_fetched
-short_at_once files (commands.Parts file call target) = not_fetched
-short_at_once files (commands.Roll file run within call target) = not_fetched
+short_at_once files (commands.Change cut change) = not_fetched
 short_at_once files (commands.Replay file events) = not_fetched
 short_at_once files (commands.Upgrade file) = not_fetched
 short_at_once files (commands.Step name) = not_fetched
@@ -92,9 +93,11 @@ pub mentions : (files : Option Files) (command : Command) (name : List ℕ) → 
 mentions files (commands.Help topic) name none comes = comes
 mentions files commands.Version name none comes = comes
 mentions files (commands.Flat file call) name none comes = query_names files file (queries.Graph call) name comes
-mentions files (commands.Plan file call target) name none comes = query_names files file (queries.Change cuts.Whole call target) name comes
-mentions files (commands.Parts file call target) name none comes = query_names files file (queries.Change cuts.InParts call target) name comes
-mentions files (commands.Roll file run within call target) name none comes = query_names files file (queries.Change (cuts.Rolled run within) call target) name comes
+mentions files (commands.Change cut c) name none comes = by (comes_by files (λ (p : Progress). says (ShowsChange cut c p.statements)) (of_lines begun (lines_of_change c)) name comes)
+  where
+    by : Comes files (of_lines begun (lines_of_change c)) name ⊎ ((p : Progress) × Comes files (says (ShowsChange cut c p.statements)) name) → Uses (lines_of_change c) name
+    by (inl first) = lines_use files (lines_of_change c) begun name first
+    by (inr (p, never)) = absurd never
 mentions files (commands.Replay file events) name none (inl is) = inr is
 mentions files (commands.Replay file events) name none (inr (bytes, told, (said_, is, comes))) = inl (query_names files file (queries.Replay said_) name comes)
 mentions files (commands.Upgrade file) name none (inl is) = is
@@ -158,21 +161,23 @@ check_shown files name file s on = by (came_by files (λ (p : Progress). judging
 ok_may : (command : Command) (own : Status) → own ≡ status.Ok → MayEnd command own
 ok_may command own is = subst (MayEnd command) (sym is) (well command)
 
+-- a change
+change_may :
+    (cut : Cut) (c : Change) (own : Status) (old new : Graph) (text : List ℕ) → IsTextBy cut c.call c.target own old new text
+    → MayEnd (commands.Change cut c) own
+change_may cuts.Whole c own old new text is = ok_may (commands.Change cuts.Whole c) own is.0
+change_may cuts.InParts c own old new text is = ok_may (commands.Change cuts.InParts c) own is.0
+change_may (cuts.Rolled run within) c own old new text is = by (roll_ends is.given_up own is.ended)
+  where
+    by : (own ≡ status.Ok) ⊎ (own ≡ status.Pending) → MayEnd (commands.Change (cuts.Rolled run within) c) own
+    by (inl ok) = ok_may (commands.Change (cuts.Rolled run within) c) own ok
+    by (inr pending) = subst (MayEnd (commands.Change (cuts.Rolled run within) c)) (sym pending) (given_up run within c)
+
 pub may_end_of : (files : Option Files) (command : Command) (s : Shown) → Follows files (course_of command) [] (came s) → MayEnd command s.own
 may_end_of files (commands.Help topic) s (said _ is) = ok_may (commands.Help topic) s.own (ap (λ (t : Shown). t.own) is)
 may_end_of files commands.Version s (said _ is) = ok_may commands.Version s.own (ap (λ (t : Shown). t.own) is)
 may_end_of files (commands.Flat file call) s on = ok_may (commands.Flat file call) s.own (query_shown files file (queries.Graph call) s on).answers.0
-may_end_of files (commands.Plan file call target) s on =
-    ok_may (commands.Plan file call target) s.own (query_shown files file (queries.Change cuts.Whole call target) s on).answers.has_steps.is_text.0
-may_end_of files (commands.Parts file call target) s on =
-    ok_may (commands.Parts file call target) s.own (query_shown files file (queries.Change cuts.InParts call target) s on).answers.has_steps.is_text.0
-may_end_of files (commands.Roll file run within call target) s on =
-    let t = (query_shown files file (queries.Change (cuts.Rolled run within) call target) s on).answers.has_steps.is_text in
-    by (roll_ends t.given_up s.own t.ended)
-  where
-    by : (s.own ≡ status.Ok) ⊎ (s.own ≡ status.Pending) → MayEnd (commands.Roll file run within call target) s.own
-    by (inl is) = ok_may (commands.Roll file run within call target) s.own is
-    by (inr is) = subst (MayEnd (commands.Roll file run within call target)) (sym is) (given_up file run within call target)
+may_end_of files (commands.Change cut c) s on = let w = (change_shown files cut c s on).2 in change_may cut c s.own w.old w.new s.text w.is_text
 may_end_of files (commands.Replay file name) s on =
     let r = replay_shown files file name s on in
     by (replays_status (started r.of.answers.graph) r.events_file.events s.own s.text r.of.answers.replays)
@@ -202,7 +207,7 @@ may_end files command failing s does = by (own_files command) does
 
 pub may_own : (command : Command) (own : Status) → MayEnd command own → is_own own ≡ true
 may_own _ _ (well command) = refl
-may_own _ _ (given_up file run within call target) = refl
+may_own _ _ (given_up run within change) = refl
 may_own _ _ (denied file events) = refl
 may_own _ _ (unlawful name file) = refl
 may_own _ _ (stepped name own is) = run_own own is
@@ -218,6 +223,9 @@ pub record Known : Type 0 where
   pub one_answer :
       (query : Query) (text : List ℕ) (own other : Status) (written also : List ℕ) → AnswersQuery query text own written → AnswersQuery query text other also
       → (own ≡ other) × (written ≡ also)
+  pub one_change :
+      (cut : Cut) (call target : TopCall) (old new : Graph) (own other : Status) (written also : List ℕ) → IsGraph old → IsGraph new
+      → IsTextBy cut call target own old new written → IsTextBy cut call target other old new also → (own ≡ other) × (written ≡ also)
   pub one_report : (bytes : List ℕ) (r s : Report) → TellsReport bytes r → TellsReport bytes s → r ≡ s
   pub no_fault_beside : (bytes : List ℕ) (r : Report) (fault : ReportFault) → TellsReport bytes r → IsReportFault bytes fault → ⊥
 
@@ -257,6 +265,17 @@ module _ (k : Known) where
     λ r tells s t is also alone. one_verdict statements r s.own t.own s.text t.text is also,
   )
 
+  -- of one change one text is shown
+  one_shown :
+      (cut : Cut) (c : Change) (p : Progress) → OfGraphs c p → (s t : Shown) → ShowsChange cut c p.statements s → ShowsChange cut c p.statements t
+      → SameShown (commands.Change cut c) s t
+  one_shown cut c p g s t x y alone =
+      let first = same_graphs c x.old x.new g.old g.new (sym x.said_are ∙ g.said_are) in
+      let second = same_graphs c y.old y.new g.old g.new (sym y.said_are ∙ g.said_are) in
+      k.one_change cut c.call c.target g.old g.new s.own t.own s.text t.text g.is_old g.is_new
+      (subst (λ h. IsTextBy cut c.call c.target s.own h g.new s.text) first.0 (subst (λ h. IsTextBy cut c.call c.target s.own x.old h s.text) first.1 x.is_text))
+      (subst (λ h. IsTextBy cut c.call c.target t.own h g.new t.text) second.0 (subst (λ h. IsTextBy cut c.call c.target t.own y.old h t.text) second.1 y.is_text))
+
   same : (command : Command) (s : Shown) → SameShown command s s
   same command s alone = (refl, refl)
 
@@ -264,13 +283,10 @@ module _ (k : Known) where
   decided (commands.Help topic) = λ s t is also alone. (ap (λ (u : Shown). u.own) (is ∙ sym also), ap (λ (u : Shown). u.text) (is ∙ sym also))
   decided commands.Version = λ s t is also alone. (ap (λ (u : Shown). u.own) (is ∙ sym also), ap (λ (u : Shown). u.text) (is ∙ sym also))
   decided (commands.Flat file call) = query_decided (SameShown (commands.Flat file call)) (same (commands.Flat file call)) file (queries.Graph call)
-  decided (commands.Plan file call target) =
-      query_decided (SameShown (commands.Plan file call target)) (same (commands.Plan file call target)) file (queries.Change cuts.Whole call target)
-  decided (commands.Parts file call target) =
-      query_decided (SameShown (commands.Parts file call target)) (same (commands.Parts file call target)) file (queries.Change cuts.InParts call target)
-  decided (commands.Roll file run within call target) =
-      let command = commands.Roll file run within call target in
-      query_decided (SameShown command) (same command) file (queries.Change (cuts.Rolled run within) call target)
+  decided (commands.Change cut c) =
+      decided_where (OfGraphs c) (SameShown (commands.Change cut c)) (λ (p : Progress). says (ShowsChange cut c p.statements)) (λ p g. one_shown cut c p g)
+      (of_lines begun (lines_of_change c)) (lines_decided k.graphs k.plan_alone (lines_of_change c) begun (begun_in_order k.graphs k.plan_alone))
+      (change_of_graphs k.graphs k.plan_alone c)
   decided (commands.Replay file name) =
       let command = commands.Replay file name in
       λ bytes. (
@@ -313,18 +329,6 @@ roll_own own is = either_own own status.Ok status.Pending refl refl is
 replay_own : (own : Status) → (own ≡ status.Ok) ⊎ (own ≡ status.Denied) → is_own own ≡ true
 replay_own own is = either_own own status.Ok status.Denied refl refl is
 
--- a change that has a text of a kind has one of another, where each of the one is of the other
-change_as :
-    (P Q : Graph → Graph → List ℕ → Type 0) → ((old new : Graph) (written : List ℕ) → P old new written → Q old new written) → (text : List ℕ) (call target : TopCall)
-    (written : List ℕ) → HasChange P text call target written → HasChange Q text call target written
-change_as P Q so text call target written h = record {
-  old = h.old;
-  new = h.new;
-  starts = h.starts;
-  has_graph = h.has_graph;
-  has_steps = record { has_room = h.has_steps.has_room; is_text = so h.old h.new written h.has_steps.is_text };
-}
-
 module _ (r : Run) where
   -- the program's own texts
   own_text : (text : List ℕ) (s : Shown) → Follows r.files (says (λ t. t ≡ shown status.Ok text)) [] (came s) → with_bytes r.taken s.text ≡ with_bytes r.taken text
@@ -357,26 +361,38 @@ module _ (r : Run) where
       let q = query_shown r.files file (queries.Graph call) g.shown g.does in
       record { text = q.text; graph = q.answers.1.0; is_told = q.is_told; has_graph = q.answers.1.1; written = g.wrote ∙ ap (with_bytes r.taken) q.answers.1.2 }
 
-  pub planned : (file : List ℕ) (call target : TopCall) → Answered (commands.Plan file call target) r → r.status ≡ status.Ok → Planned r.files file call target r.taken r.taken'
-  planned file call target a is =
-      let g = given (commands.Plan file call target) r a (ok_own r.status is) in
-      let q = query_shown r.files file (queries.Change cuts.Whole call target) g.shown g.does in
-      record { text = q.text; change = g.shown.text; is_told = q.is_told; has_change = change_as _ _ (λ old new written t. t.1) q.text call target g.shown.text q.answers; written = g.wrote }
+  -- a change was shown with a status
+  changed :
+      (cut : Cut) (c : Change) → Answered (commands.Change cut c) r → is_own r.status ≡ true
+      → WroteChange (IsTextBy cut c.call c.target r.status) r.files c r.taken r.taken'
+  changed cut c a own =
+      let g = given (commands.Change cut c) r a own in
+      subst (λ own. WroteChange (IsTextBy cut c.call c.target own) r.files c r.taken r.taken') (sym g.is)
+      (wrote_change r.files cut c g.shown r.taken r.taken' g.does g.wrote)
 
-  pub parted : (file : List ℕ) (call target : TopCall) → Answered (commands.Parts file call target) r → r.status ≡ status.Ok → Parted r.files file call target r.taken r.taken'
-  parted file call target a is =
-      let g = given (commands.Parts file call target) r a (ok_own r.status is) in
-      let q = query_shown r.files file (queries.Change cuts.InParts call target) g.shown g.does in
-      record { text = q.text; change = g.shown.text; is_told = q.is_told; has_change = change_as _ _ (λ old new written t. t.1) q.text call target g.shown.text q.answers; written = g.wrote }
+  -- with a text of a kind, and so of another
+  with_text :
+      (P Q : Graph → Graph → List ℕ → Type 0) (c : Change) → ((old new : Graph) (text : List ℕ) → P old new text → Q old new text)
+      → WroteChange P r.files c r.taken r.taken' → WroteChange Q r.files c r.taken r.taken'
+  with_text P Q c so w = record {
+    old = w.old;
+    new = w.new;
+    have_graphs = w.have_graphs;
+    text = w.text;
+    is_text = so w.old w.new w.text w.is_text;
+    written = w.written;
+  }
+
+  pub planned : (c : Change) → Answered (commands.Change cuts.Whole c) r → r.status ≡ status.Ok → Planned r.files c r.taken r.taken'
+  planned c a is = with_text _ _ c (λ old new text t. t.1) (changed cuts.Whole c a (ok_own r.status is))
+
+  pub parted : (c : Change) → Answered (commands.Change cuts.InParts c) r → r.status ≡ status.Ok → Parted r.files c r.taken r.taken'
+  parted c a is = with_text _ _ c (λ old new text t. t.1) (changed cuts.InParts c a (ok_own r.status is))
 
   pub rolled :
-      (file : List ℕ) (run within : ℕ) (call target : TopCall) → Answered (commands.Roll file run within call target) r → IsRollStatus r.status
-      → Rolled run within r.files file call target r.status r.taken r.taken'
-  rolled file run within call target a is =
-      let g = given (commands.Roll file run within call target) r a (roll_own r.status is) in
-      let q = query_shown r.files file (queries.Change (cuts.Rolled run within) call target) g.shown g.does in
-      subst (λ own. Rolled run within r.files file call target own r.taken r.taken') (sym g.is)
-      (record { text = q.text; change = g.shown.text; is_told = q.is_told; has_change = q.answers; written = g.wrote })
+      (run within : ℕ) (c : Change) → Answered (commands.Change (cuts.Rolled run within) c) r → IsRollStatus r.status
+      → Rolled run within r.files c r.status r.taken r.taken'
+  rolled run within c a is = changed (cuts.Rolled run within) c a (roll_own r.status is)
 
   pub replayed :
       (file events : List ℕ) → Answered (commands.Replay file events) r → (r.status ≡ status.Ok) ⊎ (r.status ≡ status.Denied)

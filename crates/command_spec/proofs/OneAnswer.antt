@@ -20,15 +20,13 @@ use Rattle.command_answers.specs.Answers.{roll_status}
 use Rattle.command_answers.specs.RefusalLines.{denied_line}
 use Rattle.command_answers.specs.PartTexts.{parts_text, roll_text}
 use Rattle.command_answers.specs.declared.status.Status.{Status}
-use Rattle.command_spec.specs.Plans.{HasChange}
 use Rattle.command_spec.specs.Queries.{AnswersQuery, IsTextBy}
 use Rattle.command_spec.specs.Replays.{Replays, one_denied, all_steps}
 use Rattle.command_words.specs.declared.words.TopCall.{TopCall}
-use Rattle.command_spec.specs.declared.query.Cut.{Cut}
-use Rattle.command_spec.specs.declared.query.Cut.TheVariants as cuts
+use Rattle.command_words.specs.declared.words.Cut.{Cut}
+use Rattle.command_words.specs.declared.words.Cut.TheVariants as cuts
 use Rattle.command_spec.specs.declared.query.Query.{Query}
 use Rattle.command_spec.specs.declared.query.Query.TheVariants as queries
-use Rattle.command_spec.proofs.GraphLaws.{GraphOrFault, has_bounds}
 use Rattle.command_spec.proofs.Planning.{one_graph}
 
 -- ---- changes
@@ -41,8 +39,8 @@ OneListOfParts =
 abbrev pub OneRoll : Type 0
 OneRoll = (statements : List Statement) (a b : Option ℕ) → IsRoll statements a → IsRoll statements b → a ≡ b
 
-module _ (lists : OneListOfParts) (rolls : OneRoll) (graphs : GraphOrFault) where
-  one_change :
+module _ (lists : OneListOfParts) (rolls : OneRoll) where
+  pub one_change :
       (cut : Cut) (call target : TopCall) (old new : Graph) (own other : Status) (written also : List ℕ) → IsGraph old → IsGraph new → IsTextBy cut call target own old new written
       → IsTextBy cut call target other old new also → (own ≡ other) × (written ≡ also)
   one_change cuts.Whole call target old new own other written also old_graph new_graph x y =
@@ -54,17 +52,6 @@ module _ (lists : OneListOfParts) (rolls : OneRoll) (graphs : GraphOrFault) wher
       let parts = lists old new [] x.parts y.parts old_graph new_graph x.are_parts y.are_parts in
       let ends = rolls (statements y.parts) x.given_up y.given_up (subst (λ ps. IsRoll (statements ps) x.given_up) parts x.is_roll) y.is_roll in
       (x.ended ∙ ap roll_status ends ∙ sym y.ended, x.is_text ∙ (λ i. roll_text old (parts i) (ends i) (stage_left old (parts i) (ends i))) ∙ sym y.is_text)
-
-  one_text :
-      (cut : Cut) (text : List ℕ) (call target : TopCall) (own other : Status) (written also : List ℕ) → HasChange (IsTextBy cut call target own) text call target written
-      → HasChange (IsTextBy cut call target other) text call target also → (own ≡ other) × (written ≡ also)
-  one_text cut text call target own other written also x y =
-      let old = one_graph text call.top call.args x.old y.old x.starts.has_graph y.starts.has_graph in
-      let new = one_graph text target.top target.args x.new y.new x.has_graph y.has_graph in
-      let old_graph = has_bounds graphs text call.top call.args y.old y.starts.has_graph in
-      let new_graph = has_bounds graphs text target.top target.args y.new y.has_graph in
-      let is = subst (λ g. IsTextBy cut call target own g y.new written) old (subst (λ g. IsTextBy cut call target own x.old g written) new x.has_steps.is_text) in
-      one_change cut call target y.old y.new own other written also old_graph new_graph is y.has_steps.is_text
 
 -- ---- events
 
@@ -89,14 +76,12 @@ one_replay s events _ _ _ _ (all_steps t xs leads are) (all_steps u ys goes also
 
 -- ---- one status and one text
 
-module _ (lists : OneListOfParts) (rolls : OneRoll) (graphs : GraphOrFault) where
-  pub one_answer :
-      (query : Query) (text : List ℕ) (own other : Status) (written also : List ℕ) → AnswersQuery query text own written → AnswersQuery query text other also
-      → (own ≡ other) × (written ≡ also)
-  one_answer (queries.Graph call) text own other written also x y =
-      (x.0 ∙ sym y.0, x.1.2 ∙ ap graph_text (one_graph text call.top call.args x.1.0 y.1.0 x.1.1 y.1.1) ∙ sym y.1.2)
-  one_answer (queries.Change cut call target) text own other written also x y = one_text lists rolls graphs cut text call target own other written also x y
-  one_answer (queries.Replay events_file) text own other written also x y =
-      let graph = one_graph text events_file.name events_file.args x.graph y.graph x.starts.has_graph y.starts.has_graph in
-      one_replay (started y.graph) events_file.events own other written also
-      (subst (λ g. Replays (started g) events_file.events own written) graph x.replays) y.replays
+pub one_answer :
+    (query : Query) (text : List ℕ) (own other : Status) (written also : List ℕ) → AnswersQuery query text own written → AnswersQuery query text other also
+    → (own ≡ other) × (written ≡ also)
+one_answer (queries.Graph call) text own other written also x y =
+    (x.0 ∙ sym y.0, x.1.2 ∙ ap graph_text (one_graph text call.top call.args x.1.0 y.1.0 x.1.1 y.1.1) ∙ sym y.1.2)
+one_answer (queries.Replay events_file) text own other written also x y =
+    let graph = one_graph text events_file.name events_file.args x.graph y.graph x.starts.has_graph y.starts.has_graph in
+    one_replay (started y.graph) events_file.events own other written also
+    (subst (λ g. Replays (started g) events_file.events own written) graph x.replays) y.replays

@@ -1,4 +1,4 @@
--- A description isn't both refused a change and given one.
+-- A description isn't both refused a start and given one.
 use Rattle.std.proofs.Common.{◌≡◌, ◌∙◌, inl, inr, ℕ, ℤ, List, [], Some, length, sym, subst}
 use Rattle.config_graph.specs.Graph.{Graph, ports}
 use Rattle.config_graph.specs.declared.node.Made.{Made}
@@ -12,9 +12,8 @@ use Rattle.elaborator.specs.Elaboration.{ElaboratesTo}
 use Rattle.elaborator.specs.Graph.{IsElab}
 use Rattle.elaborator.specs.Instances.{Instance, top_instance}
 use Rattle.std.proofs.lemmas.Option.{same_Some}
-use Rattle.command_words.specs.declared.words.TopCall.{TopCall}
 use Rattle.command_spec.specs.Descriptions.{HasGraph}
-use Rattle.command_spec.specs.Plans.{Starts, RefusesStart, has_no_graph, is_full, HasChange, RefusesPlan, starts_not, leads_nowhere, gets_full, made_of_graph}
+use Rattle.command_spec.specs.Plans.{Starts, RefusesStart, has_no_graph, is_full}
 use Rattle.change_spec.specs.Scripts.{nothing_made}
 use Rattle.command_spec.proofs.Readings as readings
 
@@ -49,15 +48,3 @@ never_both_start text top args graph _ starts (has_no_graph words refuses) = rea
 never_both_start text top args graph _ starts (is_full other e has refuses) =
     no_room nothing_made (length graph.nodes) (length (ports graph.nodes)) e starts.has_room
     (subst (λ g. LacksRoomFor nothing_made g e) (one_graph text top args other graph has starts.has_graph) refuses)
-
-pub never_both :
-    (IsText : Graph → Graph → List ℕ → Type 0) (text : List ℕ) (call target : TopCall) (written : List ℕ) (words : List (List ℕ))
-    → HasChange IsText text call target written → RefusesPlan text call target words → ⊥
-never_both IsText text call target written _ plan (starts_not words refuses) =
-    never_both_start text call.top call.args plan.old words plan.starts refuses
-never_both IsText text call target written _ plan (leads_nowhere old words starts refuses) =
-    readings.never_both text target.top target.args plan.new words plan.has_graph refuses
-never_both IsText text call target written _ plan (gets_full old new e starts has refuses) =
-    not_full plan.old plan.new (made_of_graph plan.old) e plan.has_steps.has_room
-    (subst (λ g. IsRefusal g plan.new [] (made_of_graph g) e) (one_graph text call.top call.args old plan.old starts.has_graph plan.starts.has_graph)
-    (subst (λ g. IsRefusal old g [] (made_of_graph old) e) (one_graph text target.top target.args new plan.new has plan.has_graph) refuses))

@@ -77,7 +77,7 @@ module _ (knows : Command → Bool) (r : Run) (run : Runs knows r) where
           → (name : List ℕ) × (file : List ℕ) × AsksOf knows r.words (commands.Check name file)
       by _ _ (unlawful name file) same asks = (name, file, asks)
       by _ _ (well command) same asks = cc
-      by _ _ (given_up file k within call target) same asks = cc
+      by _ _ (given_up k within change) same asks = cc
       by _ _ (denied file events) same asks = cc
       by _ _ (stepped name own of_run) same asks = absurd (no_run own status.Unlawful same of_run refl)
       by _ _ (lived name workers observers own of_run) same asks = absurd (no_run own status.Unlawful same of_run refl)
@@ -90,7 +90,7 @@ module _ (knows : Command → Bool) (r : Run) (run : Runs knows r) where
           → (file : List ℕ) × (events : List ℕ) × AsksOf knows r.words (commands.Replay file events)
       by _ _ (denied file events) same asks = (file, events, asks)
       by _ _ (well command) same asks = cc
-      by _ _ (given_up file k within call target) same asks = cc
+      by _ _ (given_up k within change) same asks = cc
       by _ _ (unlawful name file) same asks = cc
       by _ _ (stepped name own of_run) same asks = absurd (no_run own status.Denied same of_run refl)
       by _ _ (lived name workers observers own of_run) same asks = absurd (no_run own status.Denied same of_run refl)
@@ -120,7 +120,7 @@ module _ (knows : Command → Bool) (r : Run) (run : Runs knows r) where
       by _ _ (stepped name own of_run) same asks = inl (rounds, name, asks)
       by _ _ (lived name workers observers own of_run) same asks = inl (threads observers, name, (workers, asks))
       by _ _ (summed_up lanes own of_run) same asks = inr (inl (lanes, asks))
-      by _ _ (given_up file k within call target) same asks = inr (inr (refl, file, k, within, call, target, asks))
+      by _ _ (given_up k within change) same asks = inr (inr (refl, k, within, change, asks))
       by _ _ (well command) (inl same) asks = cc
       by _ _ (well command) (inr same) asks = cc
       by _ _ (denied file events) (inl same) asks = cc

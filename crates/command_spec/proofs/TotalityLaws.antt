@@ -1,5 +1,5 @@
 -- What is wanted of a description is refused or answered.
-use Rattle.std.proofs.Common.{◌≡◌, ◌∙◌, ◌+◌, ◌<◌, ◌⊎◌, inl, inr, ℕ, ℤ, false, List, [], Option, Some, None, length, map, sum_by, slice_get, refl, ap, subst, sym, arith, zero-add, IsTrue}
+use Rattle.std.proofs.Common.{◌≡◌, ◌<◌, ◌⊎◌, inl, inr, ℕ, ℤ, false, List, [], Option, Some, None, length, map, sum_by, slice_get, refl, subst, sym, arith, IsTrue}
 use Rattle.std.specs.List.{range_with_len}
 use Rattle.std.specs.Option.{option_map_or}
 use Rattle.base.proofs.ContainsLaws.{Contains-nil}
@@ -35,7 +35,7 @@ use Rattle.change_plan.specs.Differences.{GoneNodes, GoneLinks, IsGone, IsKeptLi
 use Rattle.change_plan.specs.Moves.{IsShifts}
 use Rattle.change_plan.specs.PlanText.{plan_text}
 use Rattle.change_plan.specs.Plans.{IsPlanOf}
-use Rattle.change_plan.specs.Refusals.{CanPlan, CreatesSoMany, IsRefusal}
+use Rattle.change_plan.specs.Refusals.{CanPlan, CreatesSoMany}
 use Rattle.change_plan.specs.Room.{HasRoomFor, LacksRoomFor}
 use Rattle.change_plan.specs.Touched.{Frozen}
 use Rattle.change_plan.specs.declared.error.PlanError.{PlanError}
@@ -60,26 +60,28 @@ use Rattle.command_answers.specs.declared.status.Status.{Status}
 use Rattle.command_answers.specs.declared.status.Status.TheVariants as status
 use Rattle.command_words.specs.declared.words.TopCall.{TopCall}
 use Rattle.command_spec.specs.Descriptions.{IsChecked, IsTextRefusal, by_lexer, by_grammar, by_nesting, by_names, HasGraph, IsDescriptionRefusal, by_text, by_elaboration, place_at}
-use Rattle.command_spec.specs.Plans.{Starts, RefusesStart, has_no_graph, is_full, HasChange, RefusesPlan, starts_not, leads_nowhere, gets_full, made_of_graph}
+use Rattle.command_spec.specs.Plans.{Starts, RefusesStart, has_no_graph, is_full, lines_of_change, made_of_graph}
 use Rattle.command_spec.specs.Queries.{IsRefused, AnswersQuery, IsTextBy}
 use Rattle.command_answers.specs.Answers.{roll_status}
 use Rattle.command_answers.specs.PartTexts.{roll_text}
 use Rattle.change_spec.specs.Scripts.{more_made, nothing_made}
 use Rattle.change_parts.specs.Rolls.{IsRoll, roll_statements, stage_left}
 use Rattle.command_spec.specs.Replays.{one_denied, all_steps, HasReplay}
-use Rattle.command_spec.specs.declared.query.Cut.{Cut}
-use Rattle.command_spec.specs.declared.query.Cut.TheVariants as cuts
+use Rattle.command_words.specs.declared.words.Change.{Change}
+use Rattle.command_words.specs.declared.words.Cut.{Cut}
+use Rattle.command_words.specs.declared.words.Cut.TheVariants as cuts
+use Rattle.cfg_io.specs.Shelf.{Files}
+use Rattle.command_spec.specs.Commands.{Shown, ShowsChange, shown}
+use Rattle.command_spec.specs.Lines.{Progress, begun}
+use Rattle.command_spec.specs.Outcomes.{TargetHas}
+use Rattle.command_spec.specs.Scripts.{LeadTo}
+use Rattle.command_spec.proofs.ChangeLines.{first_made, leads_to}
 use Rattle.command_spec.specs.declared.query.Query.{Query}
 use Rattle.command_spec.specs.declared.query.Query.TheVariants as queries
 use Rattle.command_spec.proofs.Existence.{selected, Those, those}
-use Rattle.command_spec.proofs.GraphLaws.{GraphOrFault, PlanOrRefusal, has_bounds, is_sound}
+use Rattle.command_spec.proofs.GraphLaws.{GraphOrFault, has_bounds, is_sound}
 
 -- ---- room
-
-first_made : (g : Graph) → more_made nothing_made (length g.nodes) (length (ports g.nodes)) ≡ made_of_graph g
-first_made g =
-    let of : ℕ → ℕ → Made = λ n p. record { nodes = n; ports = p } in
-    ap (λ n. of n (0 + length (ports g.nodes))) (zero-add (length g.nodes)) ∙ ap (of (length g.nodes)) (zero-add (length (ports g.nodes)))
 
 pub room_for : (made : Made) (g : Graph) → HasRoomFor made g ⊎ ((e : PlanError) × LacksRoomFor made g e)
 room_for made g = room_or_fault made (length g.nodes) (length (ports g.nodes))
@@ -261,36 +263,6 @@ module _ (names : (t : Tree) → NoFault t ⊎ ((e : TypeError) × HasFault t e)
       (text top : List ℕ) (args : List ℤ) → ((g : Graph) × Starts text top args g) ⊎ ((words : List (List ℕ)) × RefusesStart text top args words)
   starts_or_refusals text top args = elim (start_or_refusal text top args) [ inl w ↦ inl (w.0, w.1) | inr w ↦ inr w ]
 
-  -- that neither an answer nor a refusal stands can't be
-  refused_or_changed :
-      PlanOrRefusal → SomeListOfParts → SomeRoll → (cut : Cut) (text : List ℕ) (call target : TopCall) → ((words : List (List ℕ)) → ¬ RefusesPlan text call target words)
-      → ((own : Status) (written : List ℕ) → ¬ HasChange (IsTextBy cut call target own) text call target written) → ⊥
-  refused_or_changed plans lists rolls cut text call target refuses answers = from (start_or_refusal text call.top call.args)
-    where
-      stepped :
-          (old new : Graph) → Starts text call.top call.args old → Sound old → HasGraph text target.top target.args new
-          → CanPlan old new [] (made_of_graph old) ⊎ ((e : PlanError) × IsRefusal old new [] (made_of_graph old) e) → ⊥
-      stepped old new starts sound has (inl can) =
-          let old_graph = has_bounds graphs text call.top call.args old starts.has_graph in
-          let new_graph = has_bounds graphs text target.top target.args new has in
-          some_change lists rolls cut call target old new old_graph new_graph sound (is_sound graphs text target.top target.args new has) starts.has_room can (λ w.
-          answers w.0 w.1
-          (record { old = old; new = new; starts = starts; has_graph = has; has_steps = record { has_room = can; is_text = w.2 } }))
-      stepped old new starts sound has (inr (e, full)) = refuses (plan_words e) (gets_full old new e starts has full)
-
-      to :
-          (old : Graph) → Starts text call.top call.args old → Sound old
-          → ((g : Graph) × HasGraph text target.top target.args g × Sound g) ⊎ ((words : List (List ℕ)) × IsDescriptionRefusal text target.top target.args words) → ⊥
-      to old starts sound (inl (new, has, other)) =
-          stepped old new starts sound has
-          (plans old new [] (made_of_graph old) (has_bounds graphs text call.top call.args old starts.has_graph) (has_bounds graphs text target.top target.args new has))
-      to old starts sound (inr (words, is)) = refuses words (leads_nowhere old words starts is)
-
-      from :
-          ((g : Graph) × Starts text call.top call.args g × Sound g) ⊎ ((words : List (List ℕ)) × RefusesStart text call.top call.args words) → ⊥
-      from (inl (old, starts, sound)) = to old starts sound (graph_or_refusal text target.top target.args)
-      from (inr (words, is)) = refuses words (starts_not words is)
-
   replays :
       (text : List ℕ) (events_file : EventFile) → ((words : List (List ℕ)) → ¬ RefusesStart text events_file.name events_file.args words)
       → ((own : Status) (written : List ℕ) → ¬ HasReplay text events_file own written) → ⊥
@@ -311,12 +283,29 @@ module _ (names : (t : Tree) → NoFault t ⊎ ((e : TypeError) × HasFault t e)
       from (inr (words, is)) = refuses words is
 
   pub refused_or_answered :
-      PlanOrRefusal → SomeListOfParts → SomeRoll → (query : Query) (text : List ℕ)
+      (query : Query) (text : List ℕ)
       → ¬ (((words : List (List ℕ)) → ¬ IsRefused query text words) × ((own : Status) (written : List ℕ) → ¬ AnswersQuery query text own written))
-  refused_or_answered plans lists rolls (queries.Graph call) text (refuses, answers) = by (graphs_or_refusals text call.top call.args)
+  refused_or_answered (queries.Graph call) text (refuses, answers) = by (graphs_or_refusals text call.top call.args)
     where
       by : ((g : Graph) × HasGraph text call.top call.args g) ⊎ ((words : List (List ℕ)) × IsDescriptionRefusal text call.top call.args words) → ⊥
       by (inl (g, has)) = answers status.Ok (graph_text g) (refl, (g, has, refl))
       by (inr (words, is)) = refuses words is
-  refused_or_answered plans lists rolls (queries.Change cut call target) text (refuses, answers) = refused_or_changed plans lists rolls cut text call target refuses answers
-  refused_or_answered plans lists rolls (queries.Replay events_file) text (refuses, answers) = replays text events_file refuses answers
+  refused_or_answered (queries.Replay events_file) text (refuses, answers) = replays text events_file refuses answers
+
+-- where the lines of a change lead on, something is shown of it
+pub some_shown :
+    GraphOrFault → SomeListOfParts → SomeRoll → (files : Files) (cut : Cut) (c : Change) (p : Progress) → LeadTo (Some files) begun (lines_of_change c) p
+    → ¬ ((s : Shown) → ¬ ShowsChange cut c p.statements s)
+some_shown graphs lists rolls files cut c p lead none =
+    let l = leads_to (Some files) c p lead in
+    let old = l.have.starts.has_graph in
+    let new = target_graph l.new l.have.text c.other l.have.target in
+    some_change lists rolls cut c.call c.target l.old l.new
+    (has_bounds graphs l.have.text c.call.top c.call.args l.old old) (has_bounds graphs new.0 c.target.top c.target.args l.new new.1)
+    (is_sound graphs l.have.text c.call.top c.call.args l.old old) (is_sound graphs new.0 c.target.top c.target.args l.new new.1) l.have.starts.has_room l.have.has_room
+    (λ w. none (shown w.0 w.1) (record { old = l.old; new = l.new; said_are = l.said_are; is_text = w.2 }))
+  where
+    target_graph :
+        (g : Graph) (text : List ℕ) (other : Option (List ℕ)) → TargetHas (Some files) text other c.target g → (t : List ℕ) × HasGraph t c.target.top c.target.args g
+    target_graph g text None has = (text, has)
+    target_graph g text (Some file) has = (has.text, has.has_graph)

@@ -9,7 +9,7 @@ use Rattle.command_answers.specs.declared.status.Status.TheVariants as status
 use Rattle.command_spec.specs.Replays.{one_denied, all_steps, Replays}
 use Rattle.command_spec.specs.declared.query.Query.{Query}
 use Rattle.command_spec.specs.declared.query.Query.TheVariants as queries
-use Rattle.command_spec.specs.Queries.{IsRefused, AnswersQuery, IsTextBy}
+use Rattle.command_spec.specs.Queries.{IsRefused, AnswersQuery}
 use Rattle.command_spec.proofs.Readings as readings
 use Rattle.command_spec.proofs.Planning as planning
 
@@ -31,7 +31,5 @@ pub never_both :
     (query : Query) (text : List ℕ) (own : Status) (written : List ℕ) (words : List (List ℕ))
     → AnswersQuery query text own written → IsRefused query text words → ⊥
 never_both (queries.Graph call) text own written words gives refuses = readings.never_both text call.top call.args gives.1.0 words gives.1.1 refuses
-never_both (queries.Change cut call target) text own written words gives refuses =
-    planning.never_both (IsTextBy cut call target own) text call target written words gives refuses
 never_both (queries.Replay events_file) text own written words gives refuses =
     planning.never_both_start text events_file.name events_file.args gives.graph words gives.starts refuses

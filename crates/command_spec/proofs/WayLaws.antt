@@ -64,7 +64,7 @@ one_elaborated f file name args g h x y =
 
 -- From laws of the elaborator and of plans, as they stand there.
 module _ (graphs : GraphOrFault) (alone : PlanAlone) where
-  graph_of : (tree : Tree) (name : Name) (args : List ℤ) (g : Graph) → NoFault tree → IsGraphOfCall tree name args g → IsGraph g
+  pub graph_of : (tree : Tree) (name : Name) (args : List ℤ) (g : Graph) → NoFault tree → IsGraphOfCall tree name args g → IsGraph g
   graph_of tree name args g sound is = by (graphs tree name args sound)
     where
       by :

@@ -14,11 +14,15 @@ use Rattle.command_answers.specs.declared.status.Status.TheVariants as status
 use Rattle.command_words.specs.HelpTexts.{help_text, version_text}
 use Rattle.command_words.specs.declared.words.Command.{Command}
 use Rattle.command_words.specs.declared.words.Command.TheVariants as commands
-use Rattle.command_spec.specs.declared.query.Cut.TheVariants as cuts
+use Rattle.command_words.specs.declared.words.Change.{Change}
+use Rattle.command_words.specs.declared.words.Cut.{Cut}
+use Rattle.config_graph.specs.Graph.{Graph}
 use Rattle.command_spec.specs.declared.query.Query.{Query}
 use Rattle.command_spec.specs.declared.query.Query.TheVariants as queries
 use Rattle.command_spec.specs.Courses.{Course, ends, fetches, judges, reads, says, then_by}
-use Rattle.command_spec.specs.Queries.{AnswersQuery, IsRefused}
+use Rattle.command_spec.specs.Lines.{begun, of_lines}
+use Rattle.command_spec.specs.Plans.{lines_of_change, statements_of_change}
+use Rattle.command_spec.specs.Queries.{AnswersQuery, IsRefused, IsTextBy}
 use Rattle.command_spec.specs.Schedules.{Schedule, IsReportBy, IsShownBy, rounds, threads}
 use Rattle.command_spec.specs.Scripts.{prepares}
 use Rattle.command_spec.specs.Sorts.{of_description, of_events, of_report}
@@ -36,6 +40,17 @@ abbrev pub of_query : List ℕ → Query → Course Shown
 of_query file query =
     fetches of_description file
     (λ bytes. judges Shown of_description file (IsRefused query bytes) (λ s. AnswersQuery query bytes s.own s.text) ends)
+
+-- the change that these statements say is shown, made as it is cut
+pub record ShowsChange (cut : Cut) (c : Change) (statements : List Statement) (s : Shown) : Type 0 where
+  pub old : Graph
+  pub new : Graph
+  pub said_are : statements ≡ statements_of_change c old new
+  pub is_text : IsTextBy cut c.call c.target s.own old new s.text
+
+-- A change is followed line by line, as a script with these lines is, and shown.
+abbrev pub of_change : Cut → Change → Course Shown
+of_change cut c = then_by (of_lines begun (lines_of_change c)) (λ p. says (ShowsChange cut c p.statements))
 
 -- A run of these statements ended as its report says, and the text shows the report. What must be so of the report is
 -- given, and what of the bytes that show it.
@@ -71,9 +86,7 @@ abbrev pub course_of : Command → Course Shown
 course_of (commands.Help topic) = says (λ s. s ≡ shown status.Ok (help_text topic))
 course_of commands.Version = says (λ s. s ≡ shown status.Ok version_text)
 course_of (commands.Flat file call) = of_query file (queries.Graph call)
-course_of (commands.Plan file call target) = of_query file (queries.Change cuts.Whole call target)
-course_of (commands.Parts file call target) = of_query file (queries.Change cuts.InParts call target)
-course_of (commands.Roll file run within call target) = of_query file (queries.Change (cuts.Rolled run within) call target)
+course_of (commands.Change cut change) = of_change cut change
 course_of (commands.Replay file name) = then_by (reads of_events name) (λ events. of_query file (queries.Replay events))
 course_of (commands.Upgrade file) = then_by (reads of_report file) (λ report. ends (shown status.Ok (report_text report)))
 course_of (commands.Step name) = runs_by rounds name

@@ -1,6 +1,6 @@
 -- To be believed (definitions.md).
 -- What each status of a run says, of the words and of what the files hold.
-use Rattle.std.specs.Prelude.{◌≡◌, ◌≢◌, ◌<◌, ◌⊎◌, ℕ, Bool, true, List, ◌++◌, Option, Some, None, length, take}
+use Rattle.std.specs.Prelude.{◌≡◌, ◌≢◌, ◌<◌, ◌⊎◌, ℕ, Bool, true, List, [], ◌++◌, Option, Some, None, length, take}
 use Rattle.cfg_io.specs.Shelf.{Files}
 use Rattle.cfg_io.specs.Sink.{with_bytes}
 use Rattle.config_graph.specs.Graph.{Graph}
@@ -26,7 +26,10 @@ use Rattle.command_spec.specs.Courses.{End}
 use Rattle.command_spec.specs.Descriptions.{HasGraph}
 use Rattle.command_spec.specs.Files.{IsTold}
 use Rattle.command_spec.specs.Known.{AsksOf, on_one_thread}
-use Rattle.command_spec.specs.Plans.{HasChange, IsPartsText, IsPlanText, IsRollText}
+use Rattle.change_plan.specs.Refusals.{CanPlan}
+use Rattle.command_words.specs.declared.words.Change.{Change}
+use Rattle.command_words.specs.declared.words.Cut.TheVariants as cuts
+use Rattle.command_spec.specs.Plans.{Starts, IsPartsText, IsPlanText, IsRollText, lines_of_change, made_of_graph}
 use Rattle.command_spec.specs.Replays.{HasReplay}
 use Rattle.command_spec.specs.Runs.{DoesWords, Run, status_of, text_of}
 use Rattle.command_spec.specs.Schedules.{Schedule, rounds, threads, IsReportBy, IsShownBy}
@@ -83,7 +86,7 @@ IsRollStatus own = (own ≡ status.Ok) ⊎ (own ≡ status.Pending)
 -- A command may end with the status where nothing stops it: with Ok, or as a report, the rounds, an event or a verdict say.
 pub data MayEnd : Command → Status → Type 0 where
   well : (command : Command) → MayEnd command status.Ok
-  given_up : (file : List ℕ) (run within : ℕ) (call target : TopCall) → MayEnd (commands.Roll file run within call target) status.Pending
+  given_up : (run within : ℕ) (change : Change) → MayEnd (commands.Change (cuts.Rolled run within) change) status.Pending
   denied : (file events : List ℕ) → MayEnd (commands.Replay file events) status.Denied
   unlawful : (name file : List ℕ) → MayEnd (commands.Check name file) status.Unlawful
   stepped : (name : List ℕ) (own : Status) → IsRunStatus own → MayEnd (commands.Step name) own
@@ -105,9 +108,7 @@ IsOfScript files script name =
 -- the words name the file, or a `use` line of the script that they name
 abbrev pub MentionsFile : Option Files → Command → List ℕ → Type 0
 MentionsFile files (commands.Flat file call) name = name ≡ file
-MentionsFile files (commands.Plan file call target) name = name ≡ file
-MentionsFile files (commands.Parts file call target) name = name ≡ file
-MentionsFile files (commands.Roll file run within call target) name = name ≡ file
+MentionsFile files (commands.Change cut change) name = Uses (lines_of_change change) name
 MentionsFile files (commands.Replay file events) name = (name ≡ file) ⊎ (name ≡ events)
 MentionsFile files (commands.Upgrade file) name = name ≡ file
 MentionsFile files (commands.Step script) name = IsOfScript files script name
@@ -126,26 +127,41 @@ pub record Flattened (files : Option Files) (file : List ℕ) (call : TopCall) (
   pub has_graph : HasGraph text call.top call.args graph
   pub written : taken' ≡ with_bytes taken (graph_text graph)
 
--- The file holds a description that has a change from the first component to the second, and a text of it was written.
-pub record WroteChange (IsText : Graph → Graph → List ℕ → Type 0) (files : Option Files) (file : List ℕ) (call target : TopCall)
-    (taken taken' : Option (List ℕ)) : Type 0 where
+-- by the description of this text, or of another file where one is named, the component has the graph
+abbrev pub TargetHas : Option Files → List ℕ → Option (List ℕ) → TopCall → Graph → Type 0
+TargetHas files text None target graph = HasGraph text target.top target.args graph
+TargetHas files text (Some other) target graph = Elaborates files other target.top target.args graph
+
+-- The files hold descriptions in which the two components of a change have these graphs. A run can start with the first,
+-- and has room for the change to the second.
+pub record HaveGraphs (files : Option Files) (change : Change) (old new : Graph) : Type 0 where
   pub text : List ℕ
-  pub change : List ℕ
-  pub is_told : IsTold files (limit_of of_description) file text
-  pub has_change : HasChange IsText text call target change
-  pub written : taken' ≡ with_bytes taken change
+  pub is_told : IsTold files (limit_of of_description) change.file text
+  pub starts : Starts text change.call.top change.call.args old
+  pub target : TargetHas files text change.other change.target new
+  pub has_room : CanPlan old new [] (made_of_graph old)
+
+-- and a text of the change was written
+pub record WroteChange (IsText : Graph → Graph → List ℕ → Type 0) (files : Option Files) (change : Change)
+    (taken taken' : Option (List ℕ)) : Type 0 where
+  pub old : Graph
+  pub new : Graph
+  pub have_graphs : HaveGraphs files change old new
+  pub text : List ℕ
+  pub is_text : IsText old new text
+  pub written : taken' ≡ with_bytes taken text
 
 -- the text of its plan
-abbrev pub Planned : Option Files → List ℕ → TopCall → TopCall → Option (List ℕ) → Option (List ℕ) → Type 0
+abbrev pub Planned : Option Files → Change → Option (List ℕ) → Option (List ℕ) → Type 0
 Planned = WroteChange IsPlanText
 
 -- the text of its parts
-abbrev pub Parted : Option Files → List ℕ → TopCall → TopCall → Option (List ℕ) → Option (List ℕ) → Type 0
+abbrev pub Parted : Option Files → Change → Option (List ℕ) → Option (List ℕ) → Type 0
 Parted = WroteChange IsPartsText
 
 -- that of its roll, which ended so
-abbrev pub Rolled : ℕ → ℕ → Option Files → List ℕ → TopCall → TopCall → Status → Option (List ℕ) → Option (List ℕ) → Type 0
-Rolled run within files file call target own = WroteChange (IsRollText run within call target own) files file call target
+abbrev pub Rolled : ℕ → ℕ → Option Files → Change → Status → Option (List ℕ) → Option (List ℕ) → Type 0
+Rolled run within files change own = WroteChange (IsRollText run within change.call change.target own) files change
 
 -- The file of events is one, and what its events come to over the description was written, with this status.
 pub record Replayed (files : Option Files) (file events : List ℕ) (own : Status) (taken taken' : Option (List ℕ)) : Type 0 where
@@ -239,5 +255,5 @@ abbrev pub AsksForRun : (Command → Bool) → List (List ℕ) → Status → Ty
 AsksForRun knows words own =
     ((schedule : Schedule) × (name : List ℕ) × AsksToRun knows words schedule name)
     ⊎ ((lanes : ℕ) × AsksOf knows words (commands.Big lanes))
-    ⊎ ((own ≡ status.Pending) × (file : List ℕ) × (run within : ℕ) × (call target : TopCall)
-    × AsksOf knows words (commands.Roll file run within call target))
+    ⊎ ((own ≡ status.Pending) × (run within : ℕ) × (change : Change)
+    × AsksOf knows words (commands.Change (cuts.Rolled run within) change))

@@ -1,21 +1,24 @@
 -- To be believed (definitions.md).
--- Changes between two components of one description. A run that starts with the first has to keep the limits of a run;
--- the change to the second then follows, with what the start made. No state is moved.
-use Rattle.std.specs.Prelude.{◌≡◌, ℕ, ℤ, List, [], length, Option}
+-- Changes between two components. A run that starts with the first has to keep the limits of a run; the change to the
+-- second then follows, with what the start made. No state is moved.
+use Rattle.std.specs.Prelude.{◌≡◌, ℕ, ℤ, List, [], ◌∷◌, ◌++◌, length, Option, None, Some}
 use Rattle.config_graph.specs.Graph.{Graph, ports}
 use Rattle.config_graph.specs.declared.node.Made.{Made}
 use Rattle.change_spec.specs.Scripts.{nothing_made}
+use Rattle.change_spec.specs.Statements.{Statement, start, change}
 use Rattle.change_plan.specs.PlanText.{plan_text}
 use Rattle.change_plan.specs.Plans.{IsPlanOf}
-use Rattle.change_plan.specs.Refusals.{CanPlan, IsRefusal}
+use Rattle.change_plan.specs.Refusals.{CanPlan}
 use Rattle.change_plan.specs.Room.{HasRoomFor, LacksRoomFor}
 use Rattle.change_plan.specs.declared.error.PlanError.{PlanError}
 use Rattle.change_plan.specs.declared.plan_data.Plan.{Plan}
 use Rattle.change_parts.specs.Parts.{AreParts}
 use Rattle.change_parts.specs.declared.part.Part.{Part}
 use Rattle.change_parts.specs.Rolls.{IsRoll, roll_statements, stage_left}
+use Rattle.command_words.specs.declared.words.Change.{Change}
 use Rattle.command_words.specs.declared.words.TopCall.{TopCall}
 use Rattle.command_spec.specs.Descriptions.{HasGraph, IsDescriptionRefusal}
+use Rattle.command_spec.specs.Lines.{RunLine, uses, calls, starts, changes}
 use Rattle.command_answers.specs.Answers.{roll_status}
 use Rattle.command_answers.specs.PartTexts.{parts_text, roll_text}
 use Rattle.command_answers.specs.RefusalLines.{plan_words}
@@ -60,21 +63,17 @@ pub record HasSteps (IsText : Graph → Graph → List ℕ → Type 0) (old new 
   pub has_room : CanPlan old new [] (made_of_graph old)
   pub is_text : IsText old new written
 
--- the same from the graph of one component to that of another
-pub record HasChange (IsText : Graph → Graph → List ℕ → Type 0) (text : List ℕ) (call target : TopCall) (written : List ℕ)
-    : Type 0 where
-  pub old : Graph
-  pub new : Graph
-  pub starts : Starts text call.top call.args old
-  pub has_graph : HasGraph text target.top target.args new
-  pub has_steps : HasSteps IsText old new written
+-- the lines of a script that say a change: its first component is started, and changed to the second
+abbrev pub uses_other : Option (List ℕ) → List RunLine
+uses_other None = []
+uses_other (Some file) = uses file ∷ []
 
--- the words of why there is no plan, and so no parts
-pub data RefusesPlan (text : List ℕ) (call target : TopCall) : List (List ℕ) → Type 0 where
-  starts_not : (words : List (List ℕ)) → RefusesStart text call.top call.args words → RefusesPlan text call target words
-  leads_nowhere :
-      (old : Graph) (words : List (List ℕ)) → Starts text call.top call.args old → IsDescriptionRefusal text target.top target.args words
-      → RefusesPlan text call target words
-  gets_full :
-      (old new : Graph) (e : PlanError) → Starts text call.top call.args old → HasGraph text target.top target.args new
-      → IsRefusal old new [] (made_of_graph old) e → RefusesPlan text call target (plan_words e)
+abbrev pub lines_of_change : Change → List RunLine
+lines_of_change c =
+    uses c.file ∷ calls starts c.call.top c.call.args
+    ∷ (uses_other c.other ++ calls (changes 0 []) c.target.top c.target.args ∷ [])
+
+-- the statements to which they lead
+abbrev pub statements_of_change : Change → Graph → Graph → List Statement
+statements_of_change c old new =
+    start c.call.top c.call.args old ∷ change c.target.top c.target.args new 0 [] ∷ []

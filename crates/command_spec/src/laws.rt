@@ -6,7 +6,7 @@ ghost use Rattle.std.specs.List.{list_any};
 ghost use Rattle.base.specs.Count.{Rose};
 ghost use Rattle.cfg_io.specs.Shelf.{Files};
 ghost use Rattle.cfg_io.specs.Sink.{with_bytes};
-ghost use Rattle.config_graph.specs.Graph.{Graph};
+ghost use Rattle.config_graph.specs.Graph.{Graph, IsGraph};
 ghost use Rattle.config_graph.specs.declared.node.Made.{Made};
 ghost use Rattle.quiesce_core.specs.Start.{started};
 ghost use Rattle.change_script.specs.EventFiles.{IsEventFile};
@@ -31,9 +31,11 @@ ghost use Rattle.command_answers.specs.declared.status.Status.{Status};
 ghost use Rattle.command_answers.specs.declared.status.Status.TheVariants.{Usage, ReadFault, WriteFault, Description, Script, Denied, NoMemory, Pending, Unfinished, Unlawful};
 ghost use Rattle.command_words.specs.declared.words.Command.{Command};
 ghost use Rattle.command_words.specs.declared.words.Command.TheVariants as commands;
+ghost use Rattle.command_words.specs.declared.words.Change.{Change};
+ghost use Rattle.command_words.specs.declared.words.Cut.{Cut};
 ghost use Rattle.command_words.specs.declared.words.TopCall.{TopCall};
 ghost use Rattle.command_spec.specs.declared.query.Query.{Query};
-ghost use Rattle.command_spec.specs.Commands.{Shown, course_of, runs_by};
+ghost use Rattle.command_spec.specs.Commands.{Shown, ShowsChange, course_of, runs_by};
 ghost use Rattle.command_spec.specs.Courses.{End, Follows, came, reads, refusal};
 ghost use Rattle.command_spec.specs.Descriptions.{HasGraph, IsDescriptionRefusal};
 ghost use Rattle.command_spec.specs.Endings.{Alike, Comes, FailsLast, Refuses, RefusesNothing, is_of_file};
@@ -41,8 +43,8 @@ ghost use Rattle.command_spec.specs.Files.{IsTold};
 ghost use Rattle.command_spec.specs.Known.{AsksOf, HasNoForm, on_one_thread};
 ghost use Rattle.command_spec.specs.Lines.{RunLine, Progress, begun, of_lines};
 ghost use Rattle.command_spec.specs.Outcomes.{AsksForRun, Ends, EndsAs, GoesBy, IsRollStatus, Judged, MayEnd, MentionsFile, ReadFrom, Replayed, SameShown, WasRunBy, WroteFront};
-ghost use Rattle.command_spec.specs.Plans.{IsRollText, RefusesStart, Starts};
-ghost use Rattle.command_spec.specs.Queries.{AnswersQuery, IsRefused};
+ghost use Rattle.command_spec.specs.Plans.{IsRollText, RefusesStart, Starts, lines_of_change};
+ghost use Rattle.command_spec.specs.Queries.{AnswersQuery, IsRefused, IsTextBy};
 ghost use Rattle.command_spec.specs.Runs.{Answered, Does, Run, Runs};
 ghost use Rattle.command_spec.specs.Schedules.{Schedule};
 ghost use Rattle.command_spec.specs.Scripts.{Elaborates, LeadTo, Uses, lines_of_script, prepares};
@@ -254,12 +256,14 @@ pub fn what_bytes_give_is_one()
         → AnswersQuery query text own written → AnswersQuery query text other also → (own ≡ other) × (written ≡ also) }
     ensures never_both { (query : Query) (text : List ℕ) (own : Status) (written : List ℕ) (words : List (List ℕ))
         → AnswersQuery query text own written → ¬ IsRefused query text words }
+    ensures one_change { (cut : Cut) (call target : TopCall) (old new : Graph) (own other : Status) (written also : List ℕ)
+        → IsGraph old → IsGraph new → IsTextBy cut call target own old new written
+        → IsTextBy cut call target other old new also → (own ≡ other) × (written ≡ also) }
     ensures one_plan { (old new : Graph) (p q : Plan) → IsPlanOf old new [] p → IsPlanOf old new [] q → p ≡ q }
     ensures one_report { (bytes : List ℕ) (r s : Report) → TellsReport bytes r → TellsReport bytes s → r ≡ s }
     ensures no_fault_beside { (bytes : List ℕ) (r : Report) (fault : ReportFault) → TellsReport bytes r
         → ¬ IsReportFault bytes fault }
 {
-    a_graph_or_a_fault();
     a_text_tells_its_report();
     one_report_or_one_fault();
     there_is_one_list_of_parts();
@@ -268,7 +272,8 @@ pub fn what_bytes_give_is_one()
 
 /// A law: nothing hides behind want of memory. Of each text a graph of a component stands or a refusal, and a start
 /// or a refusal of it; there is room for a graph, or none; and each text is one of a report, or has a fault. That
-/// what is wanted of a text is neither refused nor answered can't be.
+/// what is wanted of a text is neither refused nor answered can't be, nor that nothing is shown of a change whose lines
+/// lead on.
 pub fn what_is_wanted_is_refused_or_answered()
     ensures graphs { (text name : List ℕ) (args : List ℤ) → ((g : Graph) × HasGraph text name args g)
         ⊎ ((words : List (List ℕ)) × IsDescriptionRefusal text name args words) }
@@ -277,12 +282,13 @@ pub fn what_is_wanted_is_refused_or_answered()
     ensures room { (made : Made) (g : Graph) → HasRoomFor made g ⊎ ((e : PlanError) × LacksRoomFor made g e) }
     ensures queries { (query : Query) (text : List ℕ) → ¬ (((words : List (List ℕ)) → ¬ IsRefused query text words)
         × ((own : Status) (written : List ℕ) → ¬ AnswersQuery query text own written)) }
+    ensures changes { (files : Files) (cut : Cut) (change : Change) (p : Progress)
+        → LeadTo (Some files) begun (lines_of_change change) p → ¬ ((s : Shown) → ¬ ShowsChange cut change p.statements s) }
     ensures reports { (bytes : List ℕ) → ((r : Report) × TellsReport bytes r)
         ⊎ ((fault : ReportFault) × IsReportFault bytes fault) }
 {
     a_fault_or_none();
     a_graph_or_a_fault();
-    a_plan_or_a_refusal();
     one_report_or_one_fault();
     there_are_parts();
     there_is_a_roll();

@@ -27,7 +27,7 @@ pub use promises::{
     big_promises, check_promises, flat_promises, live_promises, own_texts_are_written,
     parts_promises, plan_promises, replay_promises, roll_promises, step_promises, upgrade_promises,
 };
-pub use query::{Cut, Query};
+pub use query::Query;
 pub use scripts::{
     a_script_has_a_report, a_script_has_one_run, changes_of_a_run_drain_in_time,
     lines_lead_or_are_refused, made_scripts_are_not_refused, made_scripts_are_scripts,

@@ -6,6 +6,8 @@ ghost use Rattle.command_answers.specs.declared.status.Status.{Status};
 ghost use Rattle.command_words.specs.HelpTexts.{help_text, version_text};
 ghost use Rattle.command_words.specs.declared.keywords.Keyword.{Keyword};
 ghost use Rattle.command_words.specs.declared.words.Command.TheVariants as commands;
+ghost use Rattle.command_words.specs.declared.words.Change.{Change};
+ghost use Rattle.command_words.specs.declared.words.Cut.TheVariants as cuts;
 ghost use Rattle.command_words.specs.declared.words.TopCall.{TopCall};
 ghost use Rattle.report_writing.specs.Reports.{report_text};
 ghost use Rattle.watch_lines.specs.Observers.{Watched};
@@ -31,22 +33,22 @@ pub fn flat_promises()
 
 /// A law: `plan` writes the text of the plan.
 pub fn plan_promises()
-    ensures { (r : Run) (file : List ℕ) (call target : TopCall) → Answered (commands.Plan file call target) r
-        → r.status ≡ Status.Ok → Planned r.files file call target r.taken r.taken' }
+    ensures { (r : Run) (change : Change) → Answered (commands.Change cuts.Whole change) r
+        → r.status ≡ Status.Ok → Planned r.files change r.taken r.taken' }
 {}
 
 /// A law: `parts` writes the text of the parts.
 pub fn parts_promises()
-    ensures { (r : Run) (file : List ℕ) (call target : TopCall) → Answered (commands.Parts file call target) r
-        → r.status ≡ Status.Ok → Parted r.files file call target r.taken r.taken' }
+    ensures { (r : Run) (change : Change) → Answered (commands.Change cuts.InParts change) r
+        → r.status ≡ Status.Ok → Parted r.files change r.taken r.taken' }
 {}
 
 /// A law: `roll` writes the text of the parts, and what carrying them out comes to: the graph that is left, and the part
 /// that the rounds give up, with which it ends with Pending.
 pub fn roll_promises()
-    ensures { (r : Run) (file : List ℕ) (run within : ℕ) (call target : TopCall)
-        → Answered (commands.Roll file run within call target) r → IsRollStatus r.status
-        → Rolled run within r.files file call target r.status r.taken r.taken' }
+    ensures { (r : Run) (run within : ℕ) (change : Change)
+        → Answered (commands.Change (cuts.Rolled run within) change) r → IsRollStatus r.status
+        → Rolled run within r.files change r.status r.taken r.taken' }
 {}
 
 /// A law: `replay` writes the text of what is open and settled; or the first event that is no step is denied, with its

@@ -10,6 +10,7 @@ returns c =
       graphs = c.a_graph_or_a_fault.ensures;
       plan_alone = c.a_plan_or_a_refusal.ensures.plan_alone;
       one_answer = c.what_bytes_give_is_one.ensures.one_answer;
+      one_change = c.what_bytes_give_is_one.ensures.one_change;
       one_report = c.what_bytes_give_is_one.ensures.one_report;
       no_fault_beside = c.what_bytes_give_is_one.ensures.no_fault_beside;
     } in
