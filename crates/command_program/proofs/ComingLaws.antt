@@ -1,13 +1,13 @@
 -- How what the parts of a run answer ends a course, and how two courses join.
-use Rattle.std.proofs.Common.{◌≡◌, ◌∙◌, ◌≢◌, ◌⊎◌, inl, inr, false, ℕ, List, [], ◌∷◌, ◌++◌, Option, Some, None, IfSome, IfOk, Result, Ok, Err, append-nil, refl, sym, ap, subst}
+use Rattle.std.proofs.Common.{◌≡◌, ◌∙◌, ◌⊎◌, inl, inr, false, ℕ, List, [], ◌++◌, Option, IfOk, Result, Ok, Err, append-nil, refl, sym, ap, subst}
 use Rattle.cfg_io.specs.Shelf.{Files}
 use Rattle.command_answers.specs.Answers.{Refusal, usage, description, script, read_fault, no_memory, refusal_status}
 use Rattle.command_answers.specs.Statuses.{is_of_run}
 use Rattle.command_answers.specs.declared.status.Status.{Status}
 use Rattle.command_spec.specs.Commands.{Shown, shown}
-use Rattle.command_spec.specs.Courses.{Course, ends, says, fetches, judges, End, came, refusal, Follows, here, said, not_fetched, failed, failed_short, too_long, leads_on, not_judged, refused, gives, then_by}
+use Rattle.command_spec.specs.Courses.{Course, ends, says, came, refusal, Follows, here, said, then_by}
 use Rattle.command_spec.proofs.CourseLaws.{goes_on, stops, none_failed}
-use Rattle.command_program.specs.Coming.{Comes, EndsIn, EndsNoRun, IsOrStop, IsShown, Refuses, Shows, StopsFor}
+use Rattle.command_program.specs.Coming.{Comes, EndsIn, EndsNoRun, IsOrStop, IsShown, Shows, StopsFor}
 use Rattle.command_program.specs.Refusals.{IsLine}
 use Rattle.command_program.specs.declared.answer.Answer.{Answer}
 use Rattle.command_program.specs.declared.answer.Stop.{Stop}

@@ -1,8 +1,8 @@
 -- A file that is fetched, and read.
-use Rattle.std.proofs.Common.{◌≡◌, ◌≤◌, ◌<◌, ◌∙◌, ◌++◌, ◌∷◌, [], inl, inr, ℕ, List, Option, Some, None, IfSome, IsSomeAnd, Result, Ok, Err, codes, length, append-nil, refl, sym, subst}
+use Rattle.std.proofs.Common.{◌≡◌, ◌≤◌, ◌<◌, ◌++◌, ◌∷◌, [], inl, inr, ℕ, List, Option, Some, None, IfSome, IsSomeAnd, Result, Ok, Err, codes, length, refl, sym, subst}
 use Rattle.cfg_io.specs.Shelf.{Files}
-use Rattle.command_answers.specs.Answers.{Refusal, no_memory, read_fault}
-use Rattle.command_spec.specs.Courses.{Course, ends, fetches, judges, End, came, refusal, Follows, here, failed, failed_short, too_long, leads_on, refused, gives, reads}
+use Rattle.command_answers.specs.Answers.{Refusal, read_fault}
+use Rattle.command_spec.specs.Courses.{Course, ends, fetches, judges, came, refusal, Follows, here, failed, failed_short, too_long, leads_on, refused, gives, reads}
 use Rattle.command_spec.specs.Files.{HoldsFile, TellsLonger}
 use Rattle.command_spec.specs.Sorts.{Sort, limit_of, refusal_of, Refuses, Value, Reads}
 use Rattle.command_program.specs.Coming.{Comes, EndsIn, StopsFor}

@@ -1,8 +1,8 @@
 -- Lines behind lines.
-use Rattle.std.proofs.Common.{◌≡◌, ◌∙◌, ◌⊎◌, inl, inr, ◌++◌, [], ℕ, List, Option, Result, Ok, Err, append-nil, refl, sym, ap, subst}
+use Rattle.std.proofs.Common.{◌∙◌, inl, inr, ◌++◌, [], ℕ, List, Option, Result, Ok, Err, append-nil, refl, ap, subst}
 use Rattle.cfg_io.specs.Shelf.{Files}
 use Rattle.command_answers.specs.Answers.{no_memory}
-use Rattle.command_spec.specs.Courses.{End, came, refusal, Follows, here}
+use Rattle.command_spec.specs.Courses.{came, refusal, Follows, here}
 use Rattle.command_spec.specs.Lines.{RunLine, Progress, of_lines}
 use Rattle.command_spec.proofs.CourseLaws.{none_failed}
 use Rattle.command_spec.proofs.LineLaws.{lines_go_on, lines_stop}

@@ -1,4 +1,5 @@
 mod Calls
+mod Changes
 pub mod ComingLaws
 mod Fetching
 mod Fitting

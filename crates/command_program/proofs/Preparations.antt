@@ -1,5 +1,5 @@
 -- The preparation of a script, from what its lines come to.
-use Rattle.std.proofs.Common.{◌≡◌, ◌∷◌, [], ℕ, List, Option, Some, None, Ok, append-nil, refl, sym, ap, subst, string_bytes}
+use Rattle.std.proofs.Common.{◌≡◌, [], ℕ, List, Option, Some, None, Ok, append-nil, refl, sym, ap, subst, string_bytes}
 use Rattle.std.specs.Global.{Vec}
 use Rattle.std.specs.Option.{option_map}
 use Rattle.cfg_io.specs.Shelf.{Files}
@@ -10,7 +10,7 @@ use Rattle.change_spec.specs.declared.steps.Step.{Step}
 use Rattle.change_script.specs.ScriptFiles.{IsScript}
 use Rattle.report_types.specs.declared.script.Script.{Script}
 use Rattle.darwin_types.specs.Checked.{description}
-use Rattle.command_spec.specs.Courses.{End, came, Follows, leads_on, gives, here, reads}
+use Rattle.command_spec.specs.Courses.{came, Follows, leads_on, gives, here, reads}
 use Rattle.command_spec.specs.Lines.{RunLine, Progress, begun, of_lines}
 use Rattle.command_spec.specs.Sorts.{of_script}
 use Rattle.command_program.specs.Coming.{Comes}

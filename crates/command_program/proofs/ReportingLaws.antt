@@ -1,5 +1,5 @@
 -- A run of statements is shown by its report.
-use Rattle.std.proofs.Common.{◌≡◌, ℕ, List, [], Option, Result, Ok, Err, IfOk, refl, subst, sym}
+use Rattle.std.proofs.Common.{◌≡◌, ℕ, List, Option, Result, Ok, Err, IfOk, refl, subst, sym}
 use Rattle.cfg_io.specs.Shelf.{Files}
 use Rattle.change_spec.specs.Statements.{Statement}
 use Rattle.report_types.specs.declared.report.Report.{Report}

@@ -6,7 +6,7 @@ use Rattle.command_answers.specs.Statuses.{is_of_run}
 use Rattle.command_answers.specs.declared.status.Status.{Status}
 use Rattle.command_answers.specs.declared.status.Status.TheVariants as status
 use Rattle.command_spec.specs.Commands.{Shown}
-use Rattle.command_spec.specs.Courses.{Course, End, came, refusal, Follows}
+use Rattle.command_spec.specs.Courses.{Course, came, refusal, Follows}
 use Rattle.command_program.specs.declared.answer.Answer.{Answer}
 use Rattle.command_program.specs.declared.answer.Stop.{Stop}
 use Rattle.command_program.specs.declared.answer.Stop.TheVariants as stops

@@ -1,31 +1,37 @@
 //! What is answered to commands, by fetches.
 
-ghost use Rattle.std.specs.Prelude.{◌≡◌, true, [], IfOk, Some};
+ghost use Rattle.std.specs.Prelude.{◌≡◌, true, [], IfOk, Option, Some};
+ghost use Rattle.cfg_io.specs.Shelf.{Files};
 ghost use Rattle.command_answers.specs.declared.status.Status.TheVariants.{Ok};
 ghost use Rattle.report_writing.specs.Reports.{LogsAreMade};
 ghost use Rattle.command_words.specs.BigFiles.{files_beside, made_files, script_name};
 ghost use Rattle.command_words.specs.HelpTexts.{help_text, version_text};
 ghost use Rattle.command_words.specs.declared.words.Command.TheVariants as commands;
-ghost use Rattle.command_spec.specs.Commands.{IsRunOf, IsSummary, course_of, judging, of_query, own_files, runs_script};
+ghost use Rattle.command_spec.specs.Commands.{IsRunOf, IsSummary, ShowsChange, course_of, judging, of_change, of_query, own_files, runs_script};
+ghost use Rattle.command_spec.specs.Courses.{says};
+ghost use Rattle.command_spec.specs.Plans.{statements_of_change};
 ghost use Rattle.command_spec.specs.Known.{on_one_thread};
 ghost use Rattle.command_spec.specs.Naming.{NamesNoFile};
 ghost use Rattle.command_spec.specs.RunReports.{IsReportOf};
 ghost use Rattle.command_spec.specs.Schedules.{IsReportBy, IsShownBy, rounds};
 ghost use Rattle.command_spec.specs.declared.query.Query.TheVariants as queries;
+ghost use Rattle.command_program.specs.Planning.{CanMake};
 ghost use Rattle.command_program.specs.Coming.{Comes, ComesOwn, EndsIn, IsShown, Shows};
 ghost use Rattle.command_program.specs.Preparing.{CanRun, statements_in};
 ghost use Rattle.command_program.specs.Refusals.{IsLine};
 
 use crate::answer::or_stop;
+use crate::change_lines::{Planned, prepare_change};
 use crate::files::{FileSort, fetch_file, read_events, read_report};
+use crate::plans::change_graphs;
 use crate::{
     Answer, Prepared, Stop, answer_run, answer_summary, describe, judge, prepare, upgrade,
 };
 use cfg_io::Shelf;
 use change_round_laws::reports_of_rounds_are_lawful;
 use command_answers::Status;
-use command_spec::{Cut, Query};
-use command_words::{Command, Keyword, MadeFiles, SCRIPT_NAME, TopCall, VERSION, help_text};
+use command_spec::Query;
+use command_words::{Change, Command, Cut, Keyword, MadeFiles, SCRIPT_NAME, VERSION, help_text};
 use config_graph::NoMemory;
 use report_types::Report;
 use std::alloc::Global;
@@ -50,22 +56,7 @@ pub fn answer_command<H: Shelf>(
         Command::Flat { file, call } => {
             answer_description(alloc, shelf, file.as_str(), &Query::Graph(call))
         }
-        Command::Plan { file, call, target } => {
-            answer_change(alloc, shelf, file.as_str(), Cut::Whole, call, target)
-        }
-        Command::Parts { file, call, target } => {
-            answer_change(alloc, shelf, file.as_str(), Cut::InParts, call, target)
-        }
-        Command::Roll {
-            file,
-            run,
-            within,
-            call,
-            target,
-        } => {
-            let cut = Cut::Rolled { run, within };
-            answer_change(alloc, shelf, file.as_str(), cut, call, target)
-        }
+        Command::Change { cut, change } => answer_change(alloc, shelf, &cut, &change),
         Command::Replay { file, events } => {
             answer_replay(alloc, shelf, file.as_str(), events.as_str())
         }
@@ -114,20 +105,38 @@ fn answer_description<H: Shelf>(
     describe(alloc, file, query, text.items())
 }
 
-/// Fetches a description, and answers the change from one component to another, made so.
+/// Fetches the files of a change, and answers it, made as it is cut.
 fn answer_change<H: Shelf>(
     alloc: Global,
     shelf: &mut H,
-    file: &str,
-    cut: Cut,
-    call: TopCall<'_>,
-    target: TopCall<'_>,
+    cut: &Cut,
+    change: &Change<'_>,
 ) -> Result<Answer, Stop>
-    ensures answers { Comes Shows (H.files shelf.old) (of_query file.now (queries.Change cut call.entry target.entry))
-        (H.failed shelf.old) (H.failed shelf.new) result }
+    ensures answers { Comes Shows (H.files shelf.old) (of_change cut.now change.now) (H.failed shelf.old)
+        (H.failed shelf.new) result }
     ensures kept { H.files shelf.new ≡ H.files shelf.old }
 {
-    answer_description(alloc, shelf, file, &Query::Change(cut, call, target))
+    let planned = prepare_change(alloc, shelf, change)?;
+    show_change(alloc, cut, change, &planned)
+}
+
+/// Answers the change between these graphs. A plan of them is there, so that want of memory alone may be in the way.
+fn show_change(
+    alloc: Global,
+    cut: &Cut,
+    change: &Change<'_>,
+    planned: &Planned,
+) -> Result<Answer, Stop>
+    requires { CanMake planned.now }
+    ensures { (files : Option Files) → EndsIn Shows files (says (ShowsChange cut.now change.now
+        (statements_of_change change.now planned.now.start.graph planned.now.change.graph))) [] result }
+{
+    let old = &planned.start.graph;
+    let new = &planned.change.graph;
+    match change_graphs(alloc, cut, &change.call, &change.target, old, new) {
+        Ok(answer) => Ok(answer),
+        Err(_) => Err(Stop::NoMemory),
+    }
 }
 
 /// Fetches a file of events and then a description, and answers what the events come to.

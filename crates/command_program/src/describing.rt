@@ -15,7 +15,6 @@ ghost use Rattle.command_program.specs.Coming.{EndsIn, Shows};
 use crate::answer::{Answer, Stop};
 use crate::description::{checked_of, graph_of_call};
 use crate::files::refuse_description;
-use crate::plans::change_between;
 use crate::replaying::replay_over;
 use command_answers::{DescriptionFault, Status};
 use command_spec::Query;
@@ -62,7 +61,6 @@ fn use_checked(
             status: Status::Ok,
             text: graph_text_of(alloc, checked, call)?,
         }),
-        Query::Change(cut, call, target) => change_between(alloc, checked, cut, call, target),
         Query::Replay(events) => replay_over(alloc, checked, events),
     }
 }

@@ -3,6 +3,7 @@
 
 mod answer;
 mod answering;
+mod change_lines;
 mod changing;
 mod commands;
 mod describing;
@@ -20,6 +21,7 @@ mod way;
 mod writing;
 
 pub use answer::{Answer, Stop};
+pub use change_lines::{Planned, prepare_change};
 pub use command_answers::Status;
 pub use commands::{run_command, still};
 pub use describing::describe;
@@ -29,7 +31,6 @@ pub use files::{
     refuse_description,
 };
 pub use judging::judge;
-pub use plans::{made_of, start_call};
 pub use preparing::{Prepared, prepare};
 pub use reports::{answer_run, answer_summary, upgrade};
 pub use writing::{write_answer, write_no_memory, write_text, write_usage};

@@ -1,4 +1,4 @@
-//! Changes between components of a description.
+//! Changes between graphs, and starts with a component of a description.
 
 ghost use Rattle.std.specs.Prelude.{◌≡◌, ℕ, List, IfOk, IfErr};
 ghost use Rattle.config_graph.specs.Graph.{IsGraph};
@@ -6,66 +6,24 @@ ghost use Rattle.config_graph.specs.Sound.{Sound};
 ghost use Rattle.darwin_types.specs.Checked.{description};
 ghost use Rattle.change_plan.specs.Room.{HasRoomFor};
 ghost use Rattle.command_spec.specs.Descriptions.{IsChecked};
-ghost use Rattle.command_spec.specs.Plans.{Starts, RefusesStart, HasChange, HasSteps, IsPartsText, IsPlanText, RefusesPlan, made_of_graph};
+ghost use Rattle.command_spec.specs.Plans.{Starts, RefusesStart, IsPartsText, IsPlanText, made_of_graph};
 ghost use Rattle.change_spec.specs.Scripts.{nothing_made};
 ghost use Rattle.command_spec.specs.Queries.{IsTextBy};
-ghost use Rattle.command_program.specs.Planning.{IsFull};
 ghost use Rattle.command_answers.specs.DescriptionFaults.{MayRefuse};
 
 use crate::answer::Answer;
-use crate::description::{graph_of, graph_of_call};
+use crate::description::graph_of;
 use crate::rolling::roll_between;
 use change_parts::parts;
 use change_plan::{plan, plan_text, require_room};
 use command_answers::{DescriptionFault, Status, parts_text};
-use command_spec::Cut;
-use command_words::TopCall;
+use command_words::{Cut, TopCall};
 use config_graph::{Graph, Made};
 use darwin_types::Checked;
 use std::alloc::Global;
 
 /// What was made before a start.
 const NOTHING_MADE: Made = Made { nodes: 0, ports: 0 };
-
-/// The change from the graph of one component to that of another, as it is asked for.
-pub fn change_between(
-    alloc: Global,
-    checked: &Checked,
-    cut: &Cut,
-    call: &TopCall<'_>,
-    target: &TopCall<'_>,
-) -> Result<Answer, DescriptionFault>
-    ensures change { (text : List ℕ) → IsChecked text (description checked.now)
-        → IfOk result (λ answer. HasChange (IsTextBy cut.now call.now target.now answer.status) text call.now target.now
-        answer.text.items) }
-    ensures refused { (text : List ℕ) → IsChecked text (description checked.now)
-        → IfErr result (MayRefuse (RefusesPlan text call.now target.now)) }
-{
-    let old = start_call(alloc, checked, call)?;
-    let new = graph_of_call(alloc, checked, target)?;
-    change_graphs(alloc, cut, call, target, &old, &new)
-}
-
-/// The graph with which a run can start with a call's component.
-pub fn start_call(
-    alloc: Global,
-    checked: &Checked,
-    call: &TopCall<'_>,
-) -> Result<Graph, DescriptionFault>
-    ensures sound { IfOk result (λ graph. Sound graph) }
-    ensures room { IfOk result (λ graph. HasRoomFor nothing_made graph) }
-    ensures starts { (text : List ℕ) → IsChecked text (description checked.now)
-        → IfOk result (Starts text call.now.top call.now.args) }
-    ensures refused { (text : List ℕ) → IsChecked text (description checked.now)
-        → IfErr result (MayRefuse (RefusesStart text call.now.top call.now.args)) }
-{
-    start(
-        alloc,
-        checked,
-        call.top.as_str().as_bytes(),
-        call.args.items(),
-    )
-}
 
 /// The graph of a component with which a run can start.
 pub fn start(
@@ -86,8 +44,8 @@ pub fn start(
     Ok(graph)
 }
 
-/// The change from one graph to another, where a run can start with the first.
-fn change_graphs(
+/// The change from one graph to another, where a run can start with the first, as it is asked for.
+pub fn change_graphs(
     alloc: Global,
     cut: &Cut,
     call: &TopCall<'_>,
@@ -98,9 +56,8 @@ fn change_graphs(
     requires old { Sound old.now }
     requires room { HasRoomFor nothing_made old.now }
     requires new { Sound new.now }
-    ensures steps { IfOk result (λ answer. HasSteps (IsTextBy cut.now call.now target.now answer.status) old.now new.now
+    ensures { IfOk result (λ answer. IsTextBy cut.now call.now target.now answer.status old.now new.now
         answer.text.items) }
-    ensures full { IfErr result (MayRefuse (IsFull old.now new.now (made_of_graph old.now))) }
 {
     match cut {
         Cut::Whole => Ok(answer_with(plan_between(alloc, old, new)?)),
@@ -135,8 +92,7 @@ pub fn made_of(graph: &Graph) -> Made
 
 /// The text of the plan from one graph to another, where a run has started with the first.
 fn plan_between(alloc: Global, old: &Graph, new: &Graph) -> Result<Vec<u8>, DescriptionFault>
-    ensures steps { IfOk result (λ written. HasSteps IsPlanText old.now new.now written.items) }
-    ensures full { IfErr result (MayRefuse (IsFull old.now new.now (made_of_graph old.now))) }
+    ensures { IfOk result (λ written. IsPlanText old.now new.now written.items) }
 {
     let steps = plan(alloc, old, new, &[], made_of(old))?;
     Ok(plan_text(alloc, old, new, &steps)?)
@@ -146,8 +102,7 @@ fn plan_between(alloc: Global, old: &Graph, new: &Graph) -> Result<Vec<u8>, Desc
 fn parts_between(alloc: Global, old: &Graph, new: &Graph) -> Result<Vec<u8>, DescriptionFault>
     requires old { Sound old.now }
     requires new { Sound new.now }
-    ensures steps { IfOk result (λ written. HasSteps IsPartsText old.now new.now written.items) }
-    ensures full { IfErr result (MayRefuse (IsFull old.now new.now (made_of_graph old.now))) }
+    ensures { IfOk result (λ written. IsPartsText old.now new.now written.items) }
 {
     let parts = parts(alloc, old, new, &[], made_of(old))?;
     Ok(parts_text(alloc, old, parts.items())?)

@@ -1,10 +1,10 @@
 //! What a script asks of a run, before it is run.
 
-ghost use Rattle.std.specs.Prelude.{◌≡◌, ℕ, List, IfOk, IsSome};
-ghost use Rattle.change_script.specs.ScriptFiles.{IsScript};
+ghost use Rattle.std.specs.Prelude.{◌≡◌, false, IfOk, IsSome};
 ghost use Rattle.command_spec.specs.Lines.{begun, of_lines};
 ghost use Rattle.command_spec.specs.Scripts.{lines_of_script, prepares};
 ghost use Rattle.command_program.specs.Coming.{Comes};
+ghost use Rattle.command_program.specs.Fitting.{MayAllStand};
 ghost use Rattle.command_program.specs.Preparing.{CanRun, IsAskedBy, IsPrepared};
 
 use crate::Stop;
@@ -13,7 +13,7 @@ use crate::taking::take_lines;
 use crate::way::Way;
 use cfg_io::Shelf;
 use change_spec::{Start, Step};
-use report_types::Script;
+use report_types::ScriptLine;
 use std::alloc::Global;
 
 /// What a script asks for. Each step has its plan, from the graph that was named before it.
@@ -31,19 +31,23 @@ pub fn prepare<H: Shelf>(alloc: Global, shelf: &mut H, name: &str) -> Result<Pre
     ensures can_run { IfOk result CanRun }
 {
     let script = read_script(alloc, shelf, name)?;
-    prepare_lines(alloc, shelf, script)
+    prepare_lines(alloc, shelf, script.lines.into_vec())
 }
 
 /// The same for the lines of a script.
-fn prepare_lines<H: Shelf>(alloc: Global, shelf: &mut H, script: Script) -> Result<Prepared, Stop>
-    requires { (text : List ℕ) × IsScript text script }
-    ensures prepares { Comes IsPrepared (H.files shelf.old) (of_lines begun (lines_of_script script.lines))
+pub fn prepare_lines<H: Shelf>(
+    alloc: Global,
+    shelf: &mut H,
+    lines: Vec<ScriptLine>,
+) -> Result<Prepared, Stop>
+    requires { MayAllStand false false lines.items }
+    ensures prepares { Comes IsPrepared (H.files shelf.old) (of_lines begun (lines_of_script lines.items))
         (H.failed shelf.old) (H.failed shelf.new) result }
     ensures kept { H.files shelf.new ≡ H.files shelf.old }
     ensures can_run { IfOk result CanRun }
 {
     let mut way = Way::new(alloc);
-    take_lines(alloc, shelf, &mut way, script.lines.into_vec())?;
+    take_lines(alloc, shelf, &mut way, lines)?;
     Ok(asked_by(way))
 }
 

@@ -1,14 +1,12 @@
 //! Changes that are carried out part by part in a run.
 
-ghost use Rattle.std.specs.Prelude.{◌≡◌, ◌<◌, ◌^◌, IfOk, IfErr, length};
+ghost use Rattle.std.specs.Prelude.{◌≡◌, ◌<◌, ◌^◌, IfOk, length};
 ghost use Rattle.config_graph.specs.Sound.{Sound};
 ghost use Rattle.change_plan.specs.Room.{HasRoomFor};
 ghost use Rattle.change_parts.specs.Carrying.{CanCarryOutAll};
 ghost use Rattle.change_parts.specs.Rolls.{IsRoll, roll_statements, stage_left};
-ghost use Rattle.command_spec.specs.Plans.{HasSteps, IsRollText, made_of_graph};
+ghost use Rattle.command_spec.specs.Plans.{IsRollText, made_of_graph};
 ghost use Rattle.change_spec.specs.Scripts.{nothing_made};
-ghost use Rattle.command_answers.specs.DescriptionFaults.{MayRefuse};
-ghost use Rattle.command_program.specs.Planning.{IsFull};
 
 use crate::answer::Answer;
 use crate::plans::made_of;
@@ -36,9 +34,8 @@ pub fn roll_between(
     requires old { Sound old.now }
     requires room { HasRoomFor nothing_made old.now }
     requires new { Sound new.now }
-    ensures steps { IfOk result (λ answer. HasSteps (IsRollText run within call.now target.now answer.status) old.now new.now
+    ensures { IfOk result (λ answer. IsRollText run within call.now target.now answer.status old.now new.now
         answer.text.items) }
-    ensures full { IfErr result (MayRefuse (IsFull old.now new.now (made_of_graph old.now))) }
 {
     parts_may_be_carried_out();
     // Asked for by the contract alone: that the new one is a graph.

@@ -1,5 +1,5 @@
 -- What was prepared of the made script is run, or refuses it.
-use Rattle.std.proofs.Common.{◌≡◌, ℕ, List, [], Option, Result, Err, Ok, refl, subst, sym}
+use Rattle.std.proofs.Common.{[], Option, Result, Err, subst, sym}
 use Rattle.std.proofs.lemmas.Result.{err_from_is_err_and}
 use Rattle.cfg_io.specs.Shelf.{Files}
 use Rattle.command_spec.specs.Commands.{IsRunOf, IsSummary, Shown}

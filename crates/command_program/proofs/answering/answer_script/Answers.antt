@@ -1,12 +1,11 @@
 -- What was prepared is run.
-use Rattle.std.proofs.Common.{refl, subst}
 use Rattle.std.proofs.lemmas.Result.{err_from_is_err_and}
 use Rattle.command_spec.specs.Commands.{IsRunOf}
 use Rattle.command_spec.specs.Courses.{says}
 use Rattle.command_spec.specs.Lines.{Progress}
 use Rattle.command_spec.specs.Schedules.{IsReportBy, IsShownBy, rounds}
 use Rattle.command_spec.specs.Scripts.{prepares}
-use Rattle.command_program.specs.Coming.{Comes, Shows}
+use Rattle.command_program.specs.Coming.{Shows}
 use Rattle.command_program.specs.Preparing.{IsPrepared}
 use Rattle.command_program.proofs.ComingLaws.{comes_stop}
 use Rattle.command_program.proofs.ReportingLaws.{ran_of}

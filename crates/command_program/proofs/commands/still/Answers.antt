@@ -1,5 +1,4 @@
 -- What a run does for a command follows from what it does.
-use Rattle.std.proofs.Common.{map, string_bytes}
 use Rattle.command_program.proofs.commands.still.Goals as goal
 
 pub returns-clause-answered : goal.returns-clause-answered

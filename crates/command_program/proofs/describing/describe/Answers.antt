@@ -1,6 +1,5 @@
 -- What the bytes give is answered, or refused for what refuses them.
-use Rattle.std.proofs.Common.{[], ap, inl, refl, subst, sym}
-use Rattle.command_answers.specs.Answers.{description}
+use Rattle.std.proofs.Common.{[], inl, refl, subst, sym}
 use Rattle.command_answers.specs.DescriptionFaults.{fault_words}
 use Rattle.command_spec.specs.Commands.{Shown, shown}
 use Rattle.command_spec.specs.Courses.{came, ends, gives, here, judges, refusal, refused, Follows}

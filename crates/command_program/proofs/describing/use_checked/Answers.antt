@@ -9,9 +9,3 @@ returns-in-Replay-clause-refused c text checked = rw c.in-Replay.is (c.replay_ov
 
 pub returns-in_ok-graph_text_of-in-Graph-clause-gives : goal.returns-in_ok-graph_text_of-in-Graph-clause-gives
 returns-in_ok-graph_text_of-in-Graph-clause-gives c text checked = rw c.in-Graph.is (c.in_ok-graph_text_of-in-Graph.ensures.gives text checked)
-
-pub returns-in-Change-clause-gives : goal.returns-in-Change-clause-gives
-returns-in-Change-clause-gives c text checked = rw c.in-Change.is (c.change_between.ensures.change text checked)
-
-pub returns-in-Change-clause-refused : goal.returns-in-Change-clause-refused
-returns-in-Change-clause-refused c text checked = rw c.in-Change.is (c.change_between.ensures.refused text checked)

@@ -1,5 +1,5 @@
 -- Each answer of the shelf ends the course of the fetch.
-use Rattle.std.proofs.Common.{◌≤◌, ◌≡◌, Ok, length, vec_len, arith, subst, sym}
+use Rattle.std.proofs.Common.{◌≤◌, Ok, length, vec_len, arith, subst, sym}
 use Rattle.command_spec.specs.Sorts.{limit_of}
 use Rattle.command_spec.specs.Courses.{ends, fetches}
 use Rattle.command_program.specs.Coming.{Comes}

@@ -4,7 +4,7 @@ use Rattle.std.proofs.lemmas.Result.{err_from_is_err_and}
 use Rattle.darwin_types.specs.Checked.{description}
 use Rattle.darwin_parser.specs.Tree.{Tree}
 use Rattle.command_spec.specs.Courses.{ends, here, reads}
-use Rattle.command_spec.specs.Lines.{of_lines, uses, with_description}
+use Rattle.command_spec.specs.Lines.{uses, with_description}
 use Rattle.command_spec.specs.Sorts.{of_description}
 use Rattle.command_program.specs.declared.answer.Stop.{Stop}
 use Rattle.command_program.specs.declared.answer.Stop.TheVariants as stops
