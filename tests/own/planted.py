@@ -1,12 +1,16 @@
-"""Faults that are planted in the package, in a small system, and what catches each."""
+"""Faults that are planted in the package, in a small system, and what catches each.
+
+Each is met for certain, on a busy machine too: a write that a row began ends when the row says so, and not after a time.
+"""
 import asyncio
+import contextlib
 import os
 import sys
 import tempfile
 import threading
 
-from small import Client, Store, changed, ends, planted, running, writing
-from tareslater import Begins, Component, Requires, components, gates, provides, session, sites
+from small import Client, Store, changed, closing, ends, planted, running, until, writing
+from tareslater import Begins, Component, Requires, changes, components, gates, provides, session, sites
 from tareslater.gates import RUNNING, Running
 
 
@@ -43,14 +47,61 @@ def idle_at_once(site, roots, number, tell):
     tell("closed %d" % number)
 
 
-async def with_slow_root(tries, name, faults, wanted, within=0.2, lasts=20):
-    """A change while a write is under way, which it touches; how it ends, and that the write isn't cut off."""
+def said(tries, name, wanted, came):
+    """How a change ended: it was made, or began with one of these, and then all goes on as before."""
+    tries.want(name, any(came.startswith(one) for one in wanted) and (came == "made" or came.endswith("; goes on as before")), came)
+
+
+async def with_slow_root(tries, name, faults, wanted):
+    """A change while a write is under way, which it touches, and which lasts longer than it; how it ends, and that the write isn't cut off."""
+    with planted(*faults):
+        async with running(tries.manager) as system:
+            async with writing(system):
+                came = await changed(system)
+    said(tries, name, wanted, came)
+
+
+async def with_root_that_ends(tries, name, faults, wanted, within):
+    """The same, and the write ends once its gate is closed."""
     with planted(*faults):
         async with running(tries.manager) as system:
             async with writing(system) as event:
-                asyncio.get_running_loop().call_later(lasts, event.set)
-                came = await changed(system, within=within)
-    tries.want(name, any(came.startswith(one) for one in wanted) and (came == "made" or came.endswith("; goes on as before")), came)
+                changing = asyncio.ensure_future(changed(system, within=within))
+                await closing(system, changing, "r.slowly")
+                event.set()
+                came = await changing
+    said(tries, name, wanted, came)
+
+
+async def with_root_behind(tries, name, faults, wanted, within):
+    """The same, and another write begins then, before the first one ends: where the gate holds, it waits until the change was made."""
+    with planted(*faults):
+        async with running(tries.manager) as system:
+            async with writing(system) as first:
+                changing = asyncio.ensure_future(changed(system, within=within))
+                await closing(system, changing, "r.slowly")
+                async with writing(system):
+                    first.set()
+                    came = await changing
+    said(tries, name, wanted, came)
+
+
+async def with_root_at_last(tries, name, faults, wanted):
+    """A write begins once the manager has said `ready`, right before the package counts: where the gate holds, it waits."""
+    count, has_begun = changes.Change.judge, False
+    async with running(tries.manager) as system:
+        async with contextlib.AsyncExitStack() as stack:
+
+            async def late(change):
+                nonlocal has_begun
+                if not has_begun:
+                    has_begun = True
+                    await stack.enter_async_context(writing(system))
+                await count(change)
+
+            with planted((changes.Change, "judge", late), *faults):
+                came = await changed(system, within=20)
+    said(tries, name, wanted, came)
 
 
 async def try_gates(tries):
@@ -58,16 +109,24 @@ async def try_gates(tries):
         ("nothing is wrong", [], ["GivenUp: still under way: r.slowly"]),
         ("a close isn't waited for", [(sites.Site, "close_gate", close_without_waiting)], ["NotQuiescent: t, "]),
         ("`idle` comes at once", [(sites.Site, "close_gate", idle_at_once)], ["NotQuiescent: t, "]),
-        ("`closed` is left out", [(session.Session, "say", left_out("closed"))], ["GivenUp: still under way: "]),
         ("`busy` is left out", [(session.Session, "say", left_out("busy"))], ["NotQuiescent: t, ", "Refused: denied "]),
         ("`closed` comes twice", [(session.Session, "say", told_twice)], ["Refused: bad "]),
         ("a gate isn't closed", [(gates.Gate, "close", lambda gate, on_idle: False)], ["NotQuiescent: "]),
-        ("the gate doesn't hold", [(gates.Gate, "try_enter", leaking)], ["GivenUp: ", "NotQuiescent: ", "Refused: denied "]),
     ]
     for name, faults, wanted in rows:
         await with_slow_root(tries, name, faults, wanted)
-    await with_slow_root(tries, "`idle` is left out", [(session.Session, "say", left_out("idle"))], ["GivenUp: still under way: "], 2, 1)
-    await with_slow_root(tries, "`idle` is told", [], ["made"], 9, 1)
+    rows = [
+        ("all is told", [], ["made"], 20),
+        ("`idle` is left out", [(session.Session, "say", left_out("idle"))], ["GivenUp: still under way: "], 0.5),
+        ("`closed` is left out", [(session.Session, "say", left_out("closed"))], ["GivenUp: "], 0.5),
+    ]
+    for row in rows:
+        await with_root_that_ends(tries, *row)
+    leak = [(gates.Gate, "try_enter", leaking)]
+    await with_root_behind(tries, "the gate holds", [], ["made"], 20)
+    await with_root_behind(tries, "the gate doesn't hold", leak, ["GivenUp: still under way: r.slowly"], 0.5)
+    await with_root_at_last(tries, "the gate holds at last", [], ["made"])
+    await with_root_at_last(tries, "the gate doesn't hold at last", leak, ["NotQuiescent: t, "])
 
 
 def counted_in(target, root):
@@ -104,12 +163,13 @@ async def try_premises(tries):
     with planted(*early):
         async with running(tries.manager) as system:
             event = threading.Event()
+            store = system["t"]
             work = asyncio.ensure_future(system["r"].slowly(event))
-            await asyncio.sleep(0.02)
+            await until(lambda: store._serving)
             work.cancel()
             came = await changed(system)
             event.set()
-            await asyncio.sleep(0.05)
+            await until(lambda: not store._serving)
     tries.same("a root ends with its caller", "NotQuiescent: t; goes on as before", came)
     text = "component Small(int v) { inst c:Client(0); s:Sly(0); t:Store(v); bind s.out -- s.sly; s.store -- t.write; c.out -- t.put; }"
     for faults, first, wanted in [
@@ -118,9 +178,9 @@ async def try_premises(tries):
     ]:
         with planted(*faults):
             async with running(tries.manager, text, [Client, Sly, Store]) as system:
-                event = threading.Event()
+                event, store = threading.Event(), system["t"]
                 work = asyncio.ensure_future(ends(system["s"].out(event)))
-                await asyncio.sleep(0.05)
+                await until(lambda: work.done() or store._serving)
                 tries.same("a call that isn't declared, %s" % ("looked up" if first else "not looked up"), wanted, await changed(system))
                 event.set()
                 tries.want("and its caller", first is None or await work == first)
@@ -150,16 +210,17 @@ print(ready, flush=True)
 heard(lambda lines: ["go"] in lines)
 print(sys.argv[2], flush=True)
 """
-SILENT = SAYS.replace("PATIENT", "True").replace("print(sys.argv[2]", "import time; time.sleep(20); print(sys.argv[2]")
+SILENT = SAYS.replace("PATIENT", "True").replace("print(sys.argv[2]", "import time; time.sleep(600); print(sys.argv[2]")
 HASTY, PATIENT = SAYS.replace("PATIENT", "False"), SAYS.replace("PATIENT", "True")
 
 
-async def with_hasty(tries, system, name, first, last, wanted):
-    """A manager that says this at once, while a write is under way."""
+async def with_hasty(tries, system, name, first, last, wanted, *named):
+    """A manager that says this at once, while a write is under way. What is under way beside it may be named too."""
     async with writing(system):
         with talking(system, HASTY, first, last):
             came = await changed(system)
-    tries.want(name, came.startswith(wanted) and came.endswith("; goes on as before"), came)
+    why, _, after = came.partition("; ")
+    tries.want(name, why.startswith(wanted) and after == "goes on as before" and set(named) <= set(why[len(wanted) :].split(", ")), came)
 
 
 async def try_managers(tries):
@@ -171,10 +232,10 @@ async def try_managers(tries):
         drained, acts = heard[len(start) : wait + 1], heard[wait + 1 :]
         await system.change("Small(0)", moving={"t": "t"})
         rows = [
-            ("it waits for nothing", start + drained, acts, "NotQuiescent: t, r.slowly"),
-            ("it forgets a link", start + drained, [line for line in acts if not line.startswith("link")], "NotQuiescent: t, r.slowly"),
+            ("it waits for nothing", start + drained, acts, "NotQuiescent: ", "t", "r.slowly"),
+            ("it forgets a link", start + drained, [line for line in acts if not line.startswith("link")], "NotQuiescent: ", "t", "r.slowly"),
             ("it begins elsewhere", start[:4] + start[5:] + drained, acts, "ManagerDied: it "),
-            ("it asks for no gate", [line for line in start if not line.startswith("close")] + ["ready"], acts, "NotQuiescent: t"),
+            ("it asks for no gate", [line for line in start if not line.startswith("close")] + ["ready"], acts, "NotQuiescent: ", "t"),
             ("it says what isn't known", start[:9] + ["nonsense"] + start[9:], acts, "ManagerDied: it "),
             ("it names a port that isn't", [line.replace("close ", "close 9") for line in start], acts, "ManagerDied: it names port 9"),
         ]
@@ -182,9 +243,9 @@ async def try_managers(tries):
             await with_hasty(tries, system, *row)
         with talking(system, PATIENT, start + drained, [line for line in acts if not line.startswith("link")]):
             tries.same("it leads elsewhere", "ManagerDied: it leads to another system than that which was asked for; goes on as before", await changed(system))
-        grace, system.grace = system.grace, 1
+        grace, system.grace = system.grace, 5
         with talking(system, SILENT, start + drained, acts):
-            tries.same("it is silent", "ManagerDied: silent for 1 seconds; goes on as before", await changed(system))
+            tries.same("it is silent", "ManagerDied: silent for 5 seconds; goes on as before", await changed(system))
         system.grace = grace
         with talking(system, PATIENT, start + drained, acts):
             tries.same("it says what is right", "made", await changed(system))

@@ -2,6 +2,7 @@
 import asyncio
 import contextlib
 import threading
+import time
 
 from tareslater import Begins, Component, Requires, System, provides
 
@@ -82,7 +83,7 @@ class Store(Component):
 
     @provides(thread=True)
     def write(self, event):
-        event.wait(20)
+        event.wait(LONG)
         self.written += 1
 
     def state(self):
@@ -106,6 +107,7 @@ TEXT = """component Small(int v) {
 
 
 GRACE = 60  # seconds for managers that are slow, as the plain statements are on a busy machine
+LONG = 600  # and so many nothing here lasts
 
 
 @contextlib.asynccontextmanager
@@ -141,12 +143,24 @@ async def changed(system, call="Small(1)", **words):
 async def goes_on(system, placed, store):
     """Whether the system is that which it was, its traffic goes on, all gates are open, and nothing is lost."""
     before = system["c"].done
-    await asyncio.sleep(0.03)
+    is_going = await until(lambda: system["c"].done > before)
     if system.placed is not placed or system["t"] is not store:
         return "ANOTHER SYSTEM STANDS"
-    if system["c"].done == before:
-        return "NOTHING GOES ON"
-    return "goes on as before"
+    return "goes on as before" if is_going else "NOTHING GOES ON"
+
+
+async def until(holds):
+    """Waits until this holds; whether it does."""
+    end = time.monotonic() + GRACE
+    while not holds() and time.monotonic() < end:
+        await asyncio.sleep(0.002)
+    return holds()
+
+
+async def closing(system, change, *paths):
+    """Waits until a change that was begun has closed the gates of these requirements, or has ended."""
+    gates = [system[path]._handles[name].gate for path, name in (path.split(".") for path in paths)]
+    await until(lambda: change.done() or not any(gate.is_open for gate in gates))
 
 
 @contextlib.asynccontextmanager
