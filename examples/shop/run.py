@@ -24,6 +24,7 @@ from tareslater.board import Board
 from tareslater.manager import manager
 
 WITHIN = 5  # seconds
+PATIENCE = 60  # seconds for mails that are still to be sent
 BATCHES = {"stock": "stock", "mail": "mail"}
 
 
@@ -122,7 +123,7 @@ async def followed(system, is_wanted):
 
 
 async def trial(connections, seconds, does=changes, command=None, start="Shop(1)", log=None, board=False):
-    """Runs the shop under load while `does` changes it. What was lost is told."""
+    """Runs the shop under load while `does` changes it, which may give orders of its own that it was told are taken. What was lost is told."""
     system = System(wiring(), shop.COMPONENTS, command or manager(), log=log, grace=60)
     with tempfile.TemporaryDirectory() as folder:
         before = os.getcwd()
@@ -146,10 +147,11 @@ async def under_load(system, connections, seconds, does):
     clients = await asyncio.create_subprocess_exec(sys.executable, *words, stdout=asyncio.subprocess.PIPE)
     answer = asyncio.create_task(clients.communicate())
     try:
-        await does(system, seconds)
+        own = await does(system, seconds)
     finally:
         told = json.loads((await answer)[0])
-    until = time.monotonic() + 5
+    told["orders"] += own or []
+    until = time.monotonic() + PATIENCE
     while system["mail"].queue and time.monotonic() < until:
         await asyncio.sleep(0.05)
     waits = sorted(told["waits"])

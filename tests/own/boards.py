@@ -16,7 +16,7 @@ import urllib.request
 import board_in_browser
 import browser
 import processes
-from small import ends, planted, running, writing
+from small import ends, planted, running, until, writing
 from tareslater import board as of_board
 from tareslater.board import FILES, HEADERS, HOST, NAMES, Board
 
@@ -350,10 +350,8 @@ async def try_under_way(tries):
             await aside(stream.until, lambda name, now: name == "now" and now["change"] and now["change"]["phase"] == "waiting")
             await board.close()
             tries.same("a change as the board is closed", (503, {"ended": "Closed", "said": "the board was closed"}), await changing)
-            while system.under_way:
-                await asyncio.sleep(0.02)
-            await asyncio.sleep(0.05)
-            tries.want("all is as before", system.placed is placed and system["c"].done > before)
+            await until(lambda: not system.under_way)
+            tries.want("all is as before", await until(lambda: system["c"].done > before) and system.placed is placed)
             await board.open()
         tries.same("and a change is made", "made", (await asked(board, "/change", question))[1]["ended"])
 

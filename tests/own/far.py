@@ -34,6 +34,7 @@ class Asker(Component):
 
     store = Begins()
     wait = Begins()
+    waits = Begins()
     go = Begins()
     late = Begins()
     odd = Begins()
@@ -48,23 +49,30 @@ class Server(Component):
         return await self.store(value)
 
     def __init__(self, version):
-        self.event = asyncio.Event()
+        self.event, self.waiting = asyncio.Event(), 0
 
     @provides(store)
     async def wait(self):
         """Waits until `go` is called."""
+        self.waiting += 1
         await self.event.wait()
         return await self.store(0)
+
+    @provides()
+    def waits(self):
+        """How many have begun to wait."""
+        return self.waiting
 
     @provides()
     def go(self):
         self.event.set()
 
-    @provides(slow)
-    async def late(self, seconds):
+    @provides(store, slow)
+    async def late(self, file):
         """Answers before what it began is done."""
-        self.rest = asyncio.ensure_future(self.slow(seconds))
-        await asyncio.sleep(0.01)
+        await self.store(0)  # so that the store is connected
+        self.rest = asyncio.ensure_future(self.slow(file))
+        await asyncio.sleep(0)
 
 
 class Store(Component):
@@ -82,8 +90,10 @@ class Store(Component):
         return value
 
     @provides()
-    async def slow(self, seconds):
-        await asyncio.sleep(seconds)
+    async def slow(self, file):
+        """Lasts until there is a file of this name."""
+        while not os.path.exists(file):
+            await asyncio.sleep(0.005)
         self.sum += 1000000
 
     @provides(thread=True)
@@ -110,7 +120,7 @@ TEXT = """component All(int v, int w) {
   array f[2]:Front(0);
   inst a:Asker(0); s:Server(w); t:Store(v);
   forall i:0..1 { inst f[i]; bind f[i].out -- s.serve; }
-  bind s.store -- t.put; s.slow -- t.slow; a.store -- t.sum_of; a.wait -- s.wait; a.go -- s.go; a.late -- s.late; a.odd -- t.odd;
+  bind s.store -- t.put; s.slow -- t.slow; a.store -- t.sum_of; a.wait -- s.wait; a.waits -- s.waits; a.go -- s.go; a.late -- s.late; a.odd -- t.odd;
 }"""
 
 

@@ -1,7 +1,7 @@
 """A front that holds a socket hands it over: clients stay connected, and each line is answered."""
 import asyncio
 
-from small import running
+from small import running, until
 from tareslater import Begins, Component, Removed, provides
 
 
@@ -77,9 +77,9 @@ async def try_front(tries):
         told, going = [], [True]
         clients = [asyncio.ensure_future(client(port, told, going)) for _ in range(20)]
         for version in range(1, 6):
-            await asyncio.sleep(0.1)
-            await system.change("S(%d)" % version, within=2, moving={"f": "f"})
-        await asyncio.sleep(0.1)
+            await until(lambda: version - 1 in told)
+            await system.change("S(%d)" % version, within=20, moving={"f": "f"})
+        await until(lambda: version in told)
         going.clear()
         ended = await asyncio.gather(*clients, return_exceptions=True)
         tries.same("what clients met", [], [fault for fault in ended if fault])

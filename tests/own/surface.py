@@ -3,7 +3,7 @@ import asyncio
 import contextvars
 import threading
 
-from small import CLASSES, changed, ends, running, writing
+from small import CLASSES, changed, closing, ends, running, until, writing
 from tareslater import Begins, Component, Misuse, Removed, Requires, System, provides
 
 LEAST = """component Small(int v) { inst c:Client(0); r:Caller(0); s:Server(0); t:Store(v); bind c.out -- s.ask; s.store -- t.put; s.other -- t.put; }
@@ -19,8 +19,7 @@ async def try_changes(tries):
             made = await system.change("Small(%d)" % version, moving={"t": "t"})
             tries.same("what is held", ["c.out", "r.asking", "r.detached", "r.slowly", "r.undeclared"], sorted(made.held))
             tries.want("times", 0 < made.waited_seconds <= made.held_seconds <= made.seconds, made[:4])
-        await asyncio.sleep(0.05)
-        tries.want("work goes on", client.done > 10, client.done)
+        tries.want("work goes on", await until(lambda: client.done > 10), client.done)
         store = system["t"]
     tries.same("nothing is cut off, also at the end", client.done, store.count)
 
@@ -81,19 +80,19 @@ async def try_refusals(tries):
 async def try_given_up(tries):
     """A root that lasts longer than the change may take; then time enough. A client that goes leaves its thread to be waited for."""
     async with running(tries.manager) as system:
-        event, loop = threading.Event(), asyncio.get_running_loop()
+        event, loop, store = threading.Event(), asyncio.get_running_loop(), system["t"]
         work = asyncio.ensure_future(system["r"].slowly(event))
-        await asyncio.sleep(0.02)
+        await until(lambda: store._serving)
         work.cancel()
         await asyncio.sleep(0)
         tries.same("too short", "GivenUp: still under way: r.slowly; goes on as before", await changed(system, within=0.1))
         loop.call_later(1, event.set)
-        tries.same("long enough", "made", await changed(system, within=9))
+        tries.same("long enough", "made", await changed(system, within=20))
         tries.same("the write is there", 1, system["t"].written)
         async with writing(system):
-            change = asyncio.ensure_future(changed(system, "Small(2)", within=9))
-            await asyncio.sleep(1)
-            tries.want("cancelled while it waits", change.cancel())
+            change = asyncio.ensure_future(changed(system, "Small(2)", within=60))
+            await closing(system, change, "r.slowly")
+            tries.want("cancelled while it waits", not change.done() and not system["r"].slowly.gate.is_open and change.cancel())
             await asyncio.wait([change])
         tries.same("after a change that was cancelled", "made", await changed(system, "Small(3)"))
 
@@ -102,10 +101,13 @@ async def try_sessions(tries):
     """What was told is told once more, all at once: the manager says the same."""
     async with running(tries.manager) as system:
         old = system.call
-        for within, call in ((9, "Small(1)"), (9, "Small(2)")):
+        for within, call in ((9, "Small(1)"), (20, "Small(2)")):
             async with writing(system) as event:
-                asyncio.get_running_loop().call_later(0.6, event.set)
-                made = await system.change(call, within=within, moving={"t": "t"})
+                changing = asyncio.ensure_future(system.change(call, within=within, moving={"t": "t"}))
+                await closing(system, changing, "r.slowly")
+                await until(lambda: changing.done() or "> round" in system.under_way.change.session.lines)
+                event.set()
+                made = await changing
             said = "".join(line[2:] + "\n" for line in made.lines if line.startswith("> "))
             process = await asyncio.create_subprocess_exec(
                 *tries.manager, "apply", "20", system.file, *old, "--", *system.call, stdin=asyncio.subprocess.PIPE, stdout=asyncio.subprocess.PIPE
@@ -168,14 +170,19 @@ ROWS = """component Row(int n) {
 }"""
 
 
+def counted(system, count):
+    """How often that of so many workers has worked which did least."""
+    return min(system["w[%d]" % index].count for index in range(count))
+
+
 async def try_arrays(tries):
     async with running(tries.manager, ROWS, [Spread, Pool, Worker], "Row(3)") as system:
-        await asyncio.sleep(0.05)
+        await until(lambda: counted(system, 3) > 1)
         plan = await system.plan("Row(5)")
         tries.same("a longer row", (["s.out[0]", "s.out[1]", "s.out[2]"], ["p", "s"], ["p", "s", "w[3]", "w[4]"]), (plan[0], sorted(plan[1]), sorted(plan[2])))
         await system.change("Row(5)")
         tries.same("integers of its own", (500, 5, 5), (system["p"].first, len(system["p"].workers), len(system["s"].out)))
-        await asyncio.sleep(0.05)
+        await until(lambda: counted(system, 5) > 0)
         rows = [system["w[%d]" % index].count for index in range(5)]
         tries.want("each worker works, the old ones longer", min(rows) > 0 and min(rows[:3]) > max(rows[3:]), rows)
         tries.same("a shorter row would lose", ["w[2]", "w[3]", "w[4]"], sorted((await system.plan("Row(2)")).lost))

@@ -4,7 +4,7 @@ import contextlib
 import threading
 import time
 
-from small import ends, running
+from small import LONG, ends, running, until
 from tareslater import Begins, Component, Requires, provides
 
 
@@ -92,11 +92,11 @@ async def try_crowd(tries):
     async with running(tries.manager, TEXT, [Crowd, Adder, Store, Log], "Line(0)") as system:
         for turn in range(1, 11):
             await asyncio.sleep(0.05)
-            await system.change("Line(%d)" % turn, within=2, moving={"s": "s"})
+            await system.change("Line(%d)" % turn, within=20, moving={"s": "s"})
         crowd = system["c"]
         crowd.going = False
         await asyncio.get_running_loop().run_in_executor(None, lambda: [thread.join() for thread in crowd.threads])
-        await asyncio.sleep(0.1)
+        await until(lambda: crowd.out.gate.count == 0)
         counts = crowd.done, system["s"].sum, system["l"].sum
         tries.want("eight at once over ten changes: %d each" % crowd.done, len(set(counts)) == 1 and crowd.done > 100, counts)
         tries.same("faults of threads", [], crowd.faults + system.faults)
@@ -123,7 +123,7 @@ class Waits(Component):
     @provides(thread=True)
     def last(self, event):
         self.begun += 1
-        event.wait(20)
+        event.wait(LONG)
         return self.begun
 
 
@@ -132,14 +132,14 @@ async def try_cancelled(tries):
     text = "component S(int v) { inst k:Kept(0); s:Stuck(0); w:Waits(v); bind k.out -- s.first; s.last -- w.last; }"
     async with running(tries.manager, text, [Kept, Stuck, Waits], "S(0)", threads=2) as system:
         event = threading.Event()
+        waits = system["w"]
         clients = [asyncio.ensure_future(system["k"].out(event)) for _ in range(6)]
-        await asyncio.sleep(0.05)
+        await until(lambda: waits.begun == 2)
         for client in clients:
             client.cancel()
-        await asyncio.sleep(0.05)
+        await until(lambda: all(client.done() for client in clients))
         came = await ends(system.change("S(1)", within=0.1))
         tries.same("services whose clients went are waited for", "GivenUp: still under way: k.out", came)
-        waits = system["w"]
         tries.same("two have threads, four wait for one", 2, waits.begun)
         event.set()
         await system.change("S(1)", within=9)

@@ -1,4 +1,8 @@
-"""The shop under load: its five changes, and faults that are planted in it and in the package, with what catches each or what is lost."""
+"""The shop under load: its five changes, and faults that are planted in it and in the package, with what catches each or what is lost.
+
+Each fault is met for certain, however busy the machine is: during each change an order is in the middle of the stock, which holds it until
+the row lets it go.
+"""
 import asyncio
 import contextlib
 import io
@@ -7,14 +11,17 @@ import os
 import subprocess
 import sys
 import tempfile
-import time
+import threading
 
+import load
 import run
 import shop
 from planted import close_without_waiting, leaking, left_out
 from program import TOP
-from small import planted
+from small import LONG, closing, planted, until
 from tareslater import changes, gates, session, sites
+
+HELD = ("front.order", "front.report", "front.search", "mail.post")  # by each change of the stock and of the mail
 
 
 async def uncounted(change):
@@ -31,53 +38,94 @@ async def in_hand(mail):
         await mail.post([number])
 
 
-def slowly(stock, number, item, count):
-    """Reads, works for two milliseconds, and writes."""
-    with stock.lock:
-        sold = stock.sold[item]
-        time.sleep(0.002)
-        stock.sold[item] = sold + count
-        stock.unwritten.append((number, item, count))
+class Order:
+    """An order of a row's own, beside those of the load."""
+
+    def __init__(self, number):
+        self.row, self.is_in, self.let_go = (number, number % load.ITEMS, 1), threading.Event(), threading.Event()
+
+    async def ask(self, system):
+        """Whether its client is told that it is taken."""
+        asked = dict(zip(("number", "item", "count"), self.row))
+        return await run.ask(system["front"].port, {"do": "order", "with": asked}) == {"ok": True}
+
+
+class Stock:
+    """Stands in the place of the shop's stock: it keeps a row's own orders until they are let go, and writes none into the database before the
+    end, so that no other order fails where an old stock goes on."""
+
+    def __init__(self, *orders):
+        self.orders = {order.row[0]: order for order in orders}
+
+    def reserve(self, stock, number, item, count):
+        order = self.orders.get(number)
+        if order:
+            order.is_in.set()
+            order.let_go.wait(LONG)
+        with stock.lock:
+            stock.sold[item] += count
+            stock.unwritten.append((number, item, count))
         return True
 
 
 SUMMARY = os.path.join(TOP, "tools", "session_summary")
-SLOW = (shop.Stock.provisions["reserve"], "handler", slowly)
 UNCOUNTED = (changes.Change, "judge", uncounted)
 LEAK, HASTE = (gates.Gate, "try_enter", leaking), (sites.Site, "close_gate", close_without_waiting)
-# a fault, what the package raises then, and whether something is lost at the end
+CLOSED, FOLLOWED, ENDED = "the gates are closed", "another has come in behind it", "the change has ended"
+# a fault, when the order in the middle is let go, what the package raises at each change then, and whether something is lost at the end
 FAULTS = [
-    ("nothing is wrong", [], set(), False),
-    ("a slow stock, and nothing is wrong", [SLOW], set(), False),
-    ("the gate doesn't hold", [LEAK], {"GivenUp", "NotQuiescent", "Refused"}, False),
-    ("a close isn't waited for", [SLOW, HASTE], {"NotQuiescent"}, False),
-    ("`idle` is left out", [(session.Session, "say", left_out("idle"))], {"GivenUp"}, False),
-    ("`busy` is left out", [SLOW, (session.Session, "say", left_out("busy"))], {"NotQuiescent", "Refused"}, False),
-    ("a slow stock that isn't waited for, nor counted", [SLOW, HASTE, UNCOUNTED], set(), True),
-    ("a mail in hand while its sender waits at the gate", [(shop.Mail, "run", in_hand)], set(), True),
-    ("a state isn't handed over", [(shop.Mail, "take", lambda mail, state: None)], set(), True),
+    ("nothing is wrong", [], CLOSED, {None}, False),
+    ("nothing is wrong, and an order lasts long", [], ENDED, {"GivenUp"}, False),
+    ("the gate doesn't hold", [LEAK], FOLLOWED, {"GivenUp"}, False),
+    ("a close isn't waited for", [HASTE], ENDED, {"NotQuiescent"}, False),
+    ("`idle` is left out", [(session.Session, "say", left_out("idle"))], CLOSED, {"GivenUp"}, False),
+    ("`busy` is left out", [(session.Session, "say", left_out("busy"))], ENDED, {"NotQuiescent", "Refused"}, False),
+    ("a close isn't waited for, nor counted", [HASTE, UNCOUNTED], ENDED, {None}, True),
+    ("a mail in hand while its sender waits at the gate", [(shop.Mail, "run", in_hand)], CLOSED, {None}, True),
+    ("a state isn't handed over", [(shop.Mail, "take", lambda mail, state: None)], CLOSED, {None}, True),
 ]
+TIMES, SECONDS, PATIENCE = 3, 3, 60
 
 
-async def five_times(system, seconds, within, raised):
-    """Stock and mail are replaced five times while all goes on."""
-    for _ in range(5):
-        await asyncio.sleep(seconds / 10)
-        try:
-            await system.change("Shop(%d)" % (3 - int(system.call[1])), within=within, moving=run.BATCHES)
-        except Exception as fault:
-            raised.append(type(fault).__name__)
+async def in_the_middle(system, orders, when, within):
+    """What a change of stock and mail raises while an order is in the middle; it is waited for what is said to the clients of all orders."""
+    first, behind = orders
+    asking = [asyncio.ensure_future(first.ask(system))]
+    await until(first.is_in.is_set)
+    changing = asyncio.ensure_future(system.change("Shop(%d)" % (3 - int(system.call[1])), within=within, moving=run.BATCHES))
+    await closing(system, changing, *HELD)
+    if when == FOLLOWED:
+        asking.append(asyncio.ensure_future(behind.ask(system)))
+        await until(behind.is_in.is_set)
+    if when != ENDED:
+        first.let_go.set()
+    (raised,) = await asyncio.gather(changing, return_exceptions=True)
+    first.let_go.set()
+    behind.let_go.set()
+    told = await asyncio.gather(*asking)
+    return type(raised).__name__ if isinstance(raised, Exception) else None, [order.row for order, is_told in zip(orders, told) if is_told]
+
+
+async def changed_so_often(system, when, within, raised):
+    """Stock and mail are replaced again and again. The orders beside those of the load."""
+    own = []
+    for turn in range(TIMES):
+        orders = Order(10**9 + 2 * turn), Order(10**9 + 2 * turn + 1)
+        with planted((shop.Stock.provisions["reserve"], "handler", Stock(*orders).reserve)):
+            fault, told = await in_the_middle(system, orders, when, within)
+        raised.append(fault)
+        own += told
+    return own
 
 
 def try_faults(tries):
     """Either a fault is caught, and then nothing is lost; or something is, and the shop's own books show it."""
-    seconds = 4
-    for name, faults, wanted, loses in FAULTS[:1] if tries.quick else FAULTS:
-        raised, within = [], 0.4 if "GivenUp" in wanted else 5
+    for name, faults, when, wanted, loses in FAULTS[:1] if tries.quick else FAULTS:
+        raised, within = [], 0.5 if wanted == {"GivenUp"} else PATIENCE
         with planted(*faults), contextlib.redirect_stdout(io.StringIO()):
-            found = asyncio.run(run.trial(12, seconds, lambda system, seconds: five_times(system, seconds, within, raised), tries.manager))
-        print("%-52s raised %s; at the end: %s" % (name, sorted(set(raised)) or "nothing", "; ".join(found)[:90] or "nothing was lost"), flush=True)
-        tries.want("%s: what is raised" % name, set(raised) <= wanted and bool(raised) == bool(wanted), raised)
+            found = asyncio.run(run.trial(12, SECONDS, lambda system, _: changed_so_often(system, when, within, raised), tries.manager))
+        print("%-52s raised %s; at the end: %s" % (name, sorted(set(map(str, raised))), "; ".join(found)[:90] or "nothing was lost"), flush=True)
+        tries.want("%s: what is raised" % name, len(raised) == TIMES and set(raised) <= wanted, raised)
         tries.want("%s: what is lost" % name, bool(found) == loses, found)
 
 
