@@ -1,10 +1,14 @@
 """Pictures of reports: the overview of its changes, and each transaction."""
+import os
 import re
+import shutil
+import sys
+import tempfile
 import time
 import xml.etree.ElementTree as elements
 
 import tables
-from tries import BYTES, EXAMPLES, SKIPPED, TABLE
+from tries import BYTES, EXAMPLES, REST, SKIPPED, TABLE, TOOLS, Came
 
 SVG = "{http://www.w3.org/2000/svg}"
 
@@ -34,9 +38,9 @@ def drawn_on(picture, kind):
 
 
 class History:
-    """What the lines of a report say of paths: told once more for the pictures, by change."""
+    """What the lines of a report say of paths: told once more for the pictures, by change, with how many rounds each waited."""
 
-    def __init__(self, report):
+    def __init__(self, report, rounds):
         self.paths, self.owners, self.changes = {}, [], []
         for words in (line.split(" ") for line in report.split("\nstop\n")[0].split("\n")):
             if words[0] in ("start", "change"):
@@ -54,21 +58,22 @@ class History:
             elif words[0] in ("commit", "abandon", "skipped"):
                 self.changes[-1]["end"] = words[0]
         self.changes = [change for change in self.changes if change["name"] == "change"]
+        for change, waited in zip(self.changes, rounds):
+            change["waited"] = waited
 
     def all(self, *names):
         return sorted(path for change in self.changes for name in names for path in change[name])
 
-    def held(self, end):
-        """The paths that each change held which ended so; that which was drained last stands last."""
-        changes = [change for change in self.changes if change["end"] == end and change["drained"]]
+    def held(self, end, least=0):
+        """The paths that each change held which ended so, and waited for so many rounds at least; that which was drained last stands last."""
+        changes = [change for change in self.changes if change["end"] == end and change["drained"] and change["waited"] >= least]
         return [sorted(set(change["close"]), key=lambda path: path == change["drained"][-1]) for change in changes]
 
-
     def waits(self):
-        """How many lines each held path waited for in a committed change: from its first close to its last drained."""
+        """How many lines each path waited for in a committed change that waited: from its first close to its last drained."""
         found = []
         for change in self.changes:
-            for path in sorted(set(change["close"])) if change["end"] == "commit" else ():
+            for path in sorted(set(change["close"])) if change["end"] == "commit" and change["waited"] else ():
                 places = [number for number, line in enumerate(change["lines"]) if line[1] == path]
                 found.append((path, places[-1] - places[0] + 1))
         return sorted(found)
@@ -83,21 +88,58 @@ def try_waits(tries, script, picture, history):
     tries.want("waits of %r" % script, [path for path, _ in bars] == [path for path, _ in history.waits()] and len(steps) <= 1, (bars, history.waits()))
 
 
+# how many rounds each change waits that is drawn so, and what stands in its heading
+DRAWN = [
+    (TABLE, [(8, "Table(3,4,0): committed, waited 8 rounds")]),
+    (SKIPPED, [(0, "Line(3): given up, waited 0 rounds"), (0, "Line(4): skipped")]),
+    (REST, [(0, "Line(3): committed, waited for nothing")]),
+    (EXAMPLES + "line-grows.txt", [(1, "Line(3): committed, waited 1 round")]),
+    (EXAMPLES + "line-back.txt", [(1, "Line(3): committed, waited 1 round"), (2, "Line(2): committed, waited 2 rounds")]),
+    (EXAMPLES + "line-waits.txt", [(0, "Line(3): given up, waited 0 rounds")]),
+    (
+        EXAMPLES + "fan-changes.txt",
+        [
+            *[(2, "Fan(3,5,2): committed, waited 2 rounds"), (0, "Fan(4,5,2): committed")],
+            *[(5, "Fan(4,5,4): committed, waited 5 rounds"), (1, "Fan(4,9,4): given up, waited 1 round")],
+        ],
+    ),
+]
+
+
 def try_overview(tries):
-    """The picture has a sign for each line of a change that it draws, bars of what was held, a lane for each path, and headings that don't
-    overlap."""
-    for script in (TABLE, SKIPPED, *(EXAMPLES + name for name in ("line-grows.txt", "line-back.txt", "line-waits.txt", "fan-changes.txt"))):
+    """The picture has a sign for each line of a change that it draws, bars of what was held and of what was waited for, a lane for each path,
+    and headings that don't overlap."""
+    for script, changes in DRAWN:
         report = tries.report(script)
-        picture, history = drawn(tries, "report_overview", report), History(report)
+        picture, history = drawn(tries, "report_overview", report), History(report, [waited for waited, _ in changes])
         for kind in ("made", "removed", "open", "state"):
             tries.same("%s of %r" % (kind, script), history.all(kind), drawn_on(picture, kind))
-        committed, given_up = history.held("commit"), history.held("abandon")
         try_waits(tries, script, picture, history)
-        bars = {"waiting": committed, "held": committed, "drained": [paths[:-1] for paths in committed], "given-up": given_up}
+        waited = history.held("commit", 1)
+        bars = {"waiting": waited, "drained": [paths[:-1] for paths in waited], "closed": [], "held": history.held("commit"), "given-up": history.held("abandon")}
         for kind, paths in bars.items():
             tries.same("%s of %r" % (kind, script), sorted(sum(paths, [])), drawn_on(picture, kind))
+        headings = [text.text[7:] for text in picture.findall(SVG + "text") if text.text.startswith("change ")]
+        tries.same("how long changes of %r waited" % script, [heading for _, heading in changes], headings)
         tries.same("lanes of %r" % script, sorted(set(history.all("close", "made", "removed"))), sorted(lanes_of(picture).values()))
         try_headings(tries, script, picture, [line for line in report.split("\nstop\n")[0].split("\n") if re.match("(start|change|run|finish) ", line)])
+
+
+def try_unknown(tries):
+    """Where it can't be known how long a change waited, nothing is drawn or said of a wait: in an order that no rounds have, and without the
+    plain statements."""
+    report = tries.report(EXAMPLES + "line-grows.txt")
+    other = report.replace("drained 0 1\ndrained 1 2\n", "drained 1 2\ndrained 0 1\n", 1)
+    picture = drawn(tries, "report_overview", other)
+    bars = {"waiting": [], "closed": ["b", "s"], "drained": ["s"], "held": ["b", "s"]}
+    tries.same("bars of threads", bars, {kind: drawn_on(picture, kind) for kind in bars})
+    headings = [text.text for text in picture.findall(SVG + "text") if text.text.startswith("change ")]
+    tries.same("the heading of a change on threads", ["change Line(3): committed"], headings)
+    with tempfile.TemporaryDirectory() as folder:
+        shutil.copytree(TOOLS, os.path.join(folder, "tools"))
+        shutil.copytree(os.path.join(os.path.dirname(TOOLS), "docs"), os.path.join(folder, "docs"))
+        came = tries.run([sys.executable, os.path.join(folder, "tools", "report_overview")], report)
+    tries.same("report_overview without the plain statements", (Came(0, "", ""), True), (came._replace(text=""), ">change Line(3): committed<" in came.text))
 
 
 def try_headings(tries, script, picture, lines):
@@ -111,7 +153,7 @@ def try_headings(tries, script, picture, lines):
             tries.want("headings of %r don't overlap" % script, x + 6 * length <= behind, row)
     for tint, how in (("commit", "committed"), ("abandon", "given up"), ("skipped", "skipped")):
         tinted = [rect for rect in picture.findall(SVG + "rect") if rect.get("class") == tint]
-        tries.same("%s of %r" % (tint, script), len([heading for heading in headings if heading.text.endswith(": " + how)]), len(tinted))
+        tries.same("%s of %r" % (tint, script), len([heading for heading in headings if re.search(": %s\\b" % how, heading.text)]), len(tinted))
     tries.want("%r is drawn within 1,000 pixels" % script, int(picture.get("width")) <= 1000, picture.get("width"))
 
 
@@ -155,4 +197,4 @@ def try_report_to_svg(tries):
             tries.same("%s in %r" % (word, script), len(re.findall(r"^%s$" % word, report, re.M)), len(marks))
 
 
-TRIED = (try_overview, try_large, try_report_to_svg)
+TRIED = (try_overview, try_unknown, try_large, try_report_to_svg)

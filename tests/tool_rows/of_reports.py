@@ -6,10 +6,7 @@ import tempfile
 import answers
 import judged
 from of_pictures import drawn
-from tries import EMPTY, EXAMPLES, LINE, SKIPPED, TABLE, Came
-
-# a change of a system in which nothing is under way
-REST = "use examples/line.dar\nstart Line(2)\nchange to Line(3) within 0\nfinish within 99\nend\n"
+from tries import EMPTY, EXAMPLES, LINE, REST, SKIPPED, TABLE, Came
 
 
 def try_summary(tries):

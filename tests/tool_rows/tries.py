@@ -16,6 +16,8 @@ LINE = "component source(int n) { require out; }\ncomponent buffer(int cap) { pr
 TABLE = "use examples/table.dar\nstart Table(3,4,9)\nrun 5\nchange to Table(3,4,0) within 50\nfinish within 500\nend\n"
 # a system of no nodes, whose report has no logs
 EMPTY = "report 2\nstart None()\ncommit\nchange None(1)\ncommit\nfinish 9 0\nstop\nstatus 0\n"
+# a change of a system in which nothing is under way
+REST = "use examples/line.dar\nstart Line(2)\nchange to Line(3) within 0\nfinish within 99\nend\n"
 # a change behind one that is given up, and an end before all is done
 SKIPPED = "use examples/line.dar\nstart Line(2)\nrun 2\nchange to Line(3) within 0\nchange to Line(4) within 9\nfinish within 2\nend\n"
 
