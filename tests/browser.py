@@ -79,7 +79,7 @@ class Browser:
         self.call("Emulation.setEmulatedMedia", features=[{"name": "prefers-color-scheme", "value": name}])
 
     def open(self, file, behind=""):
-        """Opens a file, and waits until it is there; gives how many seconds that took."""
+        """Opens a file, and waits until it is drawn; gives how many seconds that took by the clock."""
         return self.visit("file://%s%s" % (file, behind))
 
     def visit(self, address):
@@ -89,6 +89,7 @@ class Browser:
         self.call("Page.navigate", url=address)
         while self.ask("document.readyState") != "complete" or self.ask("location.href") == "about:blank":
             time.sleep(0.01)
+        self.settle()
         return time.monotonic() - begun
 
     def processor_seconds(self):
@@ -130,6 +131,13 @@ class Browser:
         """Waits until two pictures were drawn."""
         self.ask("new Promise((go) => requestAnimationFrame(() => requestAnimationFrame(() => setTimeout(go, 0))))")
 
+    def drag(self, x, y, across, down):
+        """Takes hold at a place, goes so far in steps, and lets go."""
+        where = [(x + across * part / 4, y + down * part / 4) for part in range(5)]
+        for kind, at in [("mousePressed", where[0]), *(("mouseMoved", at) for at in where[1:]), ("mouseReleased", where[-1])]:
+            self.call("Input.dispatchMouseEvent", type=kind, x=at[0], y=at[1], button="left", buttons=int(kind != "mouseReleased"), clickCount=1)
+        self.settle()
+
     def wheel(self, x, y, down):
         self.call("Input.dispatchMouseEvent", type="mouseWheel", x=x, y=y, deltaX=0, deltaY=down)
 
@@ -141,7 +149,8 @@ class Browser:
     # ---- what came to pass
 
     def faults(self):
-        """What the page's scripts threw and its console says."""
+        """What the page's scripts threw and its console says, up to now."""
+        self.ask("0")
         found = [came["params"]["exceptionDetails"]["exception"].get("description", "") for came in self.events if came.get("method") == "Runtime.exceptionThrown"]
         return found + [came["params"]["entry"]["text"] for came in self.events if came.get("method") == "Log.entryAdded"]
 

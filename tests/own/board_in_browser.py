@@ -2,10 +2,12 @@
 import asyncio
 import functools
 import os
+import re
 import time
 
 import browser
-from small import CLASSES, TEXT, running, writing
+from small import CLASSES, TEXT, Client, Server, Store, running, writing
+from tareslater import Component, Requires, provides
 from tareslater.board import Board
 
 WIDE, NARROW = (1280, 1000), (400, 1500)
@@ -14,10 +16,31 @@ SECONDS = 300  # of a machine that is busy
 LANES = """component Lane(int v) { inst c:Client(0); s:Server(0); t:Store(v); bind c.out -- s.ask; s.store -- t.put; s.other -- t.put; }
 component Lanes(int v) { array l[3]:Lane(v); forall i:0..2 inst l[i](v); inst r:Caller(0); t:Store(v); bind r.slowly -- t.write; }"""
 
-# how many numbers of links overlap a box
-ON_BOXES = """(() => { const of = (it) => it.getBoundingClientRect(), boxes = [...document.querySelectorAll('#graph .box:not(.frame) > .front')].map(of);
-return [...document.querySelectorAll('#graph .rate')].filter((it) => it.textContent && boxes.some((box) => { const own = of(it);
-  return own.left < box.right && box.left < own.right && own.top < box.bottom && box.top < own.bottom; })).length; })()"""
+class Hub(Component):
+    """Calls six services of five components, as the shop's catalog does."""
+
+    audit = Requires()
+    cache = Requires()
+    journal = Requires()
+    mail = Requires()
+    scan = Requires()
+    stock = Requires()
+
+    @provides(audit, cache, journal, mail, scan, stock)
+    async def ask(self, value):
+        for each in (self.audit, self.cache, self.journal, self.mail, self.scan, self.stock):
+            await each(value)
+
+
+HUB = """component Hubs(int v) { inst front:Client(0); catalog:Hub(0); audit:Store(v); cache:Server(0); journal:Store(v); mail:Server(0); stock:Store(v); post:Store(v);
+  bind front.out -- catalog.ask; catalog.audit -- audit.put; catalog.cache -- cache.ask; cache.store -- stock.put; cache.other -- stock.put; catalog.journal -- journal.put;
+  catalog.mail -- mail.ask; mail.store -- post.put; mail.other -- post.put; catalog.scan -- stock.put; catalog.stock -- stock.put; }"""
+
+# how many numbers of links lie on a box, and how many on another number
+OVERLAPS = """(() => { const of = (it) => it.getBoundingClientRect(), boxes = [...document.querySelectorAll('#graph .box:not(.frame) > .front')].map(of);
+const rates = [...document.querySelectorAll('#graph .rate')].filter((it) => it.textContent).map(of);
+const meets = (one, other) => one !== other && one.left < other.right && other.left < one.right && one.top < other.bottom && other.top < one.bottom;
+return [boxes, rates].map((all) => rates.filter((one) => all.some((other) => meets(one, other))).length); })()"""
 
 
 class Hand:
@@ -58,12 +81,17 @@ class Hand:
         self.browser.write(text)
 
     def faults(self):
-        """What went wrong on the page, but for answers that say why a change isn't made."""
-        return [fault for fault in self.browser.faults() if "status of 409" not in fault]
+        """What went wrong on the page, but for answers that say why a change isn't made, or that the token is wanted."""
+        return [fault for fault in self.browser.faults() if not re.search("status of (409|401)", fault)]
 
     def open(self, board):
+        self.faultless("what was done before")
         self.browser.visit(board.address)
-        self.until("it follows", "board.now.of['c.out'] || board.now.of['l[0].c.out']")
+        self.until("it follows", "Object.keys(board.now.of).length")
+
+    def faultless(self, what):
+        """Nothing went wrong on the page, up to now."""
+        self.same("faults of %s" % what, [], self.faults())
 
     def picture(self, name, is_whole=False):
         if self.pictures:
@@ -78,11 +106,10 @@ def try_following(hand, board, _):
     hand.same("boxes", ["c", "r", "s", "t"], hand.boxes())
     hand.until("requests a second on a link", "Number(document.querySelector('#graph .rate')?.textContent) > 0")
     hand.until("requests a second in the head", "/^4 components · [1-9][0-9.k]* requests a second · \\d+ requests? under way$/.test(document.querySelector('#about').innerText)")
-    hand.same("no number stands on a box", 0, hand.ask(ON_BOXES))
+    hand.same("numbers that lie on a box, or on another", [0, 0], hand.ask(OVERLAPS))
     hand.same("requirements", "c.out s.ask", " ".join(hand.texts("#requirements td")[:2]))
     hand.same("gates", ["open", ""], [hand.ask("board.cells.get(%r).lastChild.innerText" % name) for name in ("c.out", "r.loose")])
     hand.same("no change", "No change.", hand.text("#under-way"))
-    hand.same("no fault", [], hand.faults())
     own = "http://127.0.0.1:%d/" % board.port
     hand.same("it asks nobody else", [], [url for url in hand.browser.requests() if not url.startswith((own, "data:,", "about:"))])
     hand.browser.visit(own)
@@ -129,7 +156,6 @@ def try_change(hand, board, _):
     hand.write("#to", "None_such")
     hand.browser.click("#plan")
     hand.until("why there is no plan", "document.querySelector('#told').innerText.includes('NoTop None_such')")
-    hand.same("no fault", [], hand.faults())
 
 
 def try_waiting(hand, board, events):
@@ -138,24 +164,30 @@ def try_waiting(hand, board, events):
     events.begin()
     hand.until("a request is under way", "board.now.serving.t === 1")
     hand.same("what serves", "busy", hand.marks("t"))
-    hand.write("#to", "Small(2)")
-    hand.write("#within", "4")
-    hand.write("#losing", "t")
-    hand.browser.click("#plan")
-    hand.until("it is planned", "!document.querySelector('#make').disabled")
-    hand.browser.click("#make")
+    ask_for(hand, "Small(2)", 1)
+    hand.until("it is given up", "document.querySelector('#told').innerText === 'GivenUp: still under way: r.slowly'")
+    hand.until("and told", "document.querySelector('#past .failed')")
+    ask_for(hand, "Small(2)", 3600)
     hand.until("what it waits for", "document.querySelector('#under-way').innerText.includes('r.slowly (1)')")
     hand.same("what is marked", ("frozen", "frozen", "removed made busy"), (hand.marks("c"), hand.marks("r"), hand.marks("t")))
     hand.same("to what", "To Small(2)", hand.text("#under-way strong"))
     hand.same("what it holds", "c.out, r.asking, r.detached, r.slowly, r.undeclared", ", ".join(sorted(hand.texts("#under-way dd")[0].split(", "))))
     hand.until("gates are closed", "board.cells.get('c.out').lastChild.innerText === 'closed'")
     hand.picture("board-waiting")
-    hand.until("it is given up", "document.querySelector('#told').innerText === 'GivenUp: still under way: r.slowly'")
-    hand.until("and told", "document.querySelector('#past .failed')")
-    hand.until("nothing is under way", "document.querySelector('#under-way').innerText === 'No change.'")
     events.end()
+    hand.until("it is made then", "document.querySelector('#told').innerText.startsWith('Small(2) stands.')")
+    hand.until("nothing is under way", "document.querySelector('#under-way').innerText === 'No change.'")
     hand.until("gates are open", "board.cells.get('c.out').lastChild.innerText === 'open'")
-    hand.same("no fault", [], hand.faults())
+
+
+def ask_for(hand, call, within):
+    """Has a change made by which the store's state is lost."""
+    hand.write("#to", call)
+    hand.write("#within", str(within))
+    hand.write("#losing", "t")
+    hand.browser.click("#plan")
+    hand.until("it is planned", "!document.querySelector('#make').disabled")
+    hand.browser.click("#make")
 
 
 def try_folding(hand, board, _):
@@ -180,7 +212,33 @@ def try_folding(hand, board, _):
     hand.same("where it is, folded", True, hand.ask("document.querySelector('#graph [data-path=\"l[2]\"]').classList.contains('sought')"))
     hand.browser.click("#unfold")
     hand.same("all is opened", lanes + ["r", "t"], hand.boxes())
-    hand.same("no fault", [], hand.faults())
+
+
+def try_zoom(hand, board, _):
+    """The graph is made larger, and stays so when news come; then all of it is seen again."""
+    hand.open(board)
+    view = "document.querySelector('#graph').getAttribute('viewBox')"
+    whole = hand.ask(view)
+    hand.browser.click("#larger")
+    near = hand.ask(view)
+    hand.tries.want("in the browser: larger", 1.29 < float(whole.split(" ")[2]) / float(near.split(" ")[2]) < 1.31, (whole, near))
+    hand.ask("board.now.at = 0")
+    hand.until("news come", "board.now.at > 0")
+    hand.same("what is seen stays", near, hand.ask(view))
+    hand.browser.click("#smaller")
+    hand.browser.click("#fit")
+    hand.same("all of it", whole, hand.ask(view))
+
+
+def try_numbers(hand, board, _):
+    """Where many links begin at one box, each has its number, wide and narrow."""
+    for size in (WIDE, NARROW):
+        hand.browser.size(*size)
+        hand.open(board)
+        hand.until("rates", "[...document.querySelectorAll('#graph .rate')].filter((it) => it.textContent).length === 8")
+        hand.same("numbers that lie on a box, or on another, %d wide" % size[0], [0, 0], hand.ask(OVERLAPS))
+        hand.picture("board-hub-%d" % size[0])
+    hand.browser.size(*WIDE)
 
 
 def try_looks(hand, board, _):
@@ -222,6 +280,7 @@ async def with_board(hand, rows, **words):
             for row in rows:
                 try:
                     await loop.run_in_executor(None, functools.partial(row, hand, board, Slow(system, loop)))
+                    await loop.run_in_executor(None, hand.faultless, row.__name__)
                 except browser.Broken as broken:
                     hand.tries.want("%s comes to its end" % row.__name__, False, broken)
     if rows[-1] is try_looks:
@@ -234,6 +293,7 @@ def try_all(tries, program, pictures):
         driven.size(*WIDE)
         hand = Hand(tries, driven, pictures)
         asyncio.run(with_board(hand, [try_following, try_token, try_change, try_waiting], text=TEXT, classes=CLASSES))
-        asyncio.run(with_board(hand, [try_folding, try_looks], text=LANES, classes=CLASSES, call="Lanes(1)"))
+        asyncio.run(with_board(hand, [try_numbers], text=HUB, classes=[Client, Hub, Server, Store], call="Hubs(1)"))
+        asyncio.run(with_board(hand, [try_zoom, try_folding, try_looks], text=LANES, classes=CLASSES, call="Lanes(1)"))
     finally:
         driven.close()

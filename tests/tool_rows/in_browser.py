@@ -8,7 +8,7 @@ from browser import Broken, Browser
 from made_pages import event_of, moments_of
 
 WIDE, NARROW = (1280, 1000), (400, 1500)
-SECONDS = 2.0
+SECONDS, OFTEN = 2.0, 5
 
 
 class Hand:
@@ -18,10 +18,15 @@ class Hand:
         self.tries, self.pages, self.browser = tries, pages, browser
 
     def open(self, name, behind=""):
+        self.faultless("what was done before the page of %s is opened" % name)
         seconds = self.browser.open(self.pages.files[name], behind)
-        self.tries.same("the page of %s has no fault" % name, [], self.browser.faults())
+        self.faultless("the page of %s" % name)
         self.tries.same("the page of %s asks for nothing" % name, [], [url for url in self.browser.requests() if not url.startswith(("file://" + self.pages.files[name], "about:"))])
         return seconds
+
+    def faultless(self, what):
+        """Nothing went wrong on the page, up to now."""
+        self.tries.same("in the browser: faults of %s" % what, [], self.browser.faults())
 
     def text(self, selector):
         return self.browser.ask("document.querySelector(%s)?.innerText ?? null" % json.dumps(selector))
@@ -40,6 +45,18 @@ class Hand:
         """The links that are drawn so."""
         found = self.browser.ask("[...document.querySelectorAll('#graph .link.%s')].map((it) => `${it.dataset.from} ${it.dataset.to}`)" % kind)
         return sorted(found)
+
+    def place(self, selector):
+        """Where something is on the page: its left edge, its top, its width and its height."""
+        return self.browser.ask("(() => { const it = document.querySelector(%s).getBoundingClientRect(); return [it.left, it.top, it.width, it.height]; })()" % json.dumps(selector))
+
+    def view(self):
+        """Which part of the graph is seen: its left edge, its top, its width and its height."""
+        return list(map(float, self.browser.ask("document.querySelector('#graph').getAttribute('viewBox')").split(" ")))
+
+    def near(self, what, wanted, came):
+        """Numbers that differ by no more than a thousandth of a picture."""
+        self.tries.want("in the browser: " + what, all(abs(one - other) < 1 for one, other in zip(wanted, came)), (wanted, came))
 
     def same(self, what, wanted, came):
         self.tries.same("in the browser: " + what, wanted, came)
@@ -111,6 +128,47 @@ def try_folding(hand):
     hand.same("all is opened", whole, hand.boxes())
 
 
+def scaled(view, factor, x=0.5, y=0.5):
+    """What is seen where it is made larger or smaller by a factor, around a point that stays."""
+    left, top, width, height = view
+    return [left + width * x * (1 - factor), top + height * y * (1 - factor), width * factor, height * factor]
+
+
+def try_zoom(hand):
+    """The graph is made larger and smaller by buttons, keys and the wheel, around its middle or the pointer; it is moved by hand; what is seen
+    stays from moment to moment, and all of it can be seen again."""
+    hand.open("fan")
+    whole = hand.view()
+    hand.browser.click("#larger")
+    hand.near("larger", scaled(whole, 1 / 1.3), hand.view())
+    hand.browser.click("#larger")
+    hand.browser.press("ArrowRight")
+    hand.near("and larger, at the next moment", scaled(whole, 1 / 1.69), hand.view())
+    hand.browser.click("#smaller")
+    hand.near("smaller", scaled(whole, 1 / 1.3), hand.view())
+    hand.browser.ask("page.graph.focus('t')")
+    hand.browser.press("-")
+    hand.near("smaller by a key", whole, hand.view())
+    hand.browser.press("+")
+    hand.near("larger by a key", scaled(whole, 1 / 1.3), hand.view())
+    hand.browser.click("#fit")
+    hand.near("all of it", whole, hand.view())
+    left, top, width, height = hand.place("#graph")
+    hand.browser.wheel(left + width / 4, top + height / 3, -120)
+    hand.browser.settle()
+    near = scaled(whole, 1 / 1.15, 0.25, 1 / 3)
+    hand.near("larger by the wheel, around the pointer", near, hand.view())
+    hand.browser.drag(left + width / 2, top + 8, 100, 60)
+    scale = near[2] / width
+    hand.near("moved by hand", [near[0] - 100 * scale, near[1] - 60 * scale, *near[2:]], hand.view())
+    hand.same("nothing is chosen by that", "", hand.text("#chosen"))
+    hand.browser.wheel(left + width / 4, top + height / 3, 120)
+    hand.browser.settle()
+    hand.near("smaller by the wheel", whole[2:], hand.view()[2:])
+    hand.browser.click("#fit")
+    hand.near("all of it again", whole, hand.view())
+
+
 def try_time(hand):
     """The line of time: a click goes to a moment, zooming keeps it, and the address leads to it."""
     hand.open("fan", "#change-4")
@@ -122,7 +180,7 @@ def try_time(hand):
     first, last = map(int, hand.text("#span").replace("moments ", "").split(" to "))
     moment = int(hand.browser.ask("document.querySelector('#line').getAttribute('aria-valuenow')"))
     hand.tries.want("zoomed around the moment", 160 < last - first < 180 and first <= moment <= last, (first, last, moment))
-    box = hand.browser.ask("(() => { const it = document.querySelector('#line').getBoundingClientRect(); return [it.left, it.top, it.width, it.height]; })()")
+    box = hand.place("#line")
     hand.browser.click_at(box[0] + box[2] / 2, box[1] + 50)
     now = int(hand.browser.ask("document.querySelector('#line').getAttribute('aria-valuenow')"))
     hand.tries.want("a click goes to the moment there", abs(now - (first + last) / 2) < 3, (first, last, now))
@@ -219,15 +277,20 @@ def try_states(hand):
 
 
 def try_large(hand):
-    """A thousand nodes and a hundred thousand events open in two seconds, told by processors, since the machine may have other work; all of it
-    can be shown."""
-    hand.open("big")
+    """A thousand nodes and a hundred thousand events open in two seconds by the clock, once in a few times. Where the machine has more work than
+    processors, a line says how long it took, and the processors' time is judged. All of it can be shown."""
     told = []
-    for _ in range(3):
+    while len(told) < OFTEN and not (told and min(told)[0] < SECONDS):
         before = hand.browser.processor_seconds()
         passed = hand.open("big")
-        told.append((hand.browser.processor_seconds() - before, passed))
-    hand.tries.want("a large page opens in %g seconds" % SECONDS, 0 < min(told)[0] < SECONDS, told)
+        told.append((passed, hand.browser.processor_seconds() - before))
+    passed, used = min(told)
+    size, events = os.path.getsize(hand.pages.files["big"]), sum(bool(event_of(hand.pages.data["big"], moment)) for moment in moments_of(hand.pages.data["big"]))
+    print("a page of %.1f MB with %d nodes and %d events was drawn in %.2f s, %.2f s of processors" % (size / 1e6, len(hand.pages.data["big"]["nodes"]), events, passed, used))
+    is_busy = os.getloadavg()[0] > os.cpu_count()
+    if passed >= SECONDS and is_busy:
+        print("the machine was busy: whether it is drawn in %g seconds by the clock wasn't judged" % SECONDS)
+    hand.tries.want("a large page opens in %g seconds" % SECONDS, 0 < used < SECONDS and (passed < SECONDS or is_busy), told)
     hand.browser.click("#unfold")
     hand.same("all nodes are shown", 1000, len(hand.boxes()))
     hand.browser.press("End")
@@ -252,7 +315,7 @@ def try_looks(hand, pictures):
     hand.browser.scheme("light")
 
 
-GROUPS = (try_opening, try_keys, try_folding, try_time, try_search, try_tables, try_plans, try_states, try_large)
+GROUPS = (try_opening, try_keys, try_folding, try_zoom, try_time, try_search, try_tables, try_plans, try_states, try_large)
 
 
 def try_all(tries, pages, program, pictures):
@@ -265,6 +328,7 @@ def try_all(tries, pages, program, pictures):
                 each(hand)
             except Broken as broken:
                 tries.want("%s comes to its end" % each.__name__, False, broken)
+            hand.faultless("what %s did" % each.__name__)
         try_looks(hand, pictures)
     finally:
         browser.close()

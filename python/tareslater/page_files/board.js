@@ -3,8 +3,10 @@
 
 const RETRY = 1000; // milliseconds until it tries again
 const LATE = 3000; // so many without news are told
-const ALONG = [50, 45, 55, 40, 60, 35, 65, 30, 70, 25, 75, 20, 80, 15, 85, 10, 90].map((part) => part / 100);
+// places along a link, the middle first
+const ALONG = Array.from({ length: 37 }, (_, at) => 0.5 + (at % 2 ? 0.025 : -0.025) * Math.ceil(at / 2));
 const ROOM = { width: 30, height: 15 }; // of the number of a link
+GAP.across = 84; // so that numbers have room
 const PHASES = {
   "making ready": "New components are opened and the manager is asked. Nothing is held yet.",
   waiting: "Gates are closed. What is under way there ends, and nothing more begins.",
@@ -37,16 +39,30 @@ function movesOf(text) {
 }
 
 // Where the number of a link may stand: above it or below, the best first.
-function roomsAlong(path) {
+function* roomsAlong(path) {
   const length = path.getTotalLength();
-  return ALONG.flatMap((part) => {
+  for (const part of ALONG) {
     const { x, y } = path.getPointAtLength(part * length);
-    return [y - ROOM.height - 1, y + 2].map((top) => ({ x: x - ROOM.width / 2, y: top, ...ROOM }));
-  });
+    for (const top of [y - ROOM.height - 1, y + 2]) yield { x: x - ROOM.width / 2, y: top, ...ROOM };
+  }
 }
 
-function meets(one, other) {
-  return one.x < other.x + other.width && other.x < one.x + one.width && one.y < other.y + other.height && other.y < one.y + one.height;
+// The first room of a link's number that lies on nothing, or else the one that lies least on what is there.
+function roomOf(path, taken) {
+  let best = null, least = Infinity;
+  for (const room of roomsAlong(path)) {
+    const lies = taken.reduce((sum, one) => sum + shared(room, one), 0);
+    if (lies < least) [best, least] = [room, lies];
+    if (!lies) break;
+  }
+  return best;
+}
+
+// The area that two boxes share.
+function shared(one, other) {
+  const across = Math.min(one.x + one.width, other.x + other.width) - Math.max(one.x, other.x);
+  const down = Math.min(one.y + one.height, other.y + other.height) - Math.max(one.y, other.y);
+  return Math.max(0, across) * Math.max(0, down);
 }
 
 // The component of a requirement.
@@ -66,12 +82,11 @@ class Live extends Drawing {
 
   draw() {
     super.draw();
-    const boxes = this.order.filter((box) => !box.isFrame || !box.isOpen), rooms = [];
+    const taken = this.order.filter((box) => !box.isFrame || !box.isOpen);
     for (const edge of this.edges) {
-      const found = roomsAlong(edge.path).filter((room) => !boxes.some((box) => meets(box, room)));
-      const room = found.find((one) => !rooms.some((other) => meets(one, other))) || found[0] || roomsAlong(edge.path)[0];
+      const room = roomOf(edge.path, taken);
       edge.rate = label("rate", room.x + ROOM.width / 2, room.y + 12, "");
-      rooms.push(room);
+      taken.push(room);
       this.layer.append(edge.rate);
     }
   }
