@@ -1,6 +1,6 @@
 -- What a branch carries by the books is what its service and its ports tell.
 use Rattle.std.proofs.Common.{◌≡◌, ◌∙◌, ℕ, ◌+◌, ◌*◌, Bool, true, false, cond, List, [], ◌∷◌, length, Option, Some, None, refl, sym, ap, arith}
-use Rattle.std.specs.Prelude.{◌==◌, ◌&&◌, ◌||◌, nat_le, option_and_then, sum_by}
+use Rattle.std.specs.Prelude.{◌==◌, ◌&&◌, ◌||◌, nat_le, option_and_then}
 use Rattle.std.specs.List.{list_any, range_with_len}
 use Rattle.std.specs.Option.{option_map_or}
 use Rattle.std.proofs.lemmas.Bool.{both_ways, false_from_ne_true}
@@ -17,14 +17,14 @@ use Rattle.quiesce_word.specs.Phases.{is_answered, is_asked, is_idle}
 use Rattle.quiesce_word.proofs.PhaseLaws.{answered_busy, answered_not_asked}
 use Rattle.quiesce_core.specs.Rules.{is_taken}
 use Rattle.quiesce_core.specs.Runs.{IsRun, state_after}
-use Rattle.quiesce_core.specs.State.{State, exchange, slot, target}
+use Rattle.quiesce_core.specs.State.{exchange, slot, target}
 use Rattle.quiesce_core.specs.declared.event.Event.{Event}
 use Rattle.quiesce_core.specs.declared.state.Slot.{Slot}
 use Rattle.quiesce_core.proofs.RunLaws.{runs_are_consistent}
 use Rattle.quiesce_core.proofs.StateLaws.{taken_busy}
 use Rattle.change_round_laws.proofs.FoldLaws.{StatesAreHanded}
 use Rattle.result_laws.specs.Banks.{is_branch}
-use Rattle.result_laws.specs.Carrying.{AmountsBalance, amount, carried, carried_at, carried_by, carried_in, is_paid, is_taken_up, opened_in, replies_1}
+use Rattle.result_laws.specs.Carrying.{AmountsBalance, amount, carried, carried_at, carried_by, carried_in, is_paid, is_taken_up, replies_1}
 use Rattle.result_laws.specs.Coming.{HasFolds, come}
 use Rattle.result_laws.specs.Sums.{is_account}
 use Rattle.result_laws.proofs.Balance.{BranchHas, Calls, IsPaid, IsPut, answered, answers, at_rest, first_idle, first_open, second_idle, second_open, taken, waiting}
@@ -32,7 +32,7 @@ use Rattle.result_laws.proofs.ComingLaws.{fits_of}
 use Rattle.result_laws.proofs.Giving.{hands_on}
 use Rattle.result_laws.proofs.Ledger.{Has, Ledger, bound, held_by, holds, plain, quiet}
 use Rattle.result_laws.proofs.Measures.{has, nothing_or, unmade_has}
-use Rattle.result_laws.proofs.Offices.{IsNoBranch, IsOffice, Office}
+use Rattle.result_laws.proofs.Offices.{IsOffice, Office}
 
 -- a branch that is to answer carries nothing
 gives_nothing : (paid put : Bool) (v : ℕ) (xs : List ℕ) (z : ℕ) (b : Bool) → cond b (next.Give 0) (take_and_put v xs) ≡ next.Give z → cond b 0 (carried_by paid put v xs) ≡ 0

@@ -12,7 +12,6 @@ use Rattle.component_trait.specs.States.{NodeState}
 use Rattle.quiesce_core.specs.Runs.{state_after}
 use Rattle.quiesce_core.specs.State.{Configuration, State, slot}
 use Rattle.quiesce_core.specs.declared.event.Event.{Event}
-use Rattle.quiesce_core.specs.declared.event.Event.TheVariants.{Make}
 use Rattle.quiesce_core.specs.declared.state.Slot.{Slot}
 use Rattle.result_laws.specs.Coming.{come}
 pub use Rattle.result_laws.specs.Carrying.{opened_in}

@@ -87,6 +87,7 @@ pub mod OnceParts
 pub mod OnceRolls
 pub mod WorkedPlaces
 pub mod OnceThere
+pub mod WorkedRolls
 pub mod Eating
 pub mod NumberLemmas
 pub mod TellingTexts

@@ -16,7 +16,6 @@ use Rattle.quiesce_core.specs.Runs.{IsRun, state_after}
 use Rattle.quiesce_core.proofs.RunLaws.{fronts_are_runs}
 use Rattle.quiesce_core.specs.declared.event.Event.{Event}
 use Rattle.quiesce_core.specs.declared.event.Event.TheVariants as event
-use Rattle.quiesce_core.specs.declared.state.Slot.{Slot}
 use Rattle.report_types.specs.declared.report.HistoryLine.{HistoryLine}
 use Rattle.report_types.specs.declared.report.HistoryLine.TheVariants as to
 use Rattle.report_types.specs.declared.report.Last.TheVariants as last
@@ -39,9 +38,8 @@ use Rattle.result_laws.specs.Carrying.{AmountsBalance, amount}
 use Rattle.result_laws.proofs.Books.{Books, keep_books}
 use Rattle.result_laws.proofs.Carried.{amounts_balance, holds_so}
 use Rattle.result_laws.proofs.ComingLaws.{fronts_fold}
-use Rattle.result_laws.proofs.Giving.{hands_on}
-use Rattle.result_laws.proofs.Ledger.{holds, held_by, opened_in, rest_has}
-use Rattle.result_laws.proofs.Measures.{has, nothing_or, past_slot, unmade_has}
+use Rattle.result_laws.proofs.Ledger.{holds, opened_in, rest_has}
+use Rattle.result_laws.proofs.Measures.{has, past_slot, unmade_has}
 use Rattle.result_laws.proofs.StoppingLaws.{NothingIsOpen}
 use Rattle.result_laws.proofs.Told.{Tells, lines_changed, log_folds, rests_at_end, told_so}
 

@@ -15,8 +15,8 @@ use Rattle.config_graph.proofs.PathLaws.{one_place}
 use Rattle.change_plan.specs.declared.plan_data.Move.{Move}
 use Rattle.change_plan.proofs.StepLaws.{has_node}
 use Rattle.change_parts.specs.Groups.{IsIn}
-use Rattle.change_parts.specs.Stages.{AreLinkedAfter, HasLinksOf, IsNodeAfter}
-use Rattle.change_parts.specs.Ties.{AreConnected, IsCreated, IsRemoved}
+use Rattle.change_parts.specs.Stages.{HasLinksOf, IsNodeAfter}
+use Rattle.change_parts.specs.Ties.{AreConnected}
 use Rattle.change_parts.proofs.LinkedLaws.{connected_at, linked_at}
 use Rattle.result_laws.specs.Banks.{IsBank, LeadsToAccount, banks_serve_tellers}
 use Rattle.result_laws.specs.Describing.{kind_at}

@@ -29,7 +29,7 @@ use Rattle.result_laws.proofs.Testing.{links_pass}
 use Rattle.result_laws.proofs.WorkedRows.{beside_is_row}
 
 -- both graphs of such a script are of a shape
-both : (P : Graph → Type 0) (s : List Statement) (a b c d : Statement) → s ≡ a ∷ b ∷ c ∷ d ∷ [] → Describes P a → Describes P b → Describes P c → Describes P d → All (Describes P) s
+pub both : (P : Graph → Type 0) (s : List Statement) (a b c d : Statement) → s ≡ a ∷ b ∷ c ∷ d ∷ [] → Describes P a → Describes P b → Describes P c → Describes P d → All (Describes P) s
 both P s a b c d is x y z w = subst_all (sym is) (All-cons (Describes P) a (b ∷ c ∷ d ∷ []) x (All-cons (Describes P) b (c ∷ d ∷ []) y (All-cons (Describes P) c (d ∷ []) z (All-cons (Describes P) d [] w (All-nil (Describes P))))))
   where
     subst_all : {xs ys : List Statement} → xs ≡ ys → All (Describes P) xs → All (Describes P) ys

@@ -11,9 +11,7 @@ mod row_laws;
 mod script_laws;
 mod telling_laws;
 
-pub use bank_laws::{
-    banks_are_told_from_others, sums_are_kept, sums_are_kept_at_each_place,
-};
+pub use bank_laws::{banks_are_told_from_others, sums_are_kept, sums_are_kept_at_each_place};
 pub use come_laws::{
     folds_go_on_by_events_of_their_nodes, nodes_agree_with_their_folds,
     reopens_find_a_described_graph,
@@ -28,8 +26,8 @@ pub use laws::{
 };
 pub use meal_laws::meals_are_counted;
 pub use roll_laws::{
-    changes_at_once_are_there, rolls_commit_what_commits_at_once, rolls_keep_forks,
-    rolls_keep_items, rolls_keep_sums,
+    changes_at_once_are_there, rolls_are_told_from_others, rolls_commit_what_commits_at_once,
+    rolls_keep_forks, rolls_keep_items, rolls_keep_sums,
 };
 pub use row_laws::{
     rows_are_told_from_others, rows_have_their_items, sources_alone_begin,

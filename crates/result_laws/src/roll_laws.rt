@@ -1,6 +1,6 @@
 //! What a roll keeps, and that it does no worse than the change at once.
 
-ghost use Rattle.std.specs.Prelude.{◌≡◌, ◌≤◌, ℕ, ℤ, List, None, Option, take};
+ghost use Rattle.std.specs.Prelude.{◌≡◌, ◌≤◌, ℕ, ℤ, List, [], ◌∷◌, None, Option, Some, codes, pos, take};
 ghost use Rattle.config_graph.specs.Graph.{Graph, IsGraph};
 ghost use Rattle.config_graph.specs.Sound.{Sound};
 ghost use Rattle.change_plan.specs.Refusals.{CanPlan};
@@ -18,12 +18,14 @@ ghost use Rattle.change_parts.specs.declared.part.Part.{Part};
 ghost use Rattle.result_laws.specs.Banks.{AreBanks, IsBank};
 ghost use Rattle.result_laws.specs.Carrying.{AmountsBalance};
 ghost use Rattle.result_laws.specs.Describing.{LinksAre};
-ghost use Rattle.result_laws.specs.Flows.{AreApart, same_side};
+ghost use Rattle.result_laws.specs.Flows.{AreApart, one, same_side};
 ghost use Rattle.result_laws.specs.Holding.{AreFree, AreHeldOnce, AreLent, AreTables, NoneSpent, NothingIsOpenAt, forks_serve_places};
 ghost use Rattle.result_laws.specs.Rolling.{ItemsBalance, WaitTogether, at_once};
+ghost use Rattle.result_laws.specs.UnderWay.{of_nodes, spent, stock, under_way};
+ghost use Rattle.result_laws.specs.WorkedRolls.{as_a_whole, forked, in_parts};
 
 use crate::{forks_are_held_once, items_are_kept_at_each_place, sums_are_kept_at_each_place};
-use change_parts::no_link_is_lost;
+use change_parts::{no_link_is_lost, there_is_one_roll};
 use change_plan_laws::{commits_can_not_fail, commits_leave_the_new_graph, each_plan_may_commit};
 use change_round_laws::{
     a_sound_script_has_a_report, changes_in_a_row_drain_together, reports_of_rounds_are_lawful,
@@ -125,4 +127,30 @@ pub fn changes_at_once_are_there()
 {
     a_sound_script_has_a_report();
     changes_in_a_row_drain_together();
+}
+
+/// A small change, evaluated: a map is replaced, to which a source leads, and a buffer that stands aside. Behind a run of one
+/// transaction it is committed at once where it may wait for three rounds, and not where it may wait for two. So it is
+/// where it is made in two parts: the first is the one that waits, or is given up. Such rolls meet the premises of the laws
+/// above. Where all is committed two items lie in the sink and were counted; where not, one of them isn't yet. And whatever
+/// the parts of this change are, none of them is given up where each may wait for three rounds.
+pub fn rolls_are_told_from_others()
+    ensures sound { (within : ℕ) → AreSound (as_a_whole within) × AreSound (in_parts within) }
+    ensures apart { (within : ℕ) → AreApart (in_parts within) }
+    ensures whole { IsRoll (as_a_whole 3) None }
+    ensures early { IsRoll (as_a_whole 2) None → ⊥ }
+    ensures parts { (roll : IsRoll (in_parts 3) None) × (of_nodes (stock one) (world_after roll.played).events ≡ 2)
+        × (of_nodes (spent one) (world_after roll.played).events ≡ 2)
+        × (under_way one (world_after roll.played).events ≡ 0) }
+    ensures given_up { (roll : IsRoll (in_parts 2) (Some 1))
+        × (of_nodes (stock one) (world_after roll.played).events ≡ 2)
+        × (of_nodes (spent one) (world_after roll.played).events ≡ 1)
+        × (under_way one (world_after roll.played).events ≡ 1) }
+    ensures none { (ps : List Part) (given_up : Option ℕ) → AreParts (forked 1 1) (forked 2 2) [] ps
+        → AreSound (roll_statements (codes "Forked") (pos 1 ∷ pos 1 ∷ []) (forked 1 1) 1 (codes "Forked") (pos 2 ∷ pos 2 ∷ []) 3 ps)
+        → IsRoll (roll_statements (codes "Forked") (pos 1 ∷ pos 1 ∷ []) (forked 1 1) 1 (codes "Forked") (pos 2 ∷ pos 2 ∷ []) 3 ps) given_up
+        → given_up ≡ None }
+{
+    rolls_commit_what_commits_at_once();
+    there_is_one_roll();
 }
