@@ -7,12 +7,13 @@ use Rattle.std.specs.Io.KnownBytes.{prepend_known}
 use Rattle.std.specs.declared.io.buffered.BufReader.{BufReader}
 use Rattle.std.proofs.lemmas.List.{length-map}
 use Rattle.std.proofs.lemmas.List.FromFn.{length-enumerate_from}
+use Rattle.base.specs.Count.{Rose}
 use Rattle.cfg_io.specs.Shelf.{Files}
 use Rattle.config_graph.specs.Graph.{Graph, IsGraph, ports}
 use Rattle.config_graph.specs.Sound.{Sound}
 use Rattle.config_graph.specs.declared.node.Made.{Made}
 use Rattle.change_apply.specs.Sessions.{CanChange, change_in}
-use Rattle.change_apply.specs.Talks.{Bytes, Ends}
+use Rattle.change_apply.specs.Talks.{Bytes, CountsFaults, Ends}
 use Rattle.change_apply.specs.declared.request.Request.{Request}
 use Rattle.change_apply.specs.declared.said.Ending.{Ending}
 use Rattle.change_apply.specs.declared.said.Ending.TheVariants as ending
@@ -22,21 +23,22 @@ use Rattle.change_plan.specs.Room.{HasRoomFor}
 use Rattle.change_plan.specs.declared.plan_data.Plan.{Plan}
 use Rattle.change_plan_laws.specs.Committing.{made_in}
 use Rattle.change_spec.specs.Scripts.{nothing_made}
-use Rattle.command_answers.specs.Answers.{no_memory, refusal_text}
+use Rattle.command_answers.specs.Answers.{Refusal, description, no_memory, no_memory_line, read_fault, refusal_status, refusal_text, script, usage}
 use Rattle.command_answers.specs.DescriptionFaults.{MayRefuse, fault_words}
 use Rattle.command_answers.specs.declared.error.DescriptionFault.{DescriptionFault}
 use Rattle.command_answers.specs.declared.status.Status.{Status}
+use Rattle.command_answers.specs.declared.status.Status.TheVariants as status
 use Rattle.command_program.specs.Coming.{Comes, EndsIn, StopsFor, stop_status, stop_text}
 use Rattle.command_program.specs.Refusals.{IsFaultOf}
 use Rattle.command_program.specs.declared.answer.Stop.{Stop}
 use Rattle.command_program.specs.declared.answer.Stop.TheVariants as stops
 use Rattle.command_program.proofs.ComingLaws.{stops_in}
-use Rattle.command_spec.specs.Courses.{came, gives, here, not_fetched, refusal, refused, Follows}
+use Rattle.command_spec.specs.Courses.{End, came, gives, here, not_fetched, refusal, refused, Follows}
 use Rattle.command_spec.specs.Plans.{RefusesPlan, made_of_graph}
-use Rattle.command_spec.specs.Runs.{Run, Written}
+use Rattle.command_spec.specs.Runs.{Run, Written, stopped as stopped_at, whole}
 use Rattle.command_words.specs.declared.sessions.SessionWords.{SessionWords}
 use Rattle.quiesce_core.specs.Start.{gate_of, slot_of, started}
-use Rattle.command_apply.specs.Applying.{AppliesBy, IsRequest, Talks, TalksTo, course_to_session}
+use Rattle.command_apply.specs.Applying.{AppliesBy, GoesOn, IsRequest, Talks, TalksTo, course_to_session}
 use Rattle.command_apply.specs.Requests.{Asked, CanCarryOut, EndsWith, HasPlan, IsRequestFor, course_of_text}
 use Rattle.command_apply.specs.declared.planning.Planned.{Planned}
 
@@ -93,15 +95,16 @@ abbrev pub with_sink : Run → Bytes → Bytes → ℕ → ℕ → Status → Ru
 with_sink seen k k' n n' own = record seen { taken = k; taken' = k'; faults = n; faults' = n'; status = own }
 
 pub talked :
-    (r : Request) (input : Bytes) (seen : Run) (k k' k'' : Bytes) (n n' n'' : ℕ) (own : Status) (e : Ending) → Ends r input k k' e
+    (r : Request) (input : Bytes) (seen : Run) (k k' k'' : Bytes) (n n' n'' : ℕ) (own : Status) (e : Ending) → Ends r input k k' e → CountsFaults n n' e
     → EndsWith e (with_sink seen k' k'' n' n'' own) → TalksTo r input (with_sink seen k k'' n n'' own) e
-talked r input seen k k' k'' n n' n'' own ending.NoMemory ends with = (k', n', ends, with)
-talked r input seen k k' k'' n n' n'' own ending.Committed ends with = (rw with.0 ends, with.1)
-talked r input seen k k' k'' n n' n'' own ending.GivenUp ends with = (rw with.0 ends, with.1)
-talked r input seen k k' k'' n n' n'' own ending.Denied ends with = (rw with.0 ends, with.1)
-talked r input seen k k' k'' n n' n'' own ending.Bad ends with = (rw with.0 ends, with.1)
-talked r input seen k k' k'' n n' n'' own ending.Unread ends with = (rw with.0 ends, with.1)
-talked r input seen k k' k'' n n' n'' own ending.Unwritten ends with = (rw with.0 ends, with.1)
+talked r input seen k k' k'' n n' n'' own ending.NoMemory ends faults with =
+    (k', ends, subst (λ m. Written status.NoMemory no_memory_line (with_sink seen k' k'' m n'' own)) faults with)
+talked r input seen k k' k'' n n' n'' own ending.Committed ends faults with = (rw with.0 ends, rw with.1 faults, with.2)
+talked r input seen k k' k'' n n' n'' own ending.GivenUp ends faults with = (rw with.0 ends, rw with.1 faults, with.2)
+talked r input seen k k' k'' n n' n'' own ending.Denied ends faults with = (rw with.0 ends, rw with.1 faults, with.2)
+talked r input seen k k' k'' n n' n'' own ending.Bad ends faults with = (rw with.0 ends, rw with.1 faults, with.2)
+talked r input seen k k' k'' n n' n'' own ending.Unread ends faults with = (rw with.0 ends, rw with.1 faults, with.2)
+talked r input seen k k' k'' n n' n'' own ending.Unwritten ends faults with = (rw with.0 ends, rw with.1 faults, with.2)
 
 -- the request of a plan, and what refuses it
 pub gives_request :
@@ -160,3 +163,52 @@ pub fresh_reader :
 fresh_reader left r input inner empty capacity =
     ap (λ n. if n == 0 then None else prepend_known (reader_buffer r) (left r.inner)) capacity
     ∙ (ap (λ bytes. prepend_known bytes (left r.inner)) empty ∙ (none_ahead (left r.inner) ∙ ap left inner))
+
+-- status 5 comes exactly where the sink failed
+
+written_fault : (own : Status) (text : List ℕ) (seen : Run) → (own ≡ status.WriteFault → ⊥) → Written own text seen → seen.status ≡ status.WriteFault → Rose seen.faults seen.faults'
+written_fault own text seen other (whole taken steady is) fault = absurd (other (sym is ∙ fault))
+written_fault own text seen other (stopped_at n short taken rose is) fault = rose
+
+written_steady : (own : Status) (text : List ℕ) (seen : Run) → Written own text seen → (seen.status ≡ status.WriteFault → ⊥) → seen.faults' ≡ seen.faults
+written_steady own text seen (whole taken steady is) other = steady
+written_steady own text seen (stopped_at n short taken rose is) other = absurd (other is)
+
+talked_fault : (r : Request) (input : Bytes) (seen : Run) (e : Ending) → TalksTo r input seen e → seen.status ≡ status.WriteFault → Rose seen.faults seen.faults'
+talked_fault r input seen ending.NoMemory t fault = written_fault status.NoMemory no_memory_line (record seen { taken = t.0 }) (λ same. cc) t.2 fault
+talked_fault r input seen ending.Unwritten t fault = t.1
+talked_fault r input seen ending.Committed t fault = cc (t.2, fault)
+talked_fault r input seen ending.GivenUp t fault = cc (t.2, fault)
+talked_fault r input seen ending.Denied t fault = cc (t.2, fault)
+talked_fault r input seen ending.Bad t fault = cc (t.2, fault)
+talked_fault r input seen ending.Unread t fault = cc (t.2, fault)
+
+talked_steady : (r : Request) (input : Bytes) (seen : Run) (e : Ending) → TalksTo r input seen e → (seen.status ≡ status.WriteFault → ⊥) → seen.faults' ≡ seen.faults
+talked_steady r input seen ending.NoMemory t other = written_steady status.NoMemory no_memory_line (record seen { taken = t.0 }) t.2 other
+talked_steady r input seen ending.Unwritten t other = absurd (other t.2)
+talked_steady r input seen ending.Committed t other = t.1
+talked_steady r input seen ending.GivenUp t other = t.1
+talked_steady r input seen ending.Denied t other = t.1
+talked_steady r input seen ending.Bad t other = t.1
+talked_steady r input seen ending.Unread t other = t.1
+
+refusal_is_no_fault : (why : Refusal) → refusal_status why ≡ status.WriteFault → ⊥
+refusal_is_no_fault usage same = cc
+refusal_is_no_fault (description file fault) same = cc
+refusal_is_no_fault (script file fault) same = cc
+refusal_is_no_fault (read_fault file) same = cc
+refusal_is_no_fault no_memory same = cc
+
+pub write_fault_only : (asked : SessionWords) (input : Bytes) (seen : Run) → AppliesBy asked input seen → seen.status ≡ status.WriteFault → Rose seen.faults seen.faults'
+write_fault_only asked input seen run fault = by run.end run.goes_on
+  where
+    by : (end : End Request) → GoesOn input seen end → Rose seen.faults seen.faults'
+    by (came r) t = talked_fault r input seen t.0 t.1 fault
+    by (refusal why) w = written_fault (refusal_status why) (refusal_text why) seen (refusal_is_no_fault why) w fault
+
+pub write_fault_always : (asked : SessionWords) (input : Bytes) (seen : Run) → AppliesBy asked input seen → (seen.status ≡ status.WriteFault → ⊥) → seen.faults' ≡ seen.faults
+write_fault_always asked input seen run other = by run.end run.goes_on
+  where
+    by : (end : End Request) → GoesOn input seen end → seen.faults' ≡ seen.faults
+    by (came r) t = talked_steady r input seen t.0 t.1 other
+    by (refusal why) w = written_steady (refusal_status why) (refusal_text why) seen w other

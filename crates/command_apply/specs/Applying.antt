@@ -2,7 +2,7 @@
 -- What a run of `apply` is: a description is fetched, the change that the words ask for is planned of it, and a session
 -- carries it out by the lines that come.
 use Rattle.std.specs.Prelude.{◌≡◌, ℕ, List, [], ◌++◌}
-use Rattle.change_apply.specs.Talks.{Bytes, Ends}
+use Rattle.change_apply.specs.Talks.{Bytes, CountsFaults, Ends}
 use Rattle.change_apply.specs.declared.request.Request.{Request}
 use Rattle.change_apply.specs.declared.said.Ending.{Ending}
 use Rattle.change_apply.specs.declared.said.Ending.TheVariants as ending
@@ -55,13 +55,14 @@ session_status ending.NoMemory = status.NoMemory
 session_status ending.GivenUp = status.Pending
 session_status ending.Denied = status.Denied
 
--- The session ended so, by what was said and written, and the run by its status. Where memory was wanted, a line behind
--- what was written says so.
+-- The session ended so, by what was said and written, and the run by its status. The sink failed exactly where that ended it.
+-- Where memory was wanted, a line behind what was written says so.
 abbrev pub TalksTo : Request → Bytes → Run → Ending → Type 0
 TalksTo r input seen ending.NoMemory =
-    (between : Bytes) × (faults : ℕ) × Ends r input seen.taken between ending.NoMemory
-    × Written status.NoMemory no_memory_line (record seen { taken = between; faults = faults })
-TalksTo r input seen e = Ends r input seen.taken seen.taken' e × (seen.status ≡ session_status e)
+    (between : Bytes) × Ends r input seen.taken between ending.NoMemory
+    × Written status.NoMemory no_memory_line (record seen { taken = between })
+TalksTo r input seen e =
+    Ends r input seen.taken seen.taken' e × CountsFaults seen.faults seen.faults' e × (seen.status ≡ session_status e)
 
 abbrev pub Talks : Request → Bytes → Run → Type 0
 Talks r input seen = (e : Ending) × TalksTo r input seen e

@@ -53,4 +53,4 @@ course_of_text asked text =
 -- how the run ends behind a session
 abbrev pub EndsWith : Ending → Run → Type 0
 EndsWith ending.NoMemory seen = Written status.NoMemory no_memory_line seen
-EndsWith e seen = (seen.taken' ≡ seen.taken) × (seen.status ≡ session_status e)
+EndsWith e seen = (seen.taken' ≡ seen.taken) × (seen.faults' ≡ seen.faults) × (seen.status ≡ session_status e)

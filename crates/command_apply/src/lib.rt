@@ -3,8 +3,10 @@
 #![tactic(auto)]
 
 mod carrying;
+mod laws;
 mod planning;
 mod requesting;
 mod talking;
 
 pub use carrying::carry_out;
+pub use laws::{requests_may_be_carried_out, write_faults_of_sessions_are_failed_puts};

@@ -16,10 +16,11 @@ returns-in-Ok g c seen =
       e,
       talked r (left c.args.input) seen k k' (g.K.Sink.taken c.end_with.new.out) (g.K.Sink.faults c.args.out.now) (g.K.Sink.faults c.apply-ending.new.sink)
           (g.K.Sink.faults c.end_with.new.out) c.end_with.result e
-          (subst (λ b. Ends r b k k' e) (fresh_reader left c.in-Ok.reader c.args.input made.inner made.empty made.capacity) c.apply-ending.ensures)
+          (subst (λ b. Ends r b k k' e) (fresh_reader left c.in-Ok.reader c.args.input made.inner made.empty made.capacity) c.apply-ending.ensures.ends)
+          c.apply-ending.ensures.faults
           (c.end_with.ensures seen),
     )
 
 pub returns-in-Err : goal.returns-in-Err
 returns-in-Err g c seen =
-    (ending.NoMemory, (g.K.Sink.taken c.args.out.now, g.K.Sink.faults c.args.out.now, inl refl, c.write_no_memory.ensures seen))
+    (ending.NoMemory, (g.K.Sink.taken c.args.out.now, inl refl, c.write_no_memory.ensures seen))
