@@ -389,12 +389,12 @@ passed_over f d es xs e no_ s = record {
 }
 
 -- the first that passes is the event, or the front goes on with it
-begun : (f : Event → Bool) (d : Event) (es xs ys : List Event) (e : Event) → f d ≡ true → d ∷ filter f es ≡ xs ++ e ∷ ys
+front_goes_on : (f : Event → Bool) (d : Event) (es xs ys : List Event) (e : Event) → f d ≡ true → d ∷ filter f es ≡ xs ++ e ∷ ys
     → ((zs : List Event) → filter f es ≡ zs ++ e ∷ ys → Split f es zs e) → Split f (d ∷ es) xs e
-begun f d es [] ys e yes_ is rest =
+front_goes_on f d es [] ys e yes_ is rest =
     let same : d ≡ e = cc in
     record { before = []; after = es; are = ap (λ x. x ∷ es) same; so_far = refl }
-begun f d es (x ∷ xs) ys e yes_ is rest =
+front_goes_on f d es (x ∷ xs) ys e yes_ is rest =
     let same : x ≡ d = cc in
     let more_ : filter f es ≡ xs ++ e ∷ ys = cc in
     let s = rest xs more_ in
@@ -412,7 +412,7 @@ no_front_there (x ∷ xs) ys e h = cc
 split_by : (f : Event → Bool) (es xs ys : List Event) (e : Event) → filter f es ≡ xs ++ e ∷ ys → Split f es xs e
 split_by f [] xs ys e h = absurd (no_front_there xs ys e h)
 split_by f (d ∷ es) xs ys e h = ⊎_elim
-    (λ (yes_ : f d ≡ true). begun f d es xs ys e yes_ (sym (ap (λ b. cond b (d ∷ filter f es) (filter f es)) yes_) ∙ h) (λ zs k. split_by f es zs ys e k))
+    (λ (yes_ : f d ≡ true). front_goes_on f d es xs ys e yes_ (sym (ap (λ b. cond b (d ∷ filter f es) (filter f es)) yes_) ∙ h) (λ zs k. split_by f es zs ys e k))
     (λ (no_ : f d ≡ false). passed_over f d es xs e no_ (split_by f es xs ys e (sym (ap (λ b. cond b (d ∷ filter f es) (filter f es)) no_) ∙ h)))
     (cases_Bool (f d))
 
