@@ -22,25 +22,25 @@ use Rattle.change_plan.specs.Refusals.{CanPlan}
 use Rattle.change_plan.specs.Room.{HasRoomFor}
 use Rattle.change_plan.specs.declared.plan_data.Plan.{Plan}
 use Rattle.change_plan_laws.specs.Committing.{made_in}
-use Rattle.change_spec.specs.Scripts.{nothing_made}
+use Rattle.change_spec.specs.Scripts.{more_made, nothing_made}
 use Rattle.command_answers.specs.Answers.{Refusal, description, no_memory, no_memory_line, read_fault, refusal_status, refusal_text, script, usage}
-use Rattle.command_answers.specs.DescriptionFaults.{MayRefuse, fault_words}
-use Rattle.command_answers.specs.declared.error.DescriptionFault.{DescriptionFault}
 use Rattle.command_answers.specs.declared.status.Status.{Status}
 use Rattle.command_answers.specs.declared.status.Status.TheVariants as status
-use Rattle.command_program.specs.Coming.{Comes, EndsIn, StopsFor, stop_status, stop_text}
-use Rattle.command_program.specs.Refusals.{IsFaultOf}
+use Rattle.command_program.specs.Coming.{Comes, EndsIn, stop_status, stop_text}
+use Rattle.command_program.specs.Planning.{CanMake, IsChangeOf}
+use Rattle.command_program.specs.declared.change_lines.Planned.{Planned}
 use Rattle.command_program.specs.declared.answer.Stop.{Stop}
 use Rattle.command_program.specs.declared.answer.Stop.TheVariants as stops
-use Rattle.command_program.proofs.ComingLaws.{stops_in}
-use Rattle.command_spec.specs.Courses.{End, came, gives, here, not_fetched, refusal, refused, Follows}
-use Rattle.command_spec.specs.Plans.{RefusesPlan, made_of_graph}
+use Rattle.command_program.proofs.ComingLaws.{comes_here, comes_on, comes_stop}
+use Rattle.command_spec.specs.Courses.{End, came, not_fetched, refusal, said, says, Follows}
+use Rattle.command_spec.specs.Lines.{Progress, begun, of_lines}
+use Rattle.command_spec.specs.Plans.{lines_of_change, made_of_graph, statements_of_change}
+use Rattle.command_spec.proofs.ChangeLines.{first_made}
 use Rattle.command_spec.specs.Runs.{Run, Written, stopped as stopped_at, whole}
 use Rattle.command_words.specs.declared.sessions.SessionWords.{SessionWords}
 use Rattle.quiesce_core.specs.Start.{gate_of, slot_of, started}
 use Rattle.command_apply.specs.Applying.{AppliesBy, GoesOn, IsRequest, Talks, TalksTo, course_to_session}
-use Rattle.command_apply.specs.Requests.{Asked, CanCarryOut, EndsWith, HasPlan, IsRequestFor, course_of_text}
-use Rattle.command_apply.specs.declared.planning.Planned.{Planned}
+use Rattle.command_apply.specs.Requests.{Asked, EndsWith, IsRequestFor}
 
 -- a start makes what stands behind it
 same_made : (g : Graph) → made_of_graph g ≡ made_in (started g).config
@@ -50,40 +50,69 @@ same_made g =
     (sym (length-map (enumerate_from 0 g.nodes) (slot_of g.nodes) ∙ length-enumerate_from 0 g.nodes))
     ∙ ap (of (length (map (slot_of g.nodes) (enumerate_from 0 g.nodes)))) (sym (length-map (ports g.nodes) (gate_of g)))
 
--- a change that is planned from a start may be carried out
-pub can_change :
-    (old new : Graph) (plan : Plan) (within : ℕ) → IsGraph old → Sound old → HasRoomFor nothing_made old → IsGraph new → Sound new
-    → IsPlanOf old new [] plan → CanPlan old new [] (made_of_graph old)
+-- what can be made may be carried out
+is_graph : (g : Graph) → Sound g → HasRoomFor nothing_made g → IsGraph g
+is_graph g sound room = record {
+  paths_rise = sound.paths_rise;
+  within = sound.within;
+  in_order = sound.in_order;
+  few_nodes = omega (arith, room.nodes_fit);
+  few_ports = omega (arith, room.ports_fit);
+}
+
+can_change :
+    (old new : Graph) (plan : Plan) (within : ℕ) → Sound old → HasRoomFor nothing_made old → IsGraph new → Sound new
+    → IsPlanOf old new [] plan → CanPlan old new [] (more_made nothing_made (length old.nodes) (length (ports old.nodes)))
     → CanChange (record { old = old; new = new; plan = plan; within = within })
-can_change old new plan within old_is old_sound room new_is new_sound is_plan can = record {
-  old_graph = old_is;
+can_change old new plan within old_sound room new_is new_sound is_plan can = record {
+  old_graph = is_graph old old_sound room;
   old_sound = old_sound;
   few_nodes = omega (arith, room.nodes_fit);
   few_ports = omega (arith, room.ports_fit);
   new_graph = new_is;
   new_sound = new_sound;
   is_plan = is_plan;
-  can_plan = subst (CanPlan old new []) (same_made old) can;
+  can_plan = subst (CanPlan old new []) (first_made old ∙ same_made old) can;
 }
 
--- the request of a plan
-pub is_request :
-    (text : List ℕ) (asked : SessionWords) (p : Planned) (r : Request) → HasPlan text asked.call asked.target p → IsRequestFor asked p r
-    → IsRequest text asked r
-is_request text asked p r h f = record {
-  from_name = f.from_name;
-  from_args = f.from_args;
-  starts = rw f.from_graph h.starts;
-  to_name = f.to_name;
-  to_args = f.to_args;
-  has_graph = rw f.to_graph h.has_graph;
-  has_room = rw (f.from_graph, f.to_graph) h.has_room;
-  is_plan = rw (f.from_graph, f.to_graph, f.plan_is) h.is_plan;
+pub can_request : (within : ℕ) (p : Planned) (r : Request) → IsRequestFor within p r → CanMake p → CanChange (change_in r)
+can_request within p r f can =
+    let change = can.can_change in
+    rw (f.from_graph, f.to_graph, f.plan_is)
+    (can_change p.start.graph p.change.graph p.change.plan r.within can.can_start.sound can.can_start.room change.is_graph change.sound
+    (subst (λ ms. IsPlanOf p.start.graph p.change.graph ms p.change.plan) can.no_moves change.is_plan)
+    (subst (λ ms. CanPlan p.start.graph p.change.graph ms (more_made nothing_made (length p.start.graph.nodes) (length (ports p.start.graph.nodes)))) can.no_moves change.can_plan))
+
+-- the request of what was planned
+is_request :
+    (asked : SessionWords) (p : Planned) (q : Progress) (r : Request) → IsChangeOf asked.change p q → CanMake p → IsRequestFor asked.within p r
+    → IsRequest asked q.statements r
+is_request asked p q r c can f = record {
+  from_name = f.from_name ∙ c.from_name;
+  from_args = f.from_args ∙ c.from_args;
+  to_name = f.to_name ∙ c.to_name;
+  to_args = f.to_args ∙ c.to_args;
+  said_are = c.said_are ∙ (λ i. statements_of_change asked.change (sym f.from_graph i) (sym f.to_graph i));
+  is_plan = rw (f.from_graph, f.to_graph, f.plan_is) (subst (λ ms. IsPlanOf p.start.graph p.change.graph ms p.change.plan) can.no_moves can.can_change.is_plan);
   within_is = f.within_is;
 }
 
-pub can_request : (asked : SessionWords) (p : Planned) (r : Request) → IsRequestFor asked p r → CanCarryOut p → CanChange (change_in r)
-can_request asked p r f can = rw (f.from_graph, f.to_graph, f.plan_is) (can r.within)
+module _ (files : Option Files) (asked : SessionWords) (failures failures' : List (List ℕ)) where
+  pub comes_to_request :
+      (p : Planned) (r : Request) → Comes (IsChangeOf asked.change) files (of_lines begun (lines_of_change asked.change)) failures failures' (Ok p)
+      → CanMake p → IsRequestFor asked.within p r → Comes Asked files (course_to_session asked) failures failures' (Ok r)
+  comes_to_request p r first can f =
+      comes_on (IsChangeOf asked.change) Asked files (λ (q : Progress). says (IsRequest asked q.statements)) (of_lines begun (lines_of_change asked.change)) files
+      failures failures' failures' p (Ok r) refl first
+      (λ q is. comes_here Asked files (says (IsRequest asked q.statements)) failures' failures' (Ok r) refl
+      (r, refl, said r (is_request asked p q r is can f)))
+
+  pub stops_before :
+      (stop : Stop) → Comes (IsChangeOf asked.change) files (of_lines begun (lines_of_change asked.change)) failures failures' (Err stop)
+      → Comes {T = Request} Asked files (course_to_session asked) failures failures' (Err stop)
+  stops_before stop by =
+      comes_stop (IsChangeOf asked.change) Asked files (λ (q : Progress). says (IsRequest asked q.statements)) (of_lines begun (lines_of_change asked.change)) failures
+      failures' stop by
 
 -- the input, behind an empty buffer
 none_ahead : (known : Option (List ℕ)) → prepend_known [] known ≡ known
@@ -105,20 +134,6 @@ talked r input seen k k' k'' n n' n'' own ending.Denied ends faults with = (rw w
 talked r input seen k k' k'' n n' n'' own ending.Bad ends faults with = (rw with.0 ends, rw with.1 faults, with.2)
 talked r input seen k k' k'' n n' n'' own ending.Unread ends faults with = (rw with.0 ends, rw with.1 faults, with.2)
 talked r input seen k k' k'' n n' n'' own ending.Unwritten ends faults with = (rw with.0 ends, rw with.1 faults, with.2)
-
--- the request of a plan, and what refuses it
-pub gives_request :
-    (files : Option Files) (text : List ℕ) (asked : SessionWords) (p : Planned) (r : Request) → HasPlan text asked.call asked.target p → IsRequestFor asked p r
-    → EndsIn Asked files (course_of_text asked text) [] (Ok r)
-gives_request files text asked p r h f = (r, refl, gives r [] (came r) (is_request text asked p r h f) here)
-
-pub refuses_request :
-    (files : Option Files) (text : List ℕ) (asked : SessionWords) (e : DescriptionFault) (stop : Stop)
-    → MayRefuse (RefusesPlan text asked.call asked.target) e → StopsFor (IsFaultOf asked.file e) stop
-    → EndsIn Asked files (course_of_text asked text) [] (Err stop)
-refuses_request files text asked e stop refuses_ stops_ =
-    stops_in Asked files (course_of_text asked text) [] (IsFaultOf asked.file e) stop stops_
-    (λ why is. subst (λ w. Follows files (course_of_text asked text) [] (refusal w)) (sym is.1) (refused (fault_words e) (refuses_ is.0))) (inl refl)
 
 -- a run, from the request that it input to, or why it input to none
 pub applied_by :

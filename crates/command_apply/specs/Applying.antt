@@ -1,49 +1,37 @@
 -- To be believed (definitions.md).
--- What a run of `apply` is: a description is fetched, the change that the words ask for is planned of it, and a session
--- carries it out by the lines that come.
+-- What a run of `apply` is: descriptions are fetched, the change that the words ask for is planned, and a session carries
+-- it out by the lines that come.
 use Rattle.std.specs.Prelude.{◌≡◌, ℕ, List, [], ◌++◌}
 use Rattle.change_apply.specs.Talks.{Bytes, CountsFaults, Ends}
 use Rattle.change_apply.specs.declared.request.Request.{Request}
 use Rattle.change_apply.specs.declared.said.Ending.{Ending}
 use Rattle.change_apply.specs.declared.said.Ending.TheVariants as ending
 use Rattle.change_plan.specs.Plans.{IsPlanOf}
-use Rattle.change_plan.specs.Refusals.{CanPlan}
+use Rattle.change_spec.specs.Statements.{Statement}
 use Rattle.command_answers.specs.Answers.{no_memory_line, refusal_status, refusal_text}
 use Rattle.command_answers.specs.declared.status.Status.{Status}
 use Rattle.command_answers.specs.declared.status.Status.TheVariants as status
-use Rattle.command_spec.specs.Courses.{Course, End, came, ends, fetches, judges, refusal, Follows}
-use Rattle.command_spec.specs.Descriptions.{HasGraph}
-use Rattle.command_spec.specs.Plans.{Starts, made_of_graph}
-use Rattle.command_spec.specs.Queries.{IsRefused}
+use Rattle.command_spec.specs.Courses.{Course, End, came, refusal, says, then_by, Follows}
+use Rattle.command_spec.specs.Lines.{begun, of_lines}
+use Rattle.command_spec.specs.Plans.{lines_of_change, statements_of_change}
 use Rattle.command_spec.specs.Runs.{Run, Written}
-use Rattle.command_spec.specs.Sorts.{of_description}
-use Rattle.command_spec.specs.declared.query.Cut.TheVariants as cuts
-use Rattle.command_spec.specs.declared.query.Query.{Query}
-use Rattle.command_spec.specs.declared.query.Query.TheVariants as queries
 use Rattle.command_words.specs.declared.sessions.SessionWords.{SessionWords}
 
--- What is asked of a session by the words, of the description of this text: a run can start with the first component, and
--- there is room for the change to the second, of which this is the plan.
-pub record IsRequest (text : List ℕ) (asked : SessionWords) (r : Request) : Type 0 where
-  pub from_name : r.from.name ≡ asked.call.top
-  pub from_args : r.from.args ≡ asked.call.args
-  pub starts : Starts text asked.call.top asked.call.args r.from.graph
-  pub to_name : r.to.name ≡ asked.target.top
-  pub to_args : r.to.args ≡ asked.target.args
-  pub has_graph : HasGraph text asked.target.top asked.target.args r.to.graph
-  pub has_room : CanPlan r.from.graph r.to.graph [] (made_of_graph r.from.graph)
+-- What is asked of a session by the words, where the lines of their change lead to these statements: the two components
+-- with their graphs, and the plan.
+pub record IsRequest (asked : SessionWords) (statements : List Statement) (r : Request) : Type 0 where
+  pub from_name : r.from.name ≡ asked.change.call.top
+  pub from_args : r.from.args ≡ asked.change.call.args
+  pub to_name : r.to.name ≡ asked.change.target.top
+  pub to_args : r.to.args ≡ asked.change.target.args
+  pub said_are : statements ≡ statements_of_change asked.change r.from.graph r.to.graph
   pub is_plan : IsPlanOf r.from.graph r.to.graph [] r.plan
   pub within_is : r.within ≡ asked.within
 
--- what `plan` is asked for by these words
-abbrev pub plan_query : SessionWords → Query
-plan_query asked = queries.Change cuts.Whole asked.call asked.target
-
--- The course to the request of a session: the description is fetched, and what refuses `plan` refuses the session.
+-- The course to the request of a session: that of `plan`, line by line, and what refuses `plan` refuses the session.
 abbrev pub course_to_session : SessionWords → Course Request
 course_to_session asked =
-    fetches of_description asked.file
-    (λ text. judges Request of_description asked.file (IsRefused (plan_query asked) text) (IsRequest text asked) ends)
+    then_by (of_lines begun (lines_of_change asked.change)) (λ p. says (IsRequest asked p.statements))
 
 -- the status by which a session ends
 abbrev pub session_status : Ending → Status

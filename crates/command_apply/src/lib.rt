@@ -4,9 +4,8 @@
 
 mod carrying;
 mod laws;
-mod planning;
 mod requesting;
 mod talking;
 
 pub use carrying::carry_out;
-pub use laws::{requests_may_be_carried_out, write_faults_of_sessions_are_failed_puts};
+pub use laws::write_faults_of_sessions_are_failed_puts;
