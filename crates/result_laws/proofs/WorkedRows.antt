@@ -19,12 +19,12 @@ use Rattle.report_types.specs.declared.report.Last.{Last}
 use Rattle.report_types.specs.declared.report.Last.TheVariants as last
 use Rattle.change_spec.specs.Members.{Member, by_node, state_at}
 use Rattle.change_spec.specs.Standing.{is_graph_of}
-use Rattle.result_laws.specs.Items.{HasItems, IsItem, WasAnswered}
+use Rattle.result_laws.specs.Items.{HasItems, IsItem, IsOfSource, WasAnswered}
 use Rattle.result_laws.specs.Describing.{kind_at}
 use Rattle.result_laws.specs.Rows.{IsRow, LeadsThrough, is_of_row, rows_serve_rows, through}
 use Rattle.result_laws.specs.WorkedBanks.{bank_beside_row, beside}
 use Rattle.result_laws.proofs.Testing.{links_pass}
-use Rattle.result_laws.specs.Worked.{members, row_of_none, row_of_one, row_of_two, row_with_teller, sink_log, source_log, under_way, until_begun, with_one_aside}
+use Rattle.result_laws.specs.Worked.{members, members_amidst, row_beside_teller, row_of_none, row_of_one, row_of_two, row_with_teller, sink_log, source_log, under_way, until_amidst, until_begun, with_one_aside}
 
 two_is_row : IsRow row_of_two
 two_is_row = record {
@@ -185,7 +185,13 @@ items_in : Last → List ℕ
 items_in (last.State xs) = xs
 items_in _ = []
 
--- its one transaction
+-- its one transaction, behind these members
+abbrev all_behind : List Member → List Member
+all_behind front = front ++ by_node (event.Begin 0 1 1) ∷ (under_way ++ by_node (event.End 0 1 1) ∷ [])
+
+answered_behind : (front : List Member) → IsOfSource (state_at front).config 0 → WasAnswered (all_behind front) 1
+answered_behind front of_source = record { before = front; between = under_way; after = []; port = 0; serial = 1; answer = 1; parts = refl; of_source = of_source; not_0 = λ e. omega (arith, e) }
+
 abbrev one_answered : WasAnswered members 1
 one_answered = record { before = until_begun; between = under_way; after = []; port = 0; serial = 1; answer = 1; parts = refl; of_source = refl; not_0 = λ e. omega (arith, e) }
 
@@ -210,26 +216,53 @@ one_begun (a ∷ front) (b ∷ before) x y rest after none_ none_' is h =
     let later = one_begun front before x y rest after (or_parts (is_begun a) (list_any is_begun front) none_).1 none_' is (tails_are a b (front ++ x ∷ rest) (before ++ y ∷ after) h) in
     (λ i. same i ∷ later i)
 
--- it is 11
-pub item_holds : ((c : Configuration) (g : Graph) → is_graph_of c g ≡ true → IsGraphOf c g) → HasItems members source_log (sink_log 11)
-item_holds found = record { items = 11 ∷ []; source_says = refl; sink_has = refl; began = begun; each = each }
+-- it is 11, where a row stands in front that makes that of 1
+item_behind : (front : List Member) (g : Graph) (r : IsRow g) → through g r.maps 1 ≡ 11 → IsGraphOf (state_at front).config g → list_any is_begun front ≡ false → IsOfSource (state_at front).config 0
+    → HasItems (all_behind front) source_log (sink_log 11)
+item_behind front g r passes stands none_ of_source = record { items = 11 ∷ []; source_says = refl; sink_has = refl; began = begun; each = each }
   where
-    begun : (j item : ℕ) → slice_get (11 ∷ []) j ≡ Some item → WasAnswered members (j + 1)
-    begun zero item at = one_answered
+    begun : (j item : ℕ) → slice_get (11 ∷ []) j ≡ Some item → WasAnswered (all_behind front) (j + 1)
+    begun zero item at = answered_behind front of_source
     begun (suc j) item at = absurd (none-some item at)
 
-    each : (j item : ℕ) (b : WasAnswered members (j + 1)) → slice_get (11 ∷ []) j ≡ Some item → IsItem members (j + 1) item b
+    each : (j item : ℕ) (b : WasAnswered (all_behind front) (j + 1)) → slice_get (11 ∷ []) j ≡ Some item → IsItem (all_behind front) (j + 1) item b
     each zero item b at =
         let e = by_node (event.End 0 1 1) in
-        let before : b.before ≡ until_begun =
-        one_begun until_begun b.before (by_node (event.Begin 0 1 1)) (by_node (event.Begin b.port b.serial 1)) (under_way ++ e ∷ []) (b.between ++ by_node (event.End b.port b.serial b.answer) ∷ b.after) refl refl refl b.parts in
-        record {
-          graph = row_of_one;
-          stands = subst (λ (m : List Member). IsGraphOf (state_at m).config row_of_one) (sym before) (found (state_at until_begun).config row_of_one refl);
-          row = one_is_row;
-          is = sym (same_Some 11 item at) ∙ sym (maps_of_one one_is_row);
-        }
+        let before : b.before ≡ front =
+        one_begun front b.before (by_node (event.Begin 0 1 1)) (by_node (event.Begin b.port b.serial 1)) (under_way ++ e ∷ []) (b.between ++ by_node (event.End b.port b.serial b.answer) ∷ b.after) none_ refl refl b.parts in
+        record { graph = g; stands = subst (λ (m : List Member). IsGraphOf (state_at m).config g) (sym before) stands; row = r; is = sym (same_Some 11 item at) ∙ sym passes }
     each (suc j) item b at = absurd (none-some item at)
+
+pub item_holds : ((c : Configuration) (g : Graph) → is_graph_of c g ≡ true → IsGraphOf c g) → HasItems members source_log (sink_log 11)
+item_holds found = item_behind until_begun row_of_one one_is_row (maps_of_one one_is_row) (found (state_at until_begun).config row_of_one refl) refl refl
+
+-- also in the midst of a commit beside
+beside_teller_is_row : IsRow row_beside_teller
+beside_teller_is_row = record {
+  source = 0;
+  maps = 1 ∷ [];
+  sink = 2;
+  is_source = refl;
+  are_maps = All-cons (λ i. kind_at row_beside_teller i ≡ Some Map) 1 [] refl (All-nil (λ i. kind_at row_beside_teller i ≡ Some Map));
+  is_sink = refl;
+  no_others = each;
+  links = links_pass rows_serve_rows row_beside_teller refl;
+  leads = (refl, refl);
+}
+  where
+    each : (i : ℕ) (k : Kind) → kind_at row_beside_teller i ≡ Some k → is_of_row k ≡ true → (i ≡ 0) ⊎ Contains (1 ∷ []) i ⊎ (i ≡ 2)
+    each zero k h of_row = inl refl
+    each (suc zero) k h of_row = inr (inl (0, omega arith, refl))
+    each (suc (suc zero)) k h of_row = inr (inr refl)
+    each (suc (suc (suc zero))) k h of_row = absurd (both_ways false refl (ap is_of_row (same_Some Teller k h) ∙ of_row))
+    each (suc (suc (suc (suc i)))) k h of_row = absurd (none-some k h)
+
+beside_teller_passes : through row_beside_teller beside_teller_is_row.maps 1 ≡ 11
+unfolding beside_teller_is_row
+beside_teller_passes = refl
+
+pub item_holds_amidst : ((c : Configuration) (g : Graph) → is_graph_of c g ≡ true → IsGraphOf c g) → HasItems members_amidst source_log (sink_log 11)
+item_holds_amidst found = item_behind until_amidst row_beside_teller beside_teller_is_row beside_teller_passes (found (state_at until_amidst).config row_beside_teller refl) refl refl
 
 -- its item is what the one map made of it, and no other number
 pub item_is : ((c : Configuration) (g : Graph) → is_graph_of c g ≡ true → IsGraphOf c g) → ((c : Configuration) (g h : Graph) → IsGraphOf c g → IsGraphOf c h → g ≡ h) → (item : ℕ) → HasItems members source_log (sink_log item) → item ≡ 11

@@ -52,6 +52,19 @@ under_way =
 abbrev pub members : List Member
 members = until_begun ++ by_node (event.Begin 0 1 1) ∷ (under_way ++ by_node (event.End 0 1 1) ∷ [])
 
+-- the same in the midst of a commit, which has made a teller beside before the value sets out
+abbrev pub row_beside_teller : Graph
+row_beside_teller = record {
+  nodes = node (codes "a") Source (Some 1) ∷ node (codes "b") Map (Some 10) ∷ node (codes "c") Sink None ∷ node (codes "w") Teller (Some 1) ∷ [];
+  links = leads 0 0 1 ∷ leads 1 0 2 ∷ [];
+}
+
+abbrev pub until_amidst : List Member
+until_amidst = until_begun ++ of_history (to.Make 3 (node (codes "w") Teller (Some 1)) None) ∷ []
+
+abbrev pub members_amidst : List Member
+members_amidst = until_amidst ++ by_node (event.Begin 0 1 1) ∷ (under_way ++ by_node (event.End 0 1 1) ∷ [])
+
 abbrev pub source_log : NodeLog
 source_log = record { slot = 0; events = event.Begin 0 1 1 ∷ event.End 0 1 1 ∷ []; last = last.State (1 ∷ []) }
 

@@ -13,7 +13,7 @@ ghost use Rattle.result_laws.specs.Describing.{Describes};
 ghost use Rattle.result_laws.specs.Items.{HasItems, IsLogOfLive, IsOfSource};
 ghost use Rattle.result_laws.specs.Keeping.{AreRows};
 ghost use Rattle.result_laws.specs.Rows.{IsAlone, IsRow, through};
-ghost use Rattle.result_laws.specs.Worked.{members, row_of_none, row_of_one, row_of_two, row_with_teller, sink_log, source_log, with_one_aside};
+ghost use Rattle.result_laws.specs.Worked.{members, members_amidst, row_of_none, row_of_one, row_of_two, row_with_teller, sink_log, source_log, with_one_aside};
 ghost use Rattle.result_laws.specs.WorkedBanks.{bank_beside_row};
 
 use change_plan_laws::{commits_can_not_fail, commits_leave_the_new_graph, each_plan_may_commit};
@@ -70,7 +70,9 @@ pub fn sources_alone_begin()
 }
 
 /// The definitions on small systems: two maps in a row, and a row beside a bank. A graph in which a map stands aside is no
-/// row, nor is one in which a teller leads to the sink. A value on its way; and a report whose one item is 11: one that went through another map than the one that stood is wrong.
+/// row, nor is one in which a teller leads to the sink. A value on its way; and a report whose one item is 11,
+/// also where the value sets out in the midst of a commit beside: one that went through another map than the one that stood
+/// is wrong.
 pub fn rows_are_told_from_others()
     ensures rows { IsRow row_of_none × IsRow row_of_one × ((row : IsRow row_of_two) × (row.maps ≡ 3 ∷ 0 ∷ [])) }
     ensures passed { through row_of_two (3 ∷ 0 ∷ []) 1 ∷ through row_of_two (3 ∷ 0 ∷ []) 2
@@ -79,6 +81,7 @@ pub fn rows_are_told_from_others()
     ensures aside { IsRow with_one_aside → ⊥ }
     ensures teller { IsRow row_with_teller → ⊥ }
     ensures holds { HasItems members source_log (sink_log 11) }
+    ensures amidst { HasItems members_amidst source_log (sink_log 11) }
     ensures item { (item : ℕ) → HasItems members source_log (sink_log item) → item ≡ 11 }
 {
     plans_and_graphs_are_found_by_tests();
