@@ -161,6 +161,7 @@ impl<'g, J: Named, R: Wait + Copy, T: Turnstile> Board for LiveBoard<'g, J, R, T
         ensures room { self.new.room ≡ self.old.room }
         ensures kept { KeepsNodes self.old self.new }
     {
+        self.signs.tell_change(true);
         self.gates.close(&mut self.seat, port);
         self.last = None;
     }
@@ -299,6 +300,7 @@ impl<'g, J: Named, R: Wait + Copy, T: Turnstile> Board for LiveBoard<'g, J, R, T
             self.old.ways self.new.ways self.old.last self.new.last begins) }
         ensures stored { self.new.stored ≡ self.old.stored }
     {
+        self.signs.tell_change(!begins);
         if begins {
             self.pace.wait(&self.rt);
         }

@@ -15,6 +15,8 @@ pub struct Signs {
     moved: AtomicBool,
     /// Nodes were made in slots below this.
     made: AtomicU32,
+    /// A change is under way.
+    changing: AtomicBool,
     partners: Partners,
 }
 
@@ -25,6 +27,7 @@ impl Signs {
             short: AtomicBool::new(false),
             moved: AtomicBool::new(false),
             made: AtomicU32::new(0),
+            changing: AtomicBool::new(false),
             partners: Partners::new(alloc)?,
         })
     }
@@ -43,6 +46,19 @@ impl Signs {
     pub fn tell_move(&self) {
         if !self.moved.load(Ordering::SeqCst) {
             self.moved.store(true, Ordering::SeqCst);
+        }
+    }
+
+    /// Whether a change is under way, or the stop is: each node is to lie in the hall again behind its turn then, since the
+    /// change may wait for it.
+    pub fn is_changing(&self) -> bool {
+        self.changing.load(Ordering::SeqCst)
+    }
+
+    /// A change is under way from now on, or none is. The sign is read first here too.
+    pub(crate) fn tell_change(&self, changing: bool) {
+        if self.changing.load(Ordering::SeqCst) != changing {
+            self.changing.store(changing, Ordering::SeqCst);
         }
     }
 

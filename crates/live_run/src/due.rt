@@ -3,8 +3,9 @@
 use config_graph::MAX_NODES;
 use quiesce_core::{Deed, NodeEvent};
 
-/// How often a worker looks for a node that has something to do, where others have it.
-const LOOKS: u8 = 4;
+/// In how many passes a worker looks for a node that has something to do, where others have it: these hold it for up to 64 of
+/// their passes, which may take longer.
+const LOOKS: u8 = 192;
 
 /// How often a worker still looks for the node of each slot, since it may have something to do.
 #[derive(Drop)]

@@ -4,6 +4,7 @@
 
 mod due;
 mod ending;
+mod held;
 mod running;
 mod telling;
 mod working;

@@ -114,7 +114,9 @@ where
             for (door, hand) in doors.into_iter().zip(hands) {
                 worker = worker.wrapping_add(1);
                 let share = Share { worker, workers };
-                let _ = scope.spawn(move || work(&rt, gates, door, hand, told, stile, share));
+                let _ = scope.spawn(move || work(
+                    &rt, alloc, gates, door, hand, told, stile, share,
+                ));
             }
             let board = LiveBoard::new(rt, alloc, gates, seat, door, hand, stile, &told.signs);
             let ran = run_watched(alloc, board, start, steps, watch, observers.count);
