@@ -50,15 +50,12 @@ class Order:
         return await run.ask(system["front"].port, {"do": "order", "with": asked}) == {"ok": True}
 
 
-class Stock:
-    """Stands in the place of the shop's stock: it keeps a row's own orders until they are let go, and writes none into the database before the
-    end, so that no other order fails where an old stock goes on."""
+def keeping(orders):
+    """In the place of the stock's `reserve`: it keeps these orders, by their numbers, until they are let go. It writes none into the database
+    before the end, so that no other order fails where an old stock goes on."""
 
-    def __init__(self, *orders):
-        self.orders = {order.row[0]: order for order in orders}
-
-    def reserve(self, stock, number, item, count):
-        order = self.orders.get(number)
+    def reserve(stock, number, item, count):
+        order = orders.get(number)
         if order:
             order.is_in.set()
             order.let_go.wait(LONG)
@@ -66,6 +63,8 @@ class Stock:
             stock.sold[item] += count
             stock.unwritten.append((number, item, count))
         return True
+
+    return reserve
 
 
 SUMMARY = os.path.join(TOP, "tools", "session_summary")
@@ -87,43 +86,44 @@ FAULTS = [
 TIMES, SECONDS, PATIENCE = 3, 3, 60
 
 
-async def in_the_middle(system, orders, when, within):
-    """What a change of stock and mail raises while an order is in the middle; it is waited for what is said to the clients of all orders."""
-    first, behind = orders
+async def in_the_middle(system, first, behind, when, within):
+    """What a change of stock and mail raises while an order is in the middle; and the orders of which their clients are told in the end that they
+    are taken."""
     asking = [asyncio.ensure_future(first.ask(system))]
-    await until(first.is_in.is_set)
+    assert await until(first.is_in.is_set)
     changing = asyncio.ensure_future(system.change("Shop(%d)" % (3 - int(system.call[1])), within=within, moving=run.BATCHES))
     await closing(system, changing, *HELD)
     if when == FOLLOWED:
         asking.append(asyncio.ensure_future(behind.ask(system)))
-        await until(behind.is_in.is_set)
+        assert await until(behind.is_in.is_set)
     if when != ENDED:
         first.let_go.set()
     (raised,) = await asyncio.gather(changing, return_exceptions=True)
     first.let_go.set()
     behind.let_go.set()
     told = await asyncio.gather(*asking)
-    return type(raised).__name__ if isinstance(raised, Exception) else None, [order.row for order, is_told in zip(orders, told) if is_told]
+    taken = [order.row for order, is_taken in zip((first, behind), told) if is_taken]
+    return type(raised).__name__ if isinstance(raised, Exception) else None, taken
 
 
-async def changed_so_often(system, when, within, raised):
-    """Stock and mail are replaced again and again. The orders beside those of the load."""
-    own = []
+async def changed_so_often(system, orders, when, within, raised):
+    """Stock and mail are replaced again and again. The orders that were taken beside those of the load."""
+    taken = []
     for turn in range(TIMES):
-        orders = Order(10**9 + 2 * turn), Order(10**9 + 2 * turn + 1)
-        with planted((shop.Stock.provisions["reserve"], "handler", Stock(*orders).reserve)):
-            fault, told = await in_the_middle(system, orders, when, within)
+        first, behind = (Order(10**9 + 2 * turn + at) for at in range(2))
+        orders.update((order.row[0], order) for order in (first, behind))
+        fault, told = await in_the_middle(system, first, behind, when, within)
         raised.append(fault)
-        own += told
-    return own
+        taken += told
+    return taken
 
 
 def try_faults(tries):
     """Either a fault is caught, and then nothing is lost; or something is, and the shop's own books show it."""
     for name, faults, when, wanted, loses in FAULTS[:1] if tries.quick else FAULTS:
-        raised, within = [], 0.5 if wanted == {"GivenUp"} else PATIENCE
-        with planted(*faults), contextlib.redirect_stdout(io.StringIO()):
-            found = asyncio.run(run.trial(12, SECONDS, lambda system, _: changed_so_often(system, when, within, raised), tries.manager))
+        raised, orders, within = [], {}, 0.5 if wanted == {"GivenUp"} else PATIENCE
+        with planted((shop.Stock.provisions["reserve"], "handler", keeping(orders)), *faults), contextlib.redirect_stdout(io.StringIO()):
+            found = asyncio.run(run.trial(12, SECONDS, lambda system, _: changed_so_often(system, orders, when, within, raised), tries.manager))
         print("%-52s raised %s; at the end: %s" % (name, sorted(set(map(str, raised))), "; ".join(found)[:90] or "nothing was lost"), flush=True)
         tries.want("%s: what is raised" % name, len(raised) == TIMES and set(raised) <= wanted, raised)
         tries.want("%s: what is lost" % name, bool(found) == loses, found)
