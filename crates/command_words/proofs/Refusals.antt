@@ -32,14 +32,14 @@ pub no_component :
 no_component words same apart None target is = same target is
 no_component words same apart (Some other) target is = apart (Some other) target is
 
-pub is_other : (words : List (List ℕ)) (other : Option (List ℕ)) (target : TopCall) → IsOther words other target → IsTarget words other target
-is_other [] other target never = absurd never
-is_other (word ∷ words) other target is = subst (λ o. IsTarget (word ∷ words) o target) (sym is.1) (is.0, refl, is.2)
+pub other_is_target : (words : List (List ℕ)) (other : Option (List ℕ)) (target : TopCall) → IsOther words other target → IsTarget words other target
+other_is_target [] other target never = absurd never
+other_is_target (word ∷ words) other target is = subst (λ o. IsTarget (word ∷ words) o target) (sym is.1) (is.0, refl, is.2)
 
 pub finds_other :
     {E : Type 0} (words : List (List ℕ)) (r : Result (Option Target) E) → ((target : TopCall) → IsCall words target → ⊥)
     → IfOk r (IsFound (λ (to : Target). IsOther words to.other to.target)) → IfOk r (IsFound (λ (to : Target). IsTarget words to.other to.target))
-finds_other words (Ok (Some to)) none is = is_other words to.other to.target is
+finds_other words (Ok (Some to)) none is = other_is_target words to.other to.target is
 finds_other words (Ok None) none nothing = λ to is.
     no_component words none (λ other target. nothing (record { other = other; target = target })) to.other to.target is
 finds_other words (Err e) none is = tt
