@@ -38,46 +38,43 @@ letters_up_to (byte ∷ bytes) is = by (continues_name byte) refl is (letters_up
     by true letter same again = and_from (continues_name byte) (list_all continues_name bytes) letter (again (omega (arith, same)))
     by false other same again = absurd (omega (arith, same))
 
-no_comment_named : (o : Option ℕ) (n : ℕ) → closed_or_open o ≡ Lexeme kinds.Name n → ⊥
-no_comment_named None n is = absurd (cc is)
-no_comment_named (Some m) n is = absurd (cc is)
-
 no_number_named : (b : Bool) (value n m : ℕ) → (if b then Lexeme (kinds.Number value) n else Broken faults.BigNumber) ≡ Lexeme kinds.Name m → ⊥
 no_number_named true value n m is = absurd (cc is)
 no_number_named false value n m is = absurd (cc is)
-
-no_sign_named : (o : Option Sign) (n : ℕ) → sign_or_bad o ≡ Lexeme kinds.Name n → ⊥
-no_sign_named None n is = absurd (cc is)
-no_sign_named (Some sign_) n is = absurd (cc is)
 
 whole_name : (b : Bool) (kind : TokenKind) (n m : ℕ) → (if b then Lexeme kind n else Broken faults.LongName) ≡ Lexeme kinds.Name m → n ≡ m
 whole_name true kind n m is = cc is
 whole_name false kind n m is = absurd (cc is)
 
+-- no name of a component names a file
 named_front :
     (text : List ℕ) (a b c d e : Bool)
     → (if a then Gap 1 else (if b then line_comment text else (if c then block_comment text else (if d then name text else (if e then number text else sign text)))))
-    ≡ Lexeme kinds.Name (length text) → list_all continues_name text ≡ true
+    ≡ Lexeme kinds.Name (length text) → is_file_name text ≡ false
 named_front text true b c d e is = absurd (cc is)
 named_front text false true c d e is = absurd (cc is)
-named_front text false false true d e is = absurd (no_comment_named (through_close (drop 2 text)) (length text) is)
+named_front text false false true d e is = by (through_close (drop 2 text)) is
+  where
+    by : (o : Option ℕ) → closed_or_open o ≡ Lexeme kinds.Name (length text) → is_file_name text ≡ false
+    by None same = absurd (cc same)
+    by (Some m) same = absurd (cc same)
 named_front text false false false true e is =
     let n = prefix_len continues_name text in
-    letters_up_to text (whole_name (nat_le n 64) (word_kind (take n text)) n (length text) is)
+    letters_hold_no_mark text (letters_up_to text (whole_name (nat_le n 64) (word_kind (take n text)) n (length text) is))
 named_front text false false false false true is =
     let n = prefix_len is_ascii_digit text in
     absurd (no_number_named (nat_le (digits_value 10 (take n text)) 2147483647) (digits_value 10 (take n text)) n (length text) is)
-named_front text false false false false false is = absurd (no_sign_named (sign_at text) (length text) is)
+named_front text false false false false false is = by (sign_at text) is
+  where
+    by : (o : Option Sign) → sign_or_bad o ≡ Lexeme kinds.Name (length text) → is_file_name text ≡ false
+    by None same = absurd (cc same)
+    by (Some sign_) same = absurd (cc same)
 
-letters_of_name : (word : List ℕ) → IsName word → list_all continues_name word ≡ true
-letters_of_name [] is = absurd (cc is)
-letters_of_name (byte ∷ bytes) is =
+names_no_file : (word : List ℕ) → IsName word → is_file_name word ≡ false
+names_no_file [] is = refl
+names_no_file (byte ∷ bytes) is =
     let text : List ℕ = byte ∷ bytes in
     named_front text (is_blank byte) (starts_with nat_eq text (codes "//")) (starts_with nat_eq text (codes "/*")) (begins_name byte) (is_ascii_digit byte) is
-
--- no name of a component names a file
-names_no_file : (word : List ℕ) → IsName word → is_file_name word ≡ false
-names_no_file word is = letters_hold_no_mark word (letters_of_name word is)
 
 two_files_apart : (words : List (List ℕ)) (t u : TopCall) (other : Option (List ℕ)) → IsCall words t → IsOther words other u → ⊥
 two_files_apart [] t u other x never = never
