@@ -35,7 +35,7 @@ use Rattle.command_program.proofs.ComingLaws.{comes_here, comes_on, comes_stop}
 use Rattle.command_spec.specs.Courses.{End, came, not_fetched, refusal, said, says, Follows}
 use Rattle.command_spec.specs.Lines.{Progress, begun, of_lines}
 use Rattle.command_spec.specs.Plans.{lines_of_change, made_of_graph, statements_of_change}
-use Rattle.command_spec.proofs.ChangeLines.{first_made}
+use Rattle.command_spec.proofs.ChangeLineLaws.{first_made}
 use Rattle.command_spec.specs.Runs.{Run, Written, stopped as stopped_at, whole}
 use Rattle.command_words.specs.declared.sessions.SessionWords.{SessionWords}
 use Rattle.quiesce_core.specs.Start.{gate_of, slot_of, started}
@@ -51,8 +51,8 @@ same_made g =
     ∙ ap (of (length (map (slot_of g.nodes) (enumerate_from 0 g.nodes)))) (sym (length-map (ports g.nodes) (gate_of g)))
 
 -- what can be made may be carried out
-is_graph : (g : Graph) → Sound g → HasRoomFor nothing_made g → IsGraph g
-is_graph g sound room = record {
+started_is_graph : (g : Graph) → Sound g → HasRoomFor nothing_made g → IsGraph g
+started_is_graph g sound room = record {
   paths_rise = sound.paths_rise;
   within = sound.within;
   in_order = sound.in_order;
@@ -65,7 +65,7 @@ can_change :
     → IsPlanOf old new [] plan → CanPlan old new [] (more_made nothing_made (length old.nodes) (length (ports old.nodes)))
     → CanChange (record { old = old; new = new; plan = plan; within = within })
 can_change old new plan within old_sound room new_is new_sound is_plan can = record {
-  old_graph = is_graph old old_sound room;
+  old_graph = started_is_graph old old_sound room;
   old_sound = old_sound;
   few_nodes = omega (arith, room.nodes_fit);
   few_ports = omega (arith, room.ports_fit);

@@ -17,7 +17,7 @@ use Rattle.command_spec.specs.Courses.{Follows, came}
 use Rattle.command_spec.specs.Lines.{Progress, begun, of_lines}
 use Rattle.command_spec.specs.Plans.{lines_of_change, statements_of_change}
 use Rattle.command_spec.specs.Scripts.{lines_of_script}
-use Rattle.command_spec.proofs.ChangeLines.{leads_to}
+use Rattle.command_spec.proofs.ChangeLineLaws.{leads_to}
 use Rattle.command_spec.proofs.CourseLaws.{none_failed}
 use Rattle.command_program.specs.Coming.{Comes}
 use Rattle.command_program.specs.Fitting.{MayAllStand}
@@ -33,11 +33,11 @@ lines_by c =
     line_of (bodies.File c.file) ∷ line_of (bodies.Start c.call.top c.call.args)
     ∷ (lines_of_other c.other ++ line_of (bodies.Change c.target.top c.target.args 0 []) ∷ [])
 
-pub pushed :
+pub pushed_lines :
     (c : Change) (none first second third all : List ScriptLine) → none ≡ [] → first ≡ none ++ line_of (bodies.File c.file) ∷ []
     → second ≡ first ++ line_of (bodies.Start c.call.top c.call.args) ∷ [] → third ≡ second ++ lines_of_other c.other
     → all ≡ third ++ line_of (bodies.Change c.target.top c.target.args 0 []) ∷ [] → all ≡ lines_by c
-pushed c none first second third all empty one two three four =
+pushed_lines c none first second third all empty one two three four =
     four ∙ ap (λ ls. ls ++ line_of (bodies.Change c.target.top c.target.args 0 []) ∷ []) (three ∙ ap (λ ls. ls ++ lines_of_other c.other) (two ∙ ap (λ ls. ls ++ line_of (bodies.Start c.call.top c.call.args) ∷ []) (one ∙ ap (λ ls. ls ++ line_of (bodies.File c.file) ∷ []) empty)))
 
 module _ (c : Change) where

@@ -55,10 +55,10 @@ allowed_from :
 allowed_from q g made old above (other, earlier, is, (can, made_is)) =
     subst (λ o. CanPlan o g [] q.made) (first_is other old earlier [] (sym is ∙ above)) can
 
-led :
+lines_led :
     (c : Change) (tree other_tree : Tree) (p q r : Progress) → CallLeads (with_description begun c.file tree) starts c.call.top c.call.args p
     → Follows_start p q other_tree → CallLeads q (changes 0 []) c.target.top c.target.args r → Led c tree other_tree r
-led c tree other_tree p q r first between second =
+lines_led c tree other_tree p q r first between second =
     let old = first.graph in
     let new = second.graph in
     let above : q.graphs ≡ old ∷ [] = between.graphs_are ∙ ap (λ (p : Progress). p.graphs) first.is_next in
@@ -123,10 +123,10 @@ module _ (files : Option Files) (c : Change) where
           (other : Option (List ℕ)) → Follows files (of_lines p (uses_other other ++ calls (changes 0 []) c.target.top c.target.args ∷ [])) [] (came r)
           → c.other ≡ other → LeadsTo files c r
       by None (gives _ _ _ second here) is =
-          of tree (led c tree tree p p r first (same_file c tree p first) second)
+          of tree (lines_led c tree tree p p r first (same_file c tree p first) second)
           (λ new has. subst (λ o. TargetHas files text o c.target new) (sym is) (has_graph text tree c.target new checked has))
       by (Some file) (leads_on more _ _ also (gives other_tree _ _ sound (gives _ _ _ second here))) is =
-          of other_tree (led c tree other_tree p (with_description p file other_tree) r first (other_file p file other_tree) second)
+          of other_tree (lines_led c tree other_tree p (with_description p file other_tree) r first (other_file p file other_tree) second)
           (λ new has. subst (λ o. TargetHas files text o c.target new) (sym is)
           (record { text = more; is_told = also; has_graph = has_graph more other_tree c.target new sound has }))
 
@@ -173,8 +173,8 @@ pub record OfGraphs (c : Change) (p : Progress) : Type 0 where
   pub is_new : IsGraph new
 
 module _ (graphs : GraphOrFault) (alone : PlanAlone) (c : Change) where
-  of_led : (tree other_tree : Tree) (r : Progress) → NoFault tree → NoFault other_tree → Led c tree other_tree r → OfGraphs c r
-  of_led tree other_tree r sound other_sound l = record {
+  of_lines_led : (tree other_tree : Tree) (r : Progress) → NoFault tree → NoFault other_tree → Led c tree other_tree r → OfGraphs c r
+  of_lines_led tree other_tree r sound other_sound l = record {
     old = l.old;
     new = l.new;
     said_are = l.said_are;
@@ -189,7 +189,7 @@ module _ (graphs : GraphOrFault) (alone : PlanAlone) (c : Change) where
           (tree : Tree) → NoFault tree → (p : Progress) → CallLeads (with_description begun c.file tree) starts c.call.top c.call.args p
           → (other : Option (List ℕ)) → ComesTo (OfGraphs c) (of_lines p (uses_other other ++ calls (changes 0 []) c.target.top c.target.args ∷ []))
       by tree sound p first None = λ r second.
-          of_led tree tree r sound sound (led c tree tree p p r first (same_file c tree p first) second)
+          of_lines_led tree tree r sound sound (lines_led c tree tree p p r first (same_file c tree p first) second)
       by tree sound p first (Some file) = λ text other_tree checked r second.
-          of_led tree other_tree r sound checked.sound
-          (led c tree other_tree p (with_description p file other_tree) r first (other_file p file other_tree) second)
+          of_lines_led tree other_tree r sound checked.sound
+          (lines_led c tree other_tree p (with_description p file other_tree) r first (other_file p file other_tree) second)

@@ -29,7 +29,7 @@ use Rattle.command_spec.specs.Schedules.{IsReportBy, IsShownBy, rounds, threads,
 use Rattle.command_spec.specs.Scripts.{Uses, prepares, lines_of_script}
 use Rattle.command_spec.specs.Sorts.{TellsReport, limit_of, of_events, of_report}
 use Rattle.command_spec.proofs.CourseLaws.{Decided, decided_then, decided_where, none_failed, came_by, comes_by}
-use Rattle.command_spec.proofs.ChangeLines.{OfGraphs, change_of_graphs, change_shown, same_graphs, wrote_change}
+use Rattle.command_spec.proofs.ChangeLineLaws.{OfGraphs, change_of_graphs, change_shown, same_graphs, wrote_change}
 use Rattle.command_spec.proofs.GraphLaws.{GraphOrFault, PlanAlone}
 use Rattle.command_spec.proofs.OneRun.{one_verdict}
 use Rattle.command_spec.proofs.Wanting.{never_both, replays_status, roll_ends}

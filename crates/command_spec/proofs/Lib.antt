@@ -1,5 +1,5 @@
 pub mod AnswerLaws
-pub mod ChangeLines
+pub mod ChangeLineLaws
 pub mod CourseLaws
 pub mod GraphLaws
 pub mod LineLaws

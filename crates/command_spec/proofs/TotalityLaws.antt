@@ -75,7 +75,7 @@ use Rattle.command_spec.specs.Commands.{Shown, ShowsChange, shown}
 use Rattle.command_spec.specs.Lines.{Progress, begun}
 use Rattle.command_spec.specs.Outcomes.{TargetHas}
 use Rattle.command_spec.specs.Scripts.{LeadTo}
-use Rattle.command_spec.proofs.ChangeLines.{first_made, leads_to}
+use Rattle.command_spec.proofs.ChangeLineLaws.{first_made, leads_to}
 use Rattle.command_spec.specs.declared.query.Query.{Query}
 use Rattle.command_spec.specs.declared.query.Query.TheVariants as queries
 use Rattle.command_spec.proofs.Existence.{selected, Those, those}
