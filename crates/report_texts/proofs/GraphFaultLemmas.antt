@@ -31,8 +31,8 @@ use Rattle.report_texts.proofs.ShowingLemmas.{has_lines, is_told, text_ends}
 
 -- ---- lines that fit
 
-some_none : {A : Type 0} (a : A) → Some a ≡ None → ⊥
-some_none a is = none_some a (sym is)
+no_number : (number : ℕ) → Some number ≡ None → ⊥
+no_number number is = none_some number (sym is)
 
 -- Lines that fit behind a node have forms, and their nodes are sound and rise from it.
 pub record Fit (before : Option Node) (ls : List (List ℕ)) : Type 0 where
@@ -40,13 +40,13 @@ pub record Fit (before : Option Node) (ls : List (List ℕ)) : Type 0 where
   pub sound : list_all is_sound_node (nodes_in ls) ≡ true
   pub rise : paths_rise (cons_option before (nodes_in ls)) ≡ true
 
-joins : (before : Option Node) (node : Node) (more : List Node) → option_map_or (λ last. comes_before last node) before true ≡ true → paths_rise (node ∷ more) ≡ true → paths_rise (cons_option before (node ∷ more)) ≡ true
-joins None node more after rises = rises
-joins (Some last) node more after rises = and_from (comes_before last node) (paths_rise (node ∷ more)) after rises
+rises_behind : (before : Option Node) (node : Node) (more : List Node) → option_map_or (λ last. comes_before last node) before true ≡ true → paths_rise (node ∷ more) ≡ true → paths_rise (cons_option before (node ∷ more)) ≡ true
+rises_behind None node more after rises = rises
+rises_behind (Some last) node more after rises = and_from (comes_before last node) (paths_rise (node ∷ more)) after rises
 
-ends : (before : Option Node) → paths_rise (cons_option before []) ≡ true
-ends None = refl
-ends (Some last) = refl
+rises_alone : (before : Option Node) → paths_rise (cons_option before []) ≡ true
+rises_alone None = refl
+rises_alone (Some last) = refl
 
 module _ (before : Option Node) (line : List ℕ) (ls : List (List ℕ)) where
   fit_node : (node : Node) → node_in (words line) ≡ Some node → line_fits before line ≡ true → Fit (last_after before line) ls → Fit before (line ∷ ls)
@@ -60,7 +60,7 @@ module _ (before : Option Node) (line : List ℕ) (ls : List (List ℕ)) where
       record {
         forms = and_from (has_form line) (list_all has_form ls) form more.forms;
         sound = ap (list_all is_sound_node) names ∙ and_from (is_sound_node node) (list_all is_sound_node (nodes_in ls)) parts.0 more.sound;
-        rise = ap (λ ns. paths_rise (cons_option before ns)) names ∙ joins before node (nodes_in ls) parts.1 more.rise;
+        rise = ap (λ ns. paths_rise (cons_option before ns)) names ∙ rises_behind before node (nodes_in ls) parts.1 more.rise;
       }
 
   fit_port : node_in (words line) ≡ None → line_fits before line ≡ true → Fit (last_after before line) ls → Fit before (line ∷ ls)
@@ -125,11 +125,11 @@ module _ (before : Option Node) (line : List ℕ) (ls : List (List ℕ)) where
       by (Some node) is = fits_node node is fit
 
 pub fit_all : (number : ℕ) (before : Option Node) (ls : List (List ℕ)) → first_bad number before ls ≡ None → Fit before ls
-fit_all number before [] none = record { forms = refl; sound = refl; rise = ends before }
+fit_all number before [] none = record { forms = refl; sound = refl; rise = rises_alone before }
 fit_all number before (line ∷ ls) none =
     elim (cases_Bool (line_fits before line)) [
       | inl fits ↦ fit_line before line ls fits (fit_all (number + 1) (last_after before line) ls (sym (cond-true _ _ _ fits) ∙ none))
-      | inr bad ↦ absurd (some_none number (sym (cond-false _ _ _ bad) ∙ none))
+      | inr bad ↦ absurd (no_number number (sym (cond-false _ _ _ bad) ∙ none))
     ]
 
 pub all_fit : (number : ℕ) (before : Option Node) (ls : List (List ℕ)) → Fit before ls → first_bad number before ls ≡ None
@@ -140,14 +140,14 @@ all_fit number before (line ∷ ls) fit =
 
 -- ---- texts that are alike
 
-pub alike : (number : ℕ) (xs ys : List (List ℕ)) → first_unlike number xs ys ≡ None → xs ≡ ys
-alike number [] [] none = refl
-alike number [] (y ∷ ys) none = absurd (some_none number none)
-alike number (x ∷ xs) [] none = absurd (some_none number none)
-alike number (x ∷ xs) (y ∷ ys) none =
+pub same_lines : (number : ℕ) (xs ys : List (List ℕ)) → first_unlike number xs ys ≡ None → xs ≡ ys
+same_lines number [] [] none = refl
+same_lines number [] (y ∷ ys) none = absurd (no_number number none)
+same_lines number (x ∷ xs) [] none = absurd (no_number number none)
+same_lines number (x ∷ xs) (y ∷ ys) none =
     elim (cases_Bool (bytes_eq x y)) [
-      | inl same ↦ λ i. same_bytes x y same i ∷ alike (number + 1) xs ys (sym (cond-true _ _ _ same) ∙ none) i
-      | inr other ↦ absurd (some_none number (sym (cond-false _ _ _ other) ∙ none))
+      | inl same ↦ λ i. same_bytes x y same i ∷ same_lines (number + 1) xs ys (sym (cond-true _ _ _ same) ∙ none) i
+      | inr other ↦ absurd (no_number number (sym (cond-false _ _ _ other) ∙ none))
     ]
 
 pub alike_itself : (number : ℕ) (ls : List (List ℕ)) → first_unlike number ls ls ≡ None
@@ -206,9 +206,9 @@ are_right text none = by (first_bad 1 None (lines text)) (tail text) refl refl
   where
     by : (bad : Option ℕ) (left : List ℕ) → first_bad 1 None (lines text) ≡ bad → tail text ≡ left → AreRight text
     by (Some number) left bad rest =
-        absurd (some_none number (sym (ap (λ o. option_or o (option_or (open_end (length (lines text) + 1) (tail text)) (first_unlike 1 (lines text) (lines (graph_text (drawn (lines text))))))) bad) ∙ none))
+        absurd (no_number number (sym (ap (λ o. option_or o (option_or (open_end (length (lines text) + 1) (tail text)) (first_unlike 1 (lines text) (lines (graph_text (drawn (lines text))))))) bad) ∙ none))
     by None (byte ∷ left) bad rest =
-        absurd (some_none (length (lines text) + 1)
+        absurd (no_number (length (lines text) + 1)
         (sym (ap (λ o. option_or o (option_or (open_end (length (lines text) + 1) (tail text)) (first_unlike 1 (lines text) (lines (graph_text (drawn (lines text))))))) bad
         ∙ ap (λ t. option_or (open_end (length (lines text) + 1) t) (first_unlike 1 (lines text) (lines (graph_text (drawn (lines text)))))) rest) ∙ none))
     by None [] bad rest = record { fit = bad; whole = rest; like = sym (fault_is text bad rest) ∙ none }
@@ -233,7 +233,7 @@ is_text text right none =
     let are = are_right text right in
     let fit = fit_all 1 None (lines text) are.fit in
     let nodes = sound_nodes (nodes_in (lines text)) fit.sound in
-    let same : lines text ≡ lines (graph_text g) = alike 1 (lines text) (lines (graph_text g)) are.like in
+    let same : lines text ≡ lines (graph_text g) = same_lines 1 (lines text) (lines (graph_text g)) are.like in
     let text_is : text ≡ graph_text g = sym (all_lines text are.whole) ∙ ap (flat_map ended) same ∙ all_lines (graph_text g) (text_ends g nodes.0 nodes.1) in (
       text_is,
       record {
@@ -282,11 +282,11 @@ never_both text g fault is (by_cycle f right cycle) = of_cycle (drawn (lines tex
     of_cycle : (h : Graph) (f : GraphFault) → IsFirstCycle h f → h ≡ g → ⊥
     of_cycle h _ (first_cycle place node first at) same = is.1.sound.no_cycle place (subst (λ (k : Graph). OnCycle k place) same first.on_cycle)
 
-pub one_graph : (text : List ℕ) (g h : Graph) → IsGraphText text g → IsGraphText text h → g ≡ h
-one_graph text g h first second = sym (is_drawn text g first).drawn_is ∙ (is_drawn text h second).drawn_is
+pub one_drawn : (text : List ℕ) (g h : Graph) → IsGraphText text g → IsGraphText text h → g ≡ h
+one_drawn text g h first second = sym (is_drawn text g first).drawn_is ∙ (is_drawn text h second).drawn_is
 
-one_place : (g : Graph) (i j : ℕ) → FirstOnCycle g i → FirstOnCycle g j → i ≡ j
-one_place g i j first second =
+one_first : (g : Graph) (i j : ℕ) → FirstOnCycle g i → FirstOnCycle g j → i ≡ j
+one_first g i j first second =
     elim (cases_Bool (nat_lt i j)) [
       | inl less ↦ absurd (second.first i (below i j less) first.on_cycle)
       | inr not_less ↦
@@ -298,7 +298,7 @@ one_place g i j first second =
 
 one_cycle : (g : Graph) (fault other : GraphFault) → IsFirstCycle g fault → IsFirstCycle g other → fault ≡ other
 one_cycle g _ _ (first_cycle i m first at) (first_cycle j n second there) =
-    let same : slice_get g.nodes i ≡ slice_get g.nodes j = ap (slice_get g.nodes) (one_place g i j first second) in
+    let same : slice_get g.nodes i ≡ slice_get g.nodes j = ap (slice_get g.nodes) (one_first g i j first second) in
     ap (λ (k : Node). faults.DependsCycle k.path) (same_Some m n (sym at ∙ same ∙ there))
 
 pub one_fault : (text : List ℕ) (fault other : GraphFault) → IsGraphFault text fault → IsGraphFault text other → fault ≡ other
@@ -312,7 +312,7 @@ no_want text (by_cycle f right cycle) = elim cycle [ ]
 
 nothing_there : (k : ℕ) (ns : List Node) → k < length ns → slice_get ns k ≡ None → ⊥
 nothing_there k [] low none = absurd (omega (arith, low))
-nothing_there zero (n ∷ ns) low none = some_none n none
+nothing_there zero (n ∷ ns) low none = none_some n (sym none)
 nothing_there (suc k) (n ∷ ns) low none = nothing_there k ns (omega (arith, low)) none
 
 first_there : (g : Graph) (place : ℕ) → FirstOnCycle g place → (fault : GraphFault) × IsFirstCycle g fault

@@ -97,8 +97,8 @@ node_form line n is = rw is refl
 port_form : (line word : List ℕ) → node_in (words line) ≡ None → target_in (words line) ≡ Some word → has_form line ≡ true
 port_form line word none is = rw none (rw is refl)
 
-one_form : (line : List ℕ) (ls : List (List ℕ)) → ls ≡ line ∷ [] → has_form line ≡ true → list_all has_form ls ≡ true
-one_form line ls is form = ap (list_all has_form) is ∙ and_from (has_form line) true form refl
+single_form : (line : List ℕ) (ls : List (List ℕ)) → ls ≡ line ∷ [] → has_form line ≡ true → list_all has_form ls ≡ true
+single_form line ls is form = ap (list_all has_form) is ∙ and_from (has_form line) true form refl
 
 shown_node : (line : List ℕ) (n : Node) → lacks 10 line ≡ true → is_graph_line (words line) ≡ true → node_in (words line) ≡ Some n → target_in (words line) ≡ None → Shown (ended line) (n ∷ []) []
 shown_node line n lack graph node target =
@@ -107,7 +107,7 @@ shown_node line n lack graph node target =
       nodes = ap nodes_in one.0 ∙ of_one (λ l. node_in (words l)) line n node;
       names = ap targets_in one.0 ∙ of_none (λ l. target_in (words l)) line target;
       all = subst AllGraph (sym one.0) (graph, tt);
-      forms = one_form line (lines (ended line)) one.0 (node_form line n node);
+      forms = single_form line (lines (ended line)) one.0 (node_form line n node);
       ends = one.1;
     }
 
@@ -118,7 +118,7 @@ shown_port line word lack graph node target =
       nodes = ap nodes_in one.0 ∙ of_none (λ l. node_in (words l)) line node;
       names = ap targets_in one.0 ∙ of_one (λ l. target_in (words l)) line word target;
       all = subst AllGraph (sym one.0) (graph, tt);
-      forms = one_form line (lines (ended line)) one.0 (port_form line word node target);
+      forms = single_form line (lines (ended line)) one.0 (port_form line word node target);
       ends = one.1;
     }
 
