@@ -24,8 +24,8 @@ use Rattle.quiesce_core.proofs.RunLaws.{runs_are_consistent}
 use Rattle.quiesce_core.proofs.StateLaws.{taken_busy}
 use Rattle.change_round_laws.proofs.FoldLaws.{StatesAreHanded}
 use Rattle.result_laws.specs.Banks.{is_branch}
-use Rattle.result_laws.specs.Carrying.{AmountsBalance, amount, carried, carried_at, carried_by, carried_in, is_paid, is_taken_up, replies_1}
-use Rattle.result_laws.specs.Coming.{HasFolds, come}
+use Rattle.result_laws.specs.Carrying.{AmountsBalance, amount, carried, carried_at, carried_by, carried_in}
+use Rattle.result_laws.specs.Coming.{HasFolds, come, is_granted, is_taken_up, replies_1}
 use Rattle.result_laws.specs.Sums.{is_account}
 use Rattle.result_laws.proofs.Balance.{BranchHas, Calls, IsPaid, IsPut, answered, answers, at_rest, first_idle, first_open, second_idle, second_open, taken, waiting}
 use Rattle.result_laws.proofs.ComingLaws.{fits_of}
@@ -76,7 +76,7 @@ module _ (es : List Event) (run : IsRun es) where
       done_ (exchange (state_after es) q).value (ap (λ b. b || is_taken (state_after es) q) a)
       (ap (λ b. cond b ((exchange (state_after es) q).value == 1) (option_map_or (λ (w : Service). w.reply == 1) (option_and_then (λ (t : Target). (come es t.node).service) (target (state_after es).config q)) false)) a) says
 
-  paid_so : (q : ℕ) (d : Bool) → Told es q IsPaid d → is_paid es q ≡ d
+  paid_so : (q : ℕ) (d : Bool) → Told es q IsPaid d → is_granted es q ≡ d
   paid_so q d (not_yet u dn) = ap (λ b. b && replies_1 es q) u ∙ sym dn
   paid_so q d (done_ r u says is) = ap (λ b. b && replies_1 es q) u ∙ says ∙ sym is
 
@@ -87,36 +87,36 @@ module _ (es : List Event) (run : IsRun es) where
   -- ---- by the books
 
   module _ (b : Office) (o : IsOffice (state_after es).config b) where
-    by_service : carried es b.at ≡ option_map_or (carried_in (is_paid es b.from) (is_taken_up es b.to)) (come es b.at).service 0
+    by_service : carried es b.at ≡ option_map_or (carried_in (is_granted es b.from) (is_taken_up es b.to)) (come es b.at).service 0
     by_service =
         let m = o.branch.made in
         map_or_at (carried_at es b.at) (slot (state_after es).config b.at) 0 m o.branch.there
-        ∙ ap (λ (k : Kind). cond (is_branch k) (option_map_or (carried_in (is_paid es m.first_port) (is_taken_up es (m.first_port + 1))) (come es b.at).service 0) 0) o.branch.kind
-        ∙ (λ i. option_map_or (carried_in (is_paid es (o.branch.first i)) (is_taken_up es ((ap (λ n. n + 1) o.branch.first ∙ sym o.branch.second) i))) (come es b.at).service 0)
+        ∙ ap (λ (k : Kind). cond (is_branch k) (option_map_or (carried_in (is_granted es m.first_port) (is_taken_up es (m.first_port + 1))) (come es b.at).service 0) 0) o.branch.kind
+        ∙ (λ i. option_map_or (carried_in (is_granted es (o.branch.first i)) (is_taken_up es ((ap (λ n. n + 1) o.branch.first ∙ sym o.branch.second) i))) (come es b.at).service 0)
 
     branch_so : (c : ℕ) → BranchHas (state_after es) (come es) b c → carried es b.at ≡ c
-    branch_so _ (at_rest none_) = by_service ∙ ap (λ x. option_map_or (carried_in (is_paid es b.from) (is_taken_up es b.to)) x 0) none_
+    branch_so _ (at_rest none_) = by_service ∙ ap (λ x. option_map_or (carried_in (is_granted es b.from) (is_taken_up es b.to)) x 0) none_
     branch_so _ (first_idle a kept v r small is idle) =
-        by_service ∙ ap (λ (n : NodeState). option_map_or (carried_in (is_paid es b.from) (is_taken_up es b.to)) n.service 0) is
-        ∙ ap (λ x. cond x 0 (cond (is_paid es b.from) v 0)) small ∙ ap (λ x. cond (x && replies_1 es b.from) v 0) (untaken_up b.from idle)
+        by_service ∙ ap (λ (n : NodeState). option_map_or (carried_in (is_granted es b.from) (is_taken_up es b.to)) n.service 0) is
+        ∙ ap (λ x. cond x 0 (cond (is_granted es b.from) v 0)) small ∙ ap (λ x. cond (x && replies_1 es b.from) v 0) (untaken_up b.from idle)
     branch_so _ (first_open a kept v r d small is calls) =
-        by_service ∙ ap (λ (n : NodeState). option_map_or (carried_in (is_paid es b.from) (is_taken_up es b.to)) n.service 0) is
-        ∙ ap (λ x. cond x 0 (cond (is_paid es b.from) v 0)) small ∙ ap (λ x. cond x v 0) (paid_so b.from d (told b.from (2 * v + 1) b.payer IsPaid d o.from_leads calls))
+        by_service ∙ ap (λ (n : NodeState). option_map_or (carried_in (is_granted es b.from) (is_taken_up es b.to)) n.service 0) is
+        ∙ ap (λ x. cond x 0 (cond (is_granted es b.from) v 0)) small ∙ ap (λ x. cond x v 0) (paid_so b.from d (told b.from (2 * v + 1) b.payer IsPaid d o.from_leads calls))
     branch_so _ (second_idle a kept v r small is idle) =
-        by_service ∙ ap (λ (n : NodeState). option_map_or (carried_in (is_paid es b.from) (is_taken_up es b.to)) n.service 0) is
+        by_service ∙ ap (λ (n : NodeState). option_map_or (carried_in (is_granted es b.from) (is_taken_up es b.to)) n.service 0) is
         ∙ ap (λ x. cond x 0 (cond (is_taken_up es b.to) 0 v)) small ∙ ap (λ x. cond x 0 v) (untaken_up b.to idle)
     branch_so _ (second_open a kept v r d small is calls) =
-        by_service ∙ ap (λ (n : NodeState). option_map_or (carried_in (is_paid es b.from) (is_taken_up es b.to)) n.service 0) is
+        by_service ∙ ap (λ (n : NodeState). option_map_or (carried_in (is_granted es b.from) (is_taken_up es b.to)) n.service 0) is
         ∙ ap (λ x. cond x 0 (cond (is_taken_up es b.to) 0 v)) small ∙ ap (λ x. cond x 0 v) (put_so b.to d (told b.to (2 * v) b.payee IsPut d o.to_leads calls))
     branch_so _ (answers a kept v r xs z gives is) =
-        by_service ∙ ap (λ (n : NodeState). option_map_or (carried_in (is_paid es b.from) (is_taken_up es b.to)) n.service 0) is
-        ∙ gives_nothing (is_paid es b.from) (is_taken_up es b.to) v xs z (nat_le AMOUNT_LIMIT v) gives
+        by_service ∙ ap (λ (n : NodeState). option_map_or (carried_in (is_granted es b.from) (is_taken_up es b.to)) n.service 0) is
+        ∙ gives_nothing (is_granted es b.from) (is_taken_up es b.to) v xs z (nat_le AMOUNT_LIMIT v) gives
 
   carried_so : (n c : ℕ) → Has (state_after es) (come es) n c → carried es n ≡ c
   carried_so n c (quiet none_ z) = by (slot (state_after es).config n) ∙ sym z
     where
-      by_kind : (m : Slot) (b : Bool) → cond b (option_map_or (carried_in (is_paid es m.first_port) (is_taken_up es (m.first_port + 1))) (come es n).service 0) 0 ≡ 0
-      by_kind m true = ap (λ x. option_map_or (carried_in (is_paid es m.first_port) (is_taken_up es (m.first_port + 1))) x 0) none_
+      by_kind : (m : Slot) (b : Bool) → cond b (option_map_or (carried_in (is_granted es m.first_port) (is_taken_up es (m.first_port + 1))) (come es n).service 0) 0 ≡ 0
+      by_kind m true = ap (λ x. option_map_or (carried_in (is_granted es m.first_port) (is_taken_up es (m.first_port + 1))) x 0) none_
       by_kind m false = refl
 
       by : (o : Option Slot) → option_map_or (carried_at es n) o 0 ≡ 0
@@ -124,7 +124,7 @@ module _ (es : List Event) (run : IsRun es) where
       by (Some m) = by_kind m (is_branch m.node.kind)
   carried_so n c (plain other z) =
       map_or_at (carried_at es n) (slot (state_after es).config n) 0 other.made other.there
-      ∙ ap (λ x. cond x (option_map_or (carried_in (is_paid es other.made.first_port) (is_taken_up es (other.made.first_port + 1))) (come es n).service 0) 0) (no_branch other.made.node.kind other.other) ∙ sym z
+      ∙ ap (λ x. cond x (option_map_or (carried_in (is_granted es other.made.first_port) (is_taken_up es (other.made.first_port + 1))) (come es n).service 0) 0) (no_branch other.made.node.kind other.other) ∙ sym z
     where
       no_branch : (k : Kind) → (k ≡ Branch → ⊥) → is_branch k ≡ false
       no_branch Branch h = absurd (h refl)

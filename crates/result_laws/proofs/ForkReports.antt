@@ -1,8 +1,9 @@
 -- What a report tells of forks: each is held once, at the end by none, and is free then.
-use Rattle.std.proofs.Common.{◌≡◌, ◌∙◌, ℕ, ◌+◌, Bool, true, false, List, ◌++◌, append_assoc, length, Option, Some, None, refl, sym, ap, subst, arith, inl, inr, ⊎_elim}
-use Rattle.std.specs.Prelude.{◌⊎◌, ◌==◌, ◌&&◌}
+use Rattle.std.proofs.Common.{◌≡◌, ◌∙◌, ℕ, ◌+◌, Bool, true, false, cond, List, ◌++◌, append_assoc, length, Option, Some, None, refl, sym, ap, subst, arith, inl, inr, ⊎_elim}
+use Rattle.std.specs.Prelude.{◌⊎◌, ◌==◌, ◌&&◌, ◌||◌, option_and_then}
 use Rattle.std.specs.List.{list_any}
-use Rattle.std.proofs.lemmas.Bool.{and_from, and_parts, both_ways, cases_Bool, eq-eqb, eqb-true, false_from_ne_true, ne_eqb}
+use Rattle.std.specs.Option.{option_map_or}
+use Rattle.std.proofs.lemmas.Bool.{and_from, and_parts, both_ways, eq-eqb, eqb-true, false_from_ne_true, ne_eqb, or_cases}
 use Rattle.base.proofs.SumLaws.{sum_zero}
 use Rattle.config_graph.specs.declared.TheConstants.{MAX_NODES}
 use Rattle.config_graph.specs.declared.kind.Kind.{Kind}
@@ -10,10 +11,11 @@ use Rattle.config_graph.specs.declared.kind.Kind.TheVariants.{Fork}
 use Rattle.config_graph.specs.declared.node.Target.{Target}
 use Rattle.component_trait.specs.States.{Kept, NodeState, Service}
 use Rattle.component_trait.specs.Tables.{numbers}
-use Rattle.quiesce_word.specs.Phases.{is_idle}
+use Rattle.quiesce_word.specs.Phases.{is_answered, is_idle}
 use Rattle.quiesce_word.specs.declared.word.TheConstants.{LAST_SERIAL}
 use Rattle.quiesce_word.proofs.PhaseLaws.{answered_busy, serving_busy}
 use Rattle.quiesce_core.specs.Runs.{IsRun, state_after}
+use Rattle.quiesce_core.specs.Rules.{is_taken}
 use Rattle.quiesce_core.specs.State.{exchange, gate, owner, slot, target}
 use Rattle.quiesce_core.specs.declared.event.Event.{Event}
 use Rattle.quiesce_core.specs.declared.state.Slot.{Slot}
@@ -25,7 +27,8 @@ use Rattle.change_spec.specs.Lawful.{Lawful}
 use Rattle.change_spec.specs.Members.{events}
 use Rattle.change_spec.specs.Statements.{Statement}
 use Rattle.change_round_laws.proofs.FoldLaws.{StatesAreHanded}
-use Rattle.result_laws.specs.Coming.{HasFolds, come}
+use Rattle.result_laws.specs.Coming.{HasFolds, come, is_granted, replies_1}
+use Rattle.result_laws.proofs.EventLaws.{answered_untaken}
 use Rattle.result_laws.proofs.ComingLaws.{facts, fits_of, fronts_fold}
 use Rattle.result_laws.proofs.FactLaws.{Facts}
 use Rattle.result_laws.proofs.StoppingLaws.{NothingIsOpen}
@@ -78,15 +81,29 @@ module _ (handed : StatesAreHanded) (none_open : NothingIsOpen) (statements : Li
         (λ p. let low = spent_none p in ne_eqb (exchange (state_after before) p).serial LAST_SERIAL (λ same. omega (arith, low, same)))
 
     lent_by : (n : ℕ) → HeldBy (state_after before) (come before) n → IsLent before n
-    lent_by n h = record { port = h.port; provide = h.to.provide; leads = h.joined.leads ∙ ap (λ k. Some (record { node = k; provide = h.to.provide })) h.at; has = by h.port h.to h.claims }
+    lent_by n h = record { port = h.port; provide = h.to.provide; leads = h.joined.leads ∙ ap (λ k. Some (record { node = k; provide = h.to.provide })) h.at; has = by h.port h.to h.joined.leads h.claims }
       where
-        by : (p : ℕ) (to : Target) → Claims (state_after before) (come before) p to → (holds before p ≡ true) ⊎ (is_idle (exchange (state_after before) p).phase ≡ false)
-        by p to (keeps u a g) = ⊎_elim
-            (λ (idle : is_idle (exchange (state_after before) p).phase ≡ true). inl (and_from (is_idle (exchange (state_after before) p).phase) (has_fork (come before (owner (state_after before).config p)) (gate (state_after before).config p).require) idle g))
-            (λ (busy : is_idle (exchange (state_after before) p).phase ≡ false). inr busy)
-            (cases_Bool (is_idle (exchange (state_after before) p).phase))
-        by p to (gets u a r) = inr (taken_busy (state_after before) p (runs_are_consistent before front) u)
-        by p to (got u a v) = inr (answered_busy (exchange (state_after before) p).phase u)
+        reply_1 : (o : Option Service) → option_map_or (λ (w : Service). w.reply) o 0 ≡ 1 → option_map_or (λ (w : Service). w.reply == 1) o false ≡ true
+        reply_1 None h = absurd (omega (arith, h))
+        reply_1 (Some w) h = eq-eqb w.reply 1 h
+
+        granted_if : (p : ℕ) (b c : Bool) → is_answered (exchange (state_after before) p).phase ≡ b → is_taken (state_after before) p ≡ c → (b || c) ≡ true → replies_1 before p ≡ true → is_granted before p ≡ true
+        granted_if p b c answered taken up says =
+            and_from (is_answered (exchange (state_after before) p).phase || is_taken (state_after before) p) (replies_1 before p) ((λ i. answered i || taken i) ∙ up) says
+
+        by : (p : ℕ) (to : Target) → target (state_after before).config p ≡ Some to → Claims (state_after before) (come before) p to
+            → (has_fork (come before (owner (state_after before).config p)) (gate (state_after before).config p).require ≡ true) ⊎ (is_granted before p ≡ true)
+        by p to leads (keeps u a g) = inl g
+        by p to leads (gets u a r) =
+            let s = state_after before in
+            let not_yet = false_from_ne_true (is_answered (exchange s p).phase) (λ h. both_ways (is_taken s p) (answered_untaken s (come before) (come before) (facts handed before front front_folds) p h) u) in
+            inr (granted_if p false true not_yet u refl
+            (ap (λ b. cond b ((exchange s p).value == 1) (option_map_or (λ (w : Service). w.reply == 1) (option_and_then (λ (t : Target). (come before t.node).service) (target s.config p)) false)) not_yet
+            ∙ ap (λ o. option_map_or (λ (w : Service). w.reply == 1) (option_and_then (λ (t : Target). (come before t.node).service) o) false) leads ∙ reply_1 (come before to.node).service r))
+        by p to leads (got u a v) =
+            let s = state_after before in
+            inr (granted_if p true (is_taken s p) u refl refl
+            (ap (λ b. cond b ((exchange s p).value == 1) (option_map_or (λ (w : Service). w.reply == 1) (option_and_then (λ (t : Target). (come before t.node).service) (target s.config p)) false)) u ∙ eq-eqb (exchange s p).value 1 v))
 
     pub lent_there : AreLent before
     lent_there n made there kind not_0 = lent_by n (held_there n made there kind (ne_eqb (come before n).kept.count 0 not_0))
@@ -104,12 +121,16 @@ module _ (handed : StatesAreHanded) (none_open : NothingIsOpen) (statements : Li
             let v = facts_there.served m w is in
             absurd (both_ways (is_idle (exchange (state_after before) v.0.port).phase) (serving_busy (exchange (state_after before) v.0.port).phase (facts_there.traffic.serving m v.0 v.1).busy) (idle v.0.port))
 
-        none_has : (p : ℕ) → (holds before p ≡ true) ⊎ (is_idle (exchange (state_after before) p).phase ≡ false) → ⊥
-        none_has p (inr busy) = both_ways (is_idle (exchange (state_after before) p).phase) busy (idle p)
+        none_has : (p : ℕ) → (has_fork (come before (owner (state_after before).config p)) (gate (state_after before).config p).require ≡ true) ⊎ (is_granted before p ≡ true) → ⊥
         none_has p (inl h) =
             let m = owner (state_after before).config p in
             let r = (gate (state_after before).config p).require in
-            both_ways (has_fork (come before m) r) (resting_has_none (come before m) r (at_rest_there m (come before m).service refl)) (and_parts (is_idle (exchange (state_after before) p).phase) (has_fork (come before m) r) h).1
+            both_ways (has_fork (come before m) r) (resting_has_none (come before m) r (at_rest_there m (come before m).service refl)) h
+        none_has p (inr granted) =
+            let s = state_after before in
+            let up = (and_parts (is_answered (exchange s p).phase || is_taken s p) (replies_1 before p) granted).0 in
+            ⊎_elim (λ (a : is_answered (exchange s p).phase ≡ true). both_ways (is_idle (exchange s p).phase) (answered_busy (exchange s p).phase a) (idle p))
+            (λ (u : is_taken s p ≡ true). both_ways (is_idle (exchange s p).phase) (taken_busy s p (runs_are_consistent before front) u) (idle p)) (or_cases (is_answered (exchange s p).phase) (is_taken s p) up)
 
         by : (b : Bool) → ((come before n).kept.count == 0) ≡ b → (come before n).kept.count ≡ 0
         by true z = eqb-true (come before n).kept.count 0 z

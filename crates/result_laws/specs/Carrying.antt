@@ -1,6 +1,6 @@
 -- Amounts at a place of a run: what accounts have by then, and what branches carry from one to the other. A branch carries
 -- an amount from when its first account took it off until the second has put it on.
-use Rattle.std.specs.Prelude.{◌≡◌, ℕ, ◌+◌, Bool, false, ◌==◌, ◌&&◌, ◌||◌, nat_le, List, [], ◌∷◌, length, None, option_and_then, if◌then◌else◌, sum_by}
+use Rattle.std.specs.Prelude.{◌≡◌, ℕ, ◌+◌, Bool, ◌==◌, nat_le, List, [], ◌∷◌, length, None, if◌then◌else◌, sum_by}
 use Rattle.std.specs.List.{range_with_len}
 use Rattle.std.specs.Option.{option_map_or}
 use Rattle.component_trait.specs.declared.TheConstants.{AMOUNT_LIMIT}
@@ -8,16 +8,13 @@ use Rattle.component_trait.specs.Making.{argument_or_0}
 use Rattle.component_trait.specs.States.{Kept, Service}
 use Rattle.config_graph.specs.declared.kind.Kind.{Kind}
 use Rattle.config_graph.specs.declared.kind.Kind.TheVariants.{Account}
-use Rattle.config_graph.specs.declared.node.Target.{Target}
-use Rattle.quiesce_word.specs.Phases.{is_answered}
-use Rattle.quiesce_core.specs.Rules.{is_taken}
 use Rattle.quiesce_core.specs.Runs.{state_after}
-use Rattle.quiesce_core.specs.State.{exchange, slot, target}
+use Rattle.quiesce_core.specs.State.{slot}
 use Rattle.quiesce_core.specs.declared.event.Event.{Event}
 use Rattle.quiesce_core.specs.declared.event.Event.TheVariants.{Make}
 use Rattle.quiesce_core.specs.declared.state.Slot.{Slot}
 use Rattle.result_laws.specs.Banks.{is_branch}
-use Rattle.result_laws.specs.Coming.{come}
+use Rattle.result_laws.specs.Coming.{come, is_granted, is_taken_up}
 use Rattle.result_laws.specs.Sums.{is_account}
 use Rattle.result_laws.specs.UnderWay.{of_nodes}
 
@@ -30,18 +27,6 @@ amount _ s = 0
 abbrev pub opened_in : Event → ℕ
 opened_in (Make n node None) = if is_account node.kind then argument_or_0 node.arg else 0
 opened_in _ = 0
-
--- whether what was sent at port p last was taken up, and whether its reply is 1
-abbrev pub is_taken_up : List Event → ℕ → Bool
-is_taken_up es p = is_answered (exchange (state_after es) p).phase || is_taken (state_after es) p
-
-abbrev pub replies_1 : List Event → ℕ → Bool
-replies_1 es p =
-    if is_answered (exchange (state_after es) p).phase then (exchange (state_after es) p).value == 1
-    else option_map_or (λ (w : Service). w.reply == 1) (option_and_then (λ (t : Target). (come es t.node).service) (target (state_after es).config p)) false
-
-abbrev pub is_paid : List Event → ℕ → Bool
-is_paid es p = is_taken_up es p && replies_1 es p
 
 -- By the answers that a branch got so far. It asks its first account to take the amount off, and where that did, its
 -- second to put it on.
@@ -57,7 +42,7 @@ carried_in paid put w = if nat_le AMOUNT_LIMIT w.value then 0 else carried_by pa
 abbrev pub carried_at : List Event → ℕ → Slot → ℕ
 carried_at es n m =
     if is_branch m.node.kind
-    then option_map_or (carried_in (is_paid es m.first_port) (is_taken_up es (m.first_port + 1))) (come es n).service 0 else 0
+    then option_map_or (carried_in (is_granted es m.first_port) (is_taken_up es (m.first_port + 1))) (come es n).service 0 else 0
 
 abbrev pub carried : List Event → ℕ → ℕ
 carried es n = option_map_or (carried_at es n) (slot (state_after es).config n) 0

@@ -18,7 +18,7 @@ use Rattle.report_types.specs.declared.report.Last.TheVariants as last
 use Rattle.report_types.specs.declared.report.NodeLog.{NodeLog}
 use Rattle.report_types.specs.declared.report.Report.{Report}
 use Rattle.change_spec.specs.Statements.{Statement}
-use Rattle.result_laws.specs.Coming.{come}
+use Rattle.result_laws.specs.Coming.{come, is_granted}
 use Rattle.result_laws.specs.Describing.{Describes, LinksAre, makes}
 
 abbrev pub is_fork : Kind → Bool
@@ -66,12 +66,12 @@ AreHeldOnce es = (p q n x y : ℕ) (m : Slot) → target (state_after es).config
     → target (state_after es).config q ≡ Some (record { node = n; provide = y }) → slot (state_after es).config n ≡ Some m
     → m.node.kind ≡ Fork → holds es p ≡ true → holds es q ≡ true → p ≡ q
 
--- fork n is lent: a port that leads to it holds it, or has a transaction there that is open
+-- fork n is lent: the owner of a port that leads to it has it, or is granted what it asked there
 pub record IsLent (es : List Event) (n : ℕ) : Type 0 where
   pub port : ℕ
   pub provide : ℕ
   pub leads : target (state_after es).config port ≡ Some (record { node = n; provide = provide })
-  pub has : (holds es port ≡ true) ⊎ (is_idle (exchange (state_after es) port).phase ≡ false)
+  pub has : (has_fork (come es (owner (state_after es).config port)) (gate (state_after es).config port).require ≡ true) ⊎ (is_granted es port ≡ true)
 
 -- each fork that isn't free is lent
 abbrev pub AreLent : List Event → Type 0

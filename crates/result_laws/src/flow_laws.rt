@@ -72,8 +72,8 @@ pub fn items_are_kept_at_each_place()
 }
 
 /// Where places alone lead to forks, each fork is held by one place at most, at each place of the run behind a report: two
-/// ports that hold one fork are the same port. One that isn't free is lent by such a port, or a transaction is open there;
-/// so where nothing is open, each is free.
+/// ports that hold one fork are the same port. One that isn't free is lent: the owner of a port that leads there has it, or
+/// is granted it. So where nothing is open, each is free.
 pub fn forks_are_held_once()
     ensures once { (statements : List Statement) (report : Report) → (l : Lawful statements report) → AreTables statements
         → (before after : List Event) → events l.members ≡ before ++ after → AreHeldOnce before }

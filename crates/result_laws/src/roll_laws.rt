@@ -49,8 +49,8 @@ pub fn rolls_keep_items()
 }
 
 /// Where a roll ends, given up or not, no fork is held by two places. Where no port has come to its last serial, each that
-/// isn't free is lent by a port that holds it, or has a transaction there that is open; so where nothing is open, each is
-/// free. In the stages too places alone lead to forks, where that is so in the two graphs.
+/// isn't free is lent: the owner of a port that leads there has it, or is granted it. So where nothing is open, each is free.
+/// In the stages too places alone lead to forks, where that is so in the two graphs.
 pub fn rolls_keep_forks()
     ensures once { (statements : List Statement) (given_up : Option ℕ) → AreSound statements → AreTables statements
         → (roll : IsRoll statements given_up) → AreHeldOnce (world_after roll.played).events }
