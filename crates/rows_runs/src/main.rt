@@ -10,7 +10,7 @@ use running::run_row;
 use std::{fs, io};
 
 /// A file of rows for each subject.
-const SUBJECTS: [&str; 25] = [
+const SUBJECTS: [&str; 26] = [
     "apply.txt",
     "banks.txt",
     "big.txt",
@@ -33,6 +33,7 @@ const SUBJECTS: [&str; 25] = [
     "rules.txt",
     "scripts.txt",
     "statements.txt",
+    "two_files.txt",
     "upgrade.txt",
     "values.txt",
     "words.txt",
