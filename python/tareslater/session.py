@@ -20,7 +20,7 @@ async def started(command: Sequence[str]) -> asyncio.subprocess.Process:
     try:
         return await asyncio.create_subprocess_exec(*command, stdin=PIPE, stdout=PIPE)
     except OSError as fault:
-        raise ManagerDied("%s can't be started: %s" % (command[0], fault.strerror))
+        raise ManagerDied("%s can't be started: %s" % (command[0], fault.strerror)) from None
 
 
 async def answer(command: Sequence[str]) -> str:
@@ -30,7 +30,7 @@ async def answer(command: Sequence[str]) -> str:
         text, _ = await asyncio.wait_for(process.communicate(), PATIENCE)
     except asyncio.TimeoutError:
         await ended(process, 0)
-        raise ManagerDied("silent for %g seconds" % PATIENCE)
+        raise ManagerDied("silent for %g seconds" % PATIENCE) from None
     if process.returncode:
         raise Refused(text.decode().strip() or "%s ends with status %d" % (command[0], process.returncode))
     return text.decode()
@@ -88,9 +88,9 @@ class Session:
         try:
             line = await asyncio.wait_for(self.output.readline(), seconds)
         except asyncio.TimeoutError:
-            raise ManagerDied("silent for %g seconds" % seconds)
+            raise ManagerDied("silent for %g seconds" % seconds) from None
         except ValueError:
-            raise ManagerDied("its line has no end")
+            raise ManagerDied("its line has no end") from None
         if not line.endswith(b"\n"):
             raise ManagerDied("its output ends behind %r" % (self.lines[-1] if self.lines else ""))
         self.keep(line.decode("utf-8", "replace")[:-1])
