@@ -29,7 +29,7 @@ def try_pages(tries):
     explained = set(re.findall(r"\*\*`([A-Z][A-Za-z]+)[ `]", text)) | {"usage", "denied", "read fault", "no memory", "unlawful"}
     tries.same("names of refusals", sorted(explained), sorted(named))
     words = {refusal.names[0]: refusal.text for refusal in pages.refusals() if refusal.section != "Reports"}
-    tries.same("words of two names", "NoStart, NoEnd: no line of a script is a start, or no line of a file of events says anything; the last line of a script isn't end.", words["NoStart"])
+    tries.same("words of two names", "NoStart, NoEnd: no line of a script is a start, or no line of a file of events says anything. The last line of a script isn't end.", words["NoStart"])
     tries.same("words of one name", "no component has the name that was asked for.", words["NoTop"])
 
 
