@@ -1,4 +1,3 @@
--- To be believed (definitions.md).
 -- What is at fault in a text that is no graph's: the first line that can't stand where it does, or a cycle.
 use Rattle.std.specs.Prelude.{◌≡◌, ◌+◌, ◌&&◌, ℕ, Bool, true, if◌then◌else◌, List, [], ◌∷◌, bytes_eq, is_some, length, slice_get, Option, Some, None}
 use Rattle.std.specs.Option.{option_map_or, option_or}
