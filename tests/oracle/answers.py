@@ -4,6 +4,7 @@ Where several faults of a description hold, any of them may be named; all else h
 import functools
 import os
 import random
+from typing import NamedTuple, Optional
 
 import consistent
 import graphs
@@ -103,41 +104,60 @@ def flat(words, files):
     return graphs.graph_text(graph(text, words[1], top, args))
 
 
-def two_called(words):
-    """Two components, each with its arguments, which `--` parts."""
-    usage(b"--" in words)
-    cut = words.index(b"--")
-    return called(words[:cut]), called(words[cut + 1 :])
+class Side(NamedTuple):
+    """A component with its arguments, in a file, or in that of the other side where none is named."""
+
+    file: Optional[bytes]
+    call: tuple
 
 
-def change_of(file, files, old, new):
-    """The graphs of two components of a file, and the plan from the one to the other."""
-    text = fetched(files, file, 2, b"description")
-    first = graph(text, file, *old)
-    planned(file, graphs.EMPTY, first, (0, 0))
-    second = graph(text, file, *new)
+def is_file(word):
+    """Whether a word of the second side is a file: no name of a component has such a sign."""
+    return b"." in word or b"/" in word
+
+
+def side(words):
+    """A file and a component of it."""
+    usage(words and words[0])
+    return Side(words[0], called(words[1:]))
+
+
+def sides(words):
+    """The two sides that `--` parts, which stands behind the first file. In the second a component of the first file may stand."""
+    usage(b"--" in words[1:])
+    cut = words.index(b"--", 1)
+    first, behind = side(words[:cut]), words[cut + 1 :]
+    usage(behind)
+    return first, side(behind) if is_file(behind[0]) else Side(None, called(behind))
+
+
+def change_of(files, old, new):
+    """The graphs of two sides, and the plan from the one to the other. A file that both share is fetched once."""
+    text = fetched(files, old.file, 2, b"description")
+    first = graph(text, old.file, *old.call)
+    planned(old.file, graphs.EMPTY, first, (0, 0))
+    file = new.file or old.file
+    second = graph(fetched(files, file, 2, b"description") if new.file else text, file, *new.call)
     return first, second, planned(file, first, second, graphs.count_made(first))
 
 
 def plan(words, files):
-    """`plan FILE NAME INT* -- NAME INT*`"""
-    usage(len(words) >= 5 and words[1])
-    return change_of(words[1], files, *two_called(words[2:]))[2].text()
+    """`plan FILE NAME INT* -- [FILE] NAME INT*`"""
+    return change_of(files, *sides(words[1:]))[2].text()
 
 
 def parts_of(words, files):
-    """`parts FILE NAME INT* -- NAME INT*`"""
-    usage(len(words) >= 5 and words[1])
-    first, second, _ = change_of(words[1], files, *two_called(words[2:]))
+    """`parts FILE NAME INT* -- [FILE] NAME INT*`"""
+    first, second, _ = change_of(files, *sides(words[1:]))
     return parts.parts_text(first, second)
 
 
 def roll(words, files):
-    """`roll FILE NUM NUM NAME INT* -- NAME INT*`"""
-    usage(len(words) >= 7 and words[1] and all(scripts.is_number(word) for word in words[2:4]))
+    """`roll FILE NUM NUM NAME INT* -- [FILE] NAME INT*`"""
+    usage(len(words) >= 4 and all(scripts.is_number(word) for word in words[2:4]))
     count, within = (scripts.integer(word) for word in words[2:4])
     usage(max(count, within) <= scripts.NUMBER_LIMIT)
-    first, second, _ = change_of(words[1], files, *two_called(words[4:]))
+    first, second, _ = change_of(files, *sides(words[1:2] + words[4:]))
     last, pending = runs.rolled(first, count, within, parts.parts(first, second))
     end = b"done\n" if pending is None else b"pending %d\n" % pending
     return 0 if pending is None else 7, parts.parts_text(first, second) + end + graphs.graph_text(last)
@@ -145,16 +165,16 @@ def roll(words, files):
 
 def session_of(words, files):
     """The session that words of `apply` begin, or their refusal."""
-    usage(len(words) >= 6 and scripts.is_number(words[1]) and words[2])
+    usage(len(words) >= 2 and scripts.is_number(words[1]))
     within = scripts.integer(words[1])
     usage(within <= scripts.NUMBER_LIMIT)
-    old, new = two_called(words[3:])
-    first, second, plan = change_of(words[2], files, old, new)
-    return sessions.Session(within, (call_text(*old), first), (call_text(*new), second), plan)
+    old, new = sides(words[2:])
+    first, second, plan = change_of(files, old, new)
+    return sessions.Session(within, (call_text(*old.call), first), (call_text(*new.call), second), plan)
 
 
 def apply(words, files):
-    """`apply N FILE NAME INT* -- NAME INT*`, where nothing comes"""
+    """`apply N FILE NAME INT* -- [FILE] NAME INT*`, where nothing comes"""
     return sessions.written(session_of(words, files), b"")
 
 
@@ -331,8 +351,8 @@ def check(words, files):
 COMMANDS = {b"flat": flat, b"plan": plan, b"parts": parts_of, b"roll": roll, b"apply": apply, b"replay": replay, b"step": step, b"live": live, b"big": big, b"upgrade": upgrade, b"check": check}
 
 
-# the form of each command, which the program of the repository has: `apply` isn't among them yet
-FORMS = {word: ("darwin_run %s\n" % command.__doc__.split("`")[1]).encode() for word, command in COMMANDS.items() if word != b"apply"}
+# the form of each command
+FORMS = {word: ("darwin_run %s\n" % command.__doc__.split("`")[1]).encode() for word, command in COMMANDS.items()}
 HELP_FORM = b"darwin_run --help\n"
 
 

@@ -93,6 +93,9 @@ UNTOLD = re.compile(
 )
 
 
+CHANGES = ("plan", "parts", "roll", "apply")
+
+
 class Bad(Exception):
     """A text that hasn't the form of its status."""
 
@@ -108,7 +111,7 @@ def fault_of(status, text):
 def fault_names(commands):
     """All faults that the texts of these commands can have."""
     names = set(DESCRIPTION) if set(commands) - {"big", "upgrade", "check"} else set()
-    names -= set() if {"plan", "parts", "roll", "apply", "replay"} & set(commands) else {b"NodesFull", b"PortsFull"}
+    names -= set() if {*CHANGES, "replay"} & set(commands) else {b"NodesFull", b"PortsFull"}
     names |= set(EVENTS) if "replay" in commands else set()
     names |= set(REPORTS) if "upgrade" in commands else set()
     rules = ["rule %02d" % rule for rule in RULES] if "replay" in commands else []
@@ -149,16 +152,17 @@ def graph(text):
     return nodes, links
 
 
-def refusal(text, file, form, faults, lines):
-    """A line that refuses a file, whose places lie in a text of so many lines."""
+def refusal(text, named, form, faults, files=None):
+    """A line that refuses one of the files that are named, whose places lie in its text where files are given."""
     found = form.fullmatch(text)
     want(found, "no line that refuses a file")
-    want(found[1] == file, "another file is refused")
+    want(found[1] in named, "another file is refused")
     want(found[2] in faults, "no such fault")
     rest = re.fullmatch(faults[found[2]], found[3] or b"")
     want(rest, "a fault carries something else")
-    if lines is not None and rest.groups():
-        line, column = int(rest[1]), int(rest[2])
+    content = (files or {}).get(os.fsdecode(found[1]).removeprefix("./"))
+    if content is not None and rest.groups():
+        lines, (line, column) = content.split(b"\n"), map(int, rest.groups())
         want(1 <= line <= len(lines) and 1 <= column <= len(lines[line - 1]) + 1, "a place outside the text")
 
 
@@ -166,7 +170,7 @@ def judge(words, files, status, written):
     """Raises Bad where what was written hasn't the form of the status."""
     words = [os.fsencode(word) for word in words]
     command = words[0].decode("utf-8", "replace") if words else ""
-    file = (words + [b"", b""])[2 if command == "apply" else 1]
+    named = words[1:] if command in CHANGES else words[1:2]
     if answers.helped(words):
         want(status == 0 and written.endswith(b"\n"), "no help")
     elif command == "step" and len(words) == 2:
@@ -199,15 +203,14 @@ def judge(words, files, status, written):
     elif status == 1:
         want(written == b"usage\n", "status 1 without the line usage")
     elif status == 2:
-        text = files.get(os.fsdecode(file))
-        refusal(written, file, REFUSAL, DESCRIPTION, None if text is None else text.split(b"\n"))
+        refusal(written, named, REFUSAL, DESCRIPTION, files)
     elif status == 3 and command == "upgrade":
-        refusal(written, file, SCRIPT, REPORTS, None)
+        refusal(written, named, SCRIPT, REPORTS)
     elif status == 3:
         want(command == "replay", "status 3 of a command without such a file")
-        refusal(written, words[2], SCRIPT, EVENTS, None)
+        refusal(written, words[2:3], SCRIPT, EVENTS)
     elif status == 4:
-        want(any(written == b"read fault " + name + b"\n" for name in words[1:3]), "a fault of another file")
+        want(any(written == b"read fault " + name + b"\n" for name in words[1:3] + named), "a fault of another file")
     elif status == 9:
         found = DENIED.fullmatch(written)
         want(command == "replay" and found and 1 <= int(found[2]) <= 30, "no line of a denied event")
