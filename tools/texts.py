@@ -279,11 +279,13 @@ def graph_of(program, system):
 
 
 def change_between(program, command, words):
-    """The graph of the first of two systems, and the lines that `plan` or `parts` writes of the change to the second. Between two files,
+    """The graph of the first of two systems, and the lines that `plan` or `parts` writes of the change to the second. Of texts of graphs,
     which the program doesn't know, the plain statements of tests/oracle tell them."""
     old, new = two_systems(words)
-    if old[0] == new[0] and min(len(old), len(new)) > 1:
-        return graph_of(program, old), written(program, command, *old, "--", *new[1:])
+    if min(len(old), len(new)) > 1:
+        # a file of the second side has a `.` or a `/`
+        file = [] if new[0] == old[0] else [new[0] if set("./") & set(new[0]) else "./" + new[0]]
+        return graph_of(program, old), written(program, command, *old, "--", *file, *new[1:])
     import beside  # which asks this module in its turn
 
     graphs = graph_of(program, old), graph_of(program, new)

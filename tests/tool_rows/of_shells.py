@@ -7,20 +7,27 @@ from tries import EXAMPLES, TOOLS
 
 LINE = EXAMPLES + "line.dar"
 COMMANDS = ["flat", "plan", "parts", "roll", "apply", "replay", "step", "live", "big", "upgrade", "check"]
+# what may be offered beside them: the plain statements have no text for these
+HELP = {"--help", "--version", "-h", "help"}
 COMPONENTS = ["source", "buffer", "sink", "Line"]
-# words before the one that is completed, and what may stand there: FILES are the names of files
-FILES = None
+# words before the one that is completed, and what may stand there: FILES are the names of files, and BOTH these and components
+FILES, BOTH = None, ()
 ROWS = [
-    ([], COMMANDS),
     (["plan"], FILES),
     (["flat", LINE], COMPONENTS),
     (["plan", LINE], COMPONENTS + ["--"]),
-    (["plan", LINE, "Line", "2", "--"], COMPONENTS + ["--"]),
+    (["plan", LINE, "Line", "2"], COMPONENTS + ["--"]),
+    (["plan", LINE, "Line", "2", "--"], BOTH),
+    (["plan", LINE, "Line", "2", "--", "Line"], []),
+    (["plan", LINE, "Line", "2", "--", EXAMPLES + "l.dar"], ["source", "buffer", "sink", "L"]),
+    (["parts", "now.graph", "--"], FILES),
     (["roll", LINE], []),
     (["roll", LINE, "2", "9"], COMPONENTS + ["--"]),
     (["apply"], []),
     (["apply", "9"], FILES),
     (["apply", "9", LINE], COMPONENTS + ["--"]),
+    (["apply", "9", LINE, "Line", "2", "--"], BOTH),
+    (["roll", LINE, "2", "9", "Line", "2", "--", EXAMPLES + "l.dar"], ["source", "buffer", "sink", "L"]),
     (["step"], FILES),
     (["live", "s.txt"], ["--workers"]),
     (["live", "s.txt", "--workers"], ["1", "2", "4", "8"]),
@@ -69,10 +76,12 @@ def try_completion(tries):
             if not shutil.which(shell):
                 print("there is no %s: its completion wasn't tried" % shell)
                 continue
+            first = completed(tries, shell, [], folder)
+            tries.want("%s after nothing" % shell, set(COMMANDS) <= set(first) <= HELP | set(COMMANDS), first)
             for words, wanted in ROWS:
                 came, what = completed(tries, shell, words, folder), "%s after %s" % (shell, words)
-                if wanted is FILES:
-                    tries.want(what, any(it.strip("/") == "examples" for it in came), came)
+                if wanted in (FILES, BOTH):
+                    tries.want(what, any(it.strip("/") == "examples" for it in came) and (set(COMPONENTS) <= set(came)) == (wanted is BOTH), came)
                 else:
                     tries.same(what, sorted(wanted), came)
 

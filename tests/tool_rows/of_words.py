@@ -75,7 +75,7 @@ def try_bad_words(tries):
             ([line, "Line", "2"], "%s: between the two systems, each a component with its arguments behind a file, one `--` is wanted\n" % name),
             (["--program", "./no-program", line, "Line", "2", "--", "Line", "3"], "%s: the program ./no-program can't be run: No such file or directory\n" % name),
             ([line, "Line", "2", "--", "None"], "%s: %s plan %s Line 2 -- None ends with status 2: description %s: NoTop None\n" % (name, tries.program, line, line)),
-            ([line, "Line", "2", "--", "examples/l.dar", "None"], "%s: %s flat examples/l.dar None ends with status 2: description examples/l.dar: NoTop None\n" % (name, tries.program)),
+            ([line, "Line", "2", "--", "examples/l.dar", "None"], "%s: %s plan %s Line 2 -- examples/l.dar None ends with status 2: description examples/l.dar: NoTop None\n" % (name, tries.program, line)),
         ]
         for words, error in rows:
             tries.same("%s %s" % (name, words), Came(2, "", error), tries.asking(name, *words))
