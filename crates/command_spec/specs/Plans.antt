@@ -8,7 +8,6 @@ use Rattle.change_spec.specs.Scripts.{nothing_made}
 use Rattle.change_spec.specs.Statements.{Statement, start, change}
 use Rattle.change_plan.specs.PlanText.{plan_text}
 use Rattle.change_plan.specs.Plans.{IsPlanOf}
-use Rattle.change_plan.specs.Refusals.{CanPlan}
 use Rattle.change_plan.specs.Room.{HasRoomFor, LacksRoomFor}
 use Rattle.change_plan.specs.declared.error.PlanError.{PlanError}
 use Rattle.change_plan.specs.declared.plan_data.Plan.{Plan}
@@ -57,11 +56,6 @@ pub record IsRollText (run within : ℕ) (call target : TopCall) (own : Status) 
   pub is_roll : IsRoll (roll_statements call.top call.args old run target.top target.args within parts) given_up
   pub ended : own ≡ roll_status given_up
   pub is_text : written ≡ roll_text old parts given_up (stage_left old parts given_up)
-
--- such a text, where a run has started with the first
-pub record HasSteps (IsText : Graph → Graph → List ℕ → Type 0) (old new : Graph) (written : List ℕ) : Type 0 where
-  pub has_room : CanPlan old new [] (made_of_graph old)
-  pub is_text : IsText old new written
 
 -- the lines of a script that say a change: its first component is started, and changed to the second
 abbrev pub uses_other : Option (List ℕ) → List RunLine
