@@ -8,6 +8,8 @@ import re
 
 WORD = r"[A-Za-z_][\w'-]*(?:\.[A-Za-z_][\w'-]*)*"
 USE = re.compile(r"(?:ghost )?(?:pub )?use Rattle\.(\w+)\.specs\.([\w.]+)(?:\.\{([^}]*)\}| as (\w+))")
+# a line of a Lib by which a crate passes on specs of another
+PASSED = re.compile(r"(?m)^pub use Rattle\.(\w+)\.specs\.(\w+)$")
 KEYWORDS = {"abbrev", "pub", "record", "data", "unfoldable", "mutual", "infixl", "infixr"}
 
 
@@ -85,7 +87,8 @@ class Specs:
     """The specs of a tree, by crate and module."""
 
     def __init__(self, texts):
-        self.modules = {key: Module(text) for key, text in texts.items()}
+        self.modules = {key: Module(text) for key, text in texts.items() if key[1] != "Lib"}
+        self.passed = {(crate, module): other for (crate, name), text in texts.items() if name == "Lib" for other, module in PASSED.findall(text)}
         self.constructors = {(crate, name, word) for (crate, name), module in self.modules.items() for word in module.owners}
 
     def resolved(self, key, words):
@@ -105,6 +108,8 @@ class Specs:
         found, left = set(), list(names)
         while left:
             crate, name, word = left.pop()
+            while (crate, name) in self.passed:
+                crate = self.passed[crate, name]
             module = self.modules.get((crate, name))
             if not module:
                 continue

@@ -17,10 +17,10 @@ use Rattle.command_spec.specs.Runs.{Run, Written, whole, stopped}
 use Rattle.command_spec.specs.Scripts.{prepares}
 use Rattle.command_spec.proofs.CourseLaws.{none_failed, widens}
 use Rattle.command_spec.proofs.ShownLaws.{was_reported}
-use Rattle.command_program.specs.Coming.{Comes, EndsNoRun, Shows, result_status, result_text}
-use Rattle.command_program.specs.declared.answer.Answer.{Answer}
-use Rattle.command_program.specs.declared.answer.Stop.{Stop}
-use Rattle.command_program.specs.declared.answer.Stop.TheVariants as stops
+use Rattle.command_apply.specs.Coming.{Comes, EndsNoRun, Shows, result_status, result_text}
+use Rattle.command_apply.specs.declared.Answer.{Answer}
+use Rattle.command_apply.specs.declared.Stop.{Stop}
+use Rattle.command_apply.specs.declared.Stop.TheVariants as stops
 
 -- no run ended where a text was written with another status
 pub ends_no_run : (own : Status) (text : List ℕ) (seen : Run) → is_of_run own ≡ false → Written own text seen → IsRunStatus seen.status → ⊥

@@ -2,11 +2,11 @@
 use Rattle.std.specs.Prelude.{ℕ, List, Option, Ok, Err}
 use Rattle.cfg_io.specs.Shelf.{Files}
 use Rattle.txn_gate.specs.declared.change_seat.ChangeSeat.{ChangeSeat}
-use Rattle.command_program.specs.declared.answer.Answer.{Answer}
-use Rattle.command_program.specs.declared.answer.Stop.{Stop}
+use Rattle.command_apply.specs.declared.Answer.{Answer}
+use Rattle.command_apply.specs.declared.Stop.{Stop}
 use Rattle.command_spec.specs.Commands.{runs_by, runs_script}
 use Rattle.command_spec.specs.Schedules.{IsShownBy, threads}
-use Rattle.command_program.specs.Coming.{Comes, Shows}
+use Rattle.command_apply.specs.Coming.{Comes, Shows}
 use Rattle.command_live.specs.Agreeing.{AgreesWithSeat}
 
 -- the answer is the report of the script of a name, beside so many observers, and the seat that comes with it agrees with it

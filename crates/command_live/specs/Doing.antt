@@ -2,7 +2,7 @@
 -- What the program does: it holds a session where the words ask for one, and else runs the command that they ask for.
 use Rattle.std.specs.Prelude.{◌≡◌}
 use Rattle.cfg_io.specs.declared.sink.Sink.{Ghosts as SinkWords}
-use Rattle.change_apply.specs.Talks.{Bytes}
+use Rattle.command_apply.specs.Talks.{Bytes}
 use Rattle.command_answers.specs.Answers.{no_memory_line}
 use Rattle.command_answers.specs.declared.status.Status.TheVariants as status
 use Rattle.command_apply.specs.Applying.{AppliesBy}

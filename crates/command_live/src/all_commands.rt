@@ -8,15 +8,13 @@ ghost use Rattle.command_spec.specs.Known.{AsksOf, all_commands};
 ghost use Rattle.command_spec.specs.Naming.{AskForNoFile, NamesNoFile};
 ghost use Rattle.command_spec.specs.Outcomes.{IsRunStatus};
 ghost use Rattle.command_spec.specs.Runs.{Answered, Runs, run_of};
-ghost use Rattle.command_live.specs.Agreeing.{ComesBack, GivesBack};
-ghost use Rattle.txn_gate.specs.Seats.{IsChangeSeatOf, change_in, collected_in};
-ghost use Rattle.txn_spec.specs.Views.{nothing_done};
+ghost use Rattle.command_live.specs.Agreeing.{ComesBack, GivesBack, IsFresh};
 
 use crate::on_threads::run_live;
 use crate::running::Crew;
 use cfg_io::{Shelf, Sink};
 use command_answers::Status;
-use command_program::{run_command, write_no_memory, write_usage};
+use command_apply::{run_command, write_no_memory, write_usage};
 use command_spec::runs_answer_their_commands;
 use command_words::{Command, read_words};
 use live_run::Turnstile;
@@ -41,8 +39,7 @@ pub fn top<H: Shelf, K: Sink, R, T>(
 where
     R: Threads + Wait + Copy + Send + Sync,
     T: Turnstile + Sync,
-    requires here { IsChangeSeatOf seat gates.now }
-    requires fresh { (change_in seat ≡ nothing_done) × (collected_in seat ≡ []) × (seat.spare ≡ 0) }
+    requires fresh { IsFresh gates.now seat }
     // What the words ask for, by what the files hold, and what was written of it.
     ensures runs { Runs all_commands (run_of H.Shelf K.Sink (map string_bytes words.now)
         shelf.old shelf.new out.old out.new result.0) }
@@ -62,32 +59,6 @@ where
     ensures untouched { AskForNoFile all_commands (map string_bytes words.now) → shelf.new ≡ shelf.old }
 {
     runs_answer_their_commands();
-    run_words(rt, alloc, words, shelf, out, stile, gates, seat)
-}
-
-/// The same, said once.
-fn run_words<H: Shelf, K: Sink, R, T>(
-    rt: R,
-    alloc: Global,
-    words: &[String],
-    shelf: &mut H,
-    out: &mut K,
-    stile: &T,
-    gates: &Gates,
-    seat: ChangeSeat,
-) -> (Status, Option<ChangeSeat>)
-where
-    R: Threads + Wait + Copy + Send + Sync,
-    T: Turnstile + Sync,
-    requires here { IsChangeSeatOf seat gates.now }
-    requires fresh { (change_in seat ≡ nothing_done) × (collected_in seat ≡ []) × (seat.spare ≡ 0) }
-    ensures runs { Runs all_commands (run_of H.Shelf K.Sink (map string_bytes words.now)
-        shelf.old shelf.new out.old out.new result.0) }
-    ensures kept { H.files shelf.new ≡ H.files shelf.old }
-    ensures seat { GivesBack gates.now.words.shared.table_id (run_of H.Shelf K.Sink (map string_bytes words.now)
-        shelf.old shelf.new out.old out.new result.0) result.1 }
-    ensures untouched { AskForNoFile all_commands (map string_bytes words.now) → shelf.new ≡ shelf.old }
-{
     match read_words(alloc, words) {
         Ok(Some(command)) => run_read(rt, alloc, command, shelf, out, stile, gates, seat),
         Ok(None) => (write_usage(out), None),
@@ -110,8 +81,7 @@ where
     R: Threads + Wait + Copy + Send + Sync,
     T: Turnstile + Sync,
     requires asked { (words : List (List ℕ)) × Asks words command }
-    requires here { IsChangeSeatOf seat gates.now }
-    requires fresh { (change_in seat ≡ nothing_done) × (collected_in seat ≡ []) × (seat.spare ≡ 0) }
+    requires fresh { IsFresh gates.now seat }
     ensures runs { (words : List (List ℕ)) → Asks words command.entry → Runs all_commands (run_of H.Shelf K.Sink words
         shelf.old shelf.new out.old out.new result.0) }
     ensures kept { H.files shelf.new ≡ H.files shelf.old }

@@ -6,18 +6,16 @@ ghost use Rattle.command_spec.specs.Known.{AsksOf, on_threads};
 ghost use Rattle.command_spec.specs.Outcomes.{IsRunStatus};
 ghost use Rattle.command_spec.specs.Naming.{AskForNoFile, NamesNoFile};
 ghost use Rattle.command_spec.specs.Runs.{Answered, Runs, run_of};
-ghost use Rattle.command_live.specs.Agreeing.{ComesBack};
+ghost use Rattle.command_live.specs.Agreeing.{ComesBack, IsFresh};
 ghost use Rattle.command_live.specs.Crews.{IsCrew};
 ghost use Rattle.command_words.specs.CommandLine.{Asks};
 ghost use Rattle.command_words.specs.declared.words.Command.{Command};
 ghost use Rattle.command_words.specs.declared.words.Command.TheVariants as commands;
-ghost use Rattle.txn_gate.specs.Seats.{IsChangeSeatOf, change_in, collected_in};
-ghost use Rattle.txn_spec.specs.Views.{nothing_done};
 
 use crate::running::{Crew, answer_script};
 use cfg_io::{Shelf, Sink};
 use command_answers::Status;
-use command_program::{write_answer, write_no_memory, write_text, write_usage};
+use command_apply::{write_answer, write_no_memory, write_text, write_usage};
 use command_spec::runs_answer_their_commands;
 use command_words::{Command, read_words};
 use live_run::Turnstile;
@@ -45,8 +43,7 @@ pub fn live<H: Shelf, K: Sink, R, T>(
 where
     R: Threads + Wait + Copy + Send + Sync,
     T: Turnstile + Sync,
-    requires here { IsChangeSeatOf seat gates.now }
-    requires fresh { (change_in seat ≡ nothing_done) × (collected_in seat ≡ []) × (seat.spare ≡ 0) }
+    requires fresh { IsFresh gates.now seat }
     // What the words ask for, by what the files hold, and what was written of it; words that ask for no run on threads
     // have no form.
     ensures runs { Runs on_threads (run_of H.Shelf K.Sink (map string_bytes words.now)
@@ -67,33 +64,6 @@ where
     ensures untouched { AskForNoFile on_threads (map string_bytes words.now) → shelf.new ≡ shelf.old }
 {
     runs_answer_their_commands();
-    live_words(rt, alloc, words, shelf, out, stile, gates, seat)
-}
-
-/// The same, said once.
-fn live_words<H: Shelf, K: Sink, R, T>(
-    rt: R,
-    alloc: Global,
-    words: &[String],
-    shelf: &mut H,
-    out: &mut K,
-    stile: &T,
-    gates: &Gates,
-    seat: ChangeSeat,
-) -> (Status, Option<ChangeSeat>)
-where
-    R: Threads + Wait + Copy + Send + Sync,
-    T: Turnstile + Sync,
-    requires here { IsChangeSeatOf seat gates.now }
-    requires fresh { (change_in seat ≡ nothing_done) × (collected_in seat ≡ []) × (seat.spare ≡ 0) }
-    ensures runs { Runs on_threads (run_of H.Shelf K.Sink (map string_bytes words.now)
-        shelf.old shelf.new out.old out.new result.0) }
-    ensures kept { H.files shelf.new ≡ H.files shelf.old }
-    ensures back { IsTrue (is_some result.1) ↔ IsRunStatus result.0 }
-    ensures agrees { IfSome result.1 (ComesBack gates.now.words.shared.table_id
-        (run_of H.Shelf K.Sink (map string_bytes words.now) shelf.old shelf.new out.old out.new result.0)) }
-    ensures untouched { AskForNoFile on_threads (map string_bytes words.now) → shelf.new ≡ shelf.old }
-{
     match read_words(alloc, words) {
         Ok(Some(command)) => run_asked(rt, alloc, command, shelf, out, stile, gates, seat),
         Ok(None) => (write_usage(out), None),
@@ -116,8 +86,7 @@ where
     R: Threads + Wait + Copy + Send + Sync,
     T: Turnstile + Sync,
     requires asked { (words : List (List ℕ)) × Asks words command }
-    requires here { IsChangeSeatOf seat gates.now }
-    requires fresh { (change_in seat ≡ nothing_done) × (collected_in seat ≡ []) × (seat.spare ≡ 0) }
+    requires fresh { IsFresh gates.now seat }
     ensures runs { (words : List (List ℕ)) → Asks words command.entry → Runs on_threads (run_of H.Shelf K.Sink words
         shelf.old shelf.new out.old out.new result.0) }
     ensures kept { H.files shelf.new ≡ H.files shelf.old }
@@ -166,8 +135,7 @@ where
     R: Threads + Wait + Copy + Send + Sync,
     T: Turnstile + Sync,
     requires crew { IsCrew crew }
-    requires here { IsChangeSeatOf seat gates.now }
-    requires fresh { (change_in seat ≡ nothing_done) × (collected_in seat ≡ []) × (seat.spare ≡ 0) }
+    requires fresh { IsFresh gates.now seat }
     ensures runs { (knows : Command → Bool) (words : List (List ℕ))
         → AsksOf knows words (commands.Live script.now crew.workers crew.observers)
         → Runs knows (run_of H.Shelf K.Sink words shelf.old shelf.new out.old out.new result.0) }

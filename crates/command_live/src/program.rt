@@ -17,8 +17,7 @@ ghost use Rattle.command_words.specs.SessionWords.{AskForNoSession};
 use crate::all_commands::top;
 use cfg_io::{Shelf, Sink, write_all};
 use command_answers::Status;
-use command_apply::carry_out;
-use command_program::write_no_memory;
+use command_apply::{carry_out, write_no_memory};
 use command_words::{hint, read_session};
 use config_graph::NoMemory;
 use live_run::Turnstile;
@@ -66,44 +65,14 @@ where
         → AskForNoFile all_commands (map string_bytes (drop 1 (into_iter_items args))) → shelf.new ≡ shelf.old) }
     ensures unread { OnErr args (shelf.new ≡ shelf.old) }
 {
-    exit_code(run_args(rt, alloc, args, shelf, input, out, notes, stile))
-}
-
-/// The same, and the status.
-fn run_args<H: Shelf, I: Read + Drop, K: Sink, N: Sink, R, T>(
-    rt: R,
-    alloc: Global,
-    args: io::Result<Args>,
-    shelf: &mut H,
-    input: I,
-    out: &mut K,
-    notes: &mut N,
-    stile: &T,
-) -> Status
-where
-    R: Threads + Wait + Copy + Send + Sync,
-    T: Turnstile + Sync,
-    ensures given { IfOk args (λ args. Does (I.remaining input) N.Sink notes.old notes.new
-        (run_of H.Shelf K.Sink (map string_bytes (drop 1 (into_iter_items args)))
-        shelf.old shelf.new out.old out.new result)) }
-    ensures unreadable { IfErr args (λ fault. RunsNoted N.Sink notes.old notes.new
-        (run_of H.Shelf K.Sink [] shelf.old shelf.new out.old out.new result)) }
-    ensures no_memory { IfErr args (λ fault. error_kind fault ≡ ErrorKind.OutOfMemory
-        → Written Status.NoMemory no_memory_line (run_of H.Shelf K.Sink [] shelf.old shelf.new out.old out.new result)
-        × (H.failed shelf.new ≡ H.failed shelf.old)) }
-    ensures kept { H.files shelf.new ≡ H.files shelf.old }
-    ensures untouched { IfOk args (λ args. AskForNoSession (map string_bytes (drop 1 (into_iter_items args)))
-        → AskForNoFile all_commands (map string_bytes (drop 1 (into_iter_items args))) → shelf.new ≡ shelf.old) }
-    ensures unread { OnErr args (shelf.new ≡ shelf.old) }
-{
     match args {
-        Ok(args) => run_given(rt, alloc, args, shelf, input, out, notes, stile),
-        Err(fault) if fault.kind() == ErrorKind::OutOfMemory => write_no_memory(out),
-        Err(_) => run_noted(rt, alloc, &[], shelf, out, notes, stile),
+        Ok(args) => exit_code(run_given(rt, alloc, args, shelf, input, out, notes, stile)),
+        Err(fault) if fault.kind() == ErrorKind::OutOfMemory => exit_code(write_no_memory(out)),
+        Err(_) => exit_code(run_noted(rt, alloc, &[], shelf, out, notes, stile)),
     }
 }
 
-/// The same for words that can be read.
+/// Does what words that can be read ask for, of which the first is passed over.
 fn run_given<H: Shelf, I: Read + Drop, K: Sink, N: Sink, R, T>(
     rt: R,
     alloc: Global,

@@ -2,21 +2,20 @@
 
 ghost use Rattle.std.specs.Prelude.{◌≡◌, ◌++◌, [], IfErr, IfOk, MatchResult};
 ghost use Rattle.command_answers.specs.Answers.{run_status};
-ghost use Rattle.command_program.specs.Preparing.{CanRun, statements_in};
-ghost use Rattle.command_program.specs.Coming.{EndsNoRun, IsShown};
+ghost use Rattle.command_apply.specs.Preparing.{CanRun, statements_in};
+ghost use Rattle.command_apply.specs.Coming.{EndsNoRun, IsShown};
 ghost use Rattle.command_spec.specs.Commands.{IsRunOf};
 ghost use Rattle.command_spec.specs.Outcomes.{IsRunStatus};
 ghost use Rattle.command_spec.specs.Schedules.{IsShownBy, threads};
-ghost use Rattle.command_live.specs.Agreeing.{AgreesWithSeat};
+ghost use Rattle.command_live.specs.Agreeing.{AgreesWithSeat, IsFresh};
 ghost use Rattle.command_live.specs.Crews.{IsCrew};
 ghost use Rattle.command_live.specs.Coming.{ComesWithSeat, ComesWithout};
 ghost use Rattle.report_writing.specs.Reports.{LogsAreMade, report_text};
-ghost use Rattle.txn_gate.specs.Seats.{IsChangeSeatOf, change_in, collected_in};
-ghost use Rattle.txn_spec.specs.Views.{nothing_done};
+ghost use Rattle.txn_gate.specs.Seats.{IsChangeSeatOf};
 ghost use Rattle.watch_lines.specs.WatchText.{watch_text};
 
 use cfg_io::Shelf;
-use command_program::{Answer, Prepared, Stop, answer_run, prepare};
+use command_apply::{Answer, Prepared, Stop, answer_run, prepare};
 use config_graph::{List, NoMemory};
 use live_run::{Observers, Turnstile, run_on_threads};
 use report_types::Report;
@@ -52,8 +51,7 @@ where
     R: Threads + Wait + Copy + Send + Sync,
     T: Turnstile + Sync,
     requires crew { IsCrew crew }
-    requires here { IsChangeSeatOf seat gates.now }
-    requires fresh { (change_in seat ≡ nothing_done) × (collected_in seat ≡ []) × (seat.spare ≡ 0) }
+    requires fresh { IsFresh gates.now seat }
     ensures answers { MatchResult result
         (λ x. ComesWithSeat (H.files shelf.old) name.now crew.observers (H.failed shelf.old) (H.failed shelf.new)
         x.0 x.1)
@@ -84,8 +82,7 @@ where
     R: Threads + Wait + Copy + Send + Sync,
     T: Turnstile + Sync,
     requires crew { IsCrew crew }
-    requires here { IsChangeSeatOf seat gates.now }
-    requires fresh { (change_in seat ≡ nothing_done) × (collected_in seat ≡ []) × (seat.spare ≡ 0) }
+    requires fresh { IsFresh gates.now seat }
     requires asked { CanRun asked }
     ensures answer { IfOk result
         (λ x. IsShown (IsRunOf (AgreesWithSeat x.1) (IsShownBy (threads crew.observers)) (statements_in asked)) x.0) }

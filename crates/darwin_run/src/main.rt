@@ -2,8 +2,7 @@
 #![tactic(auto)]
 
 use cfg_io::{FileShelf, OutSink};
-use command_live::run_program;
-use live_board::Free;
+use command_live::{Free, run_program};
 use std::env;
 use std::process::ExitCode;
 

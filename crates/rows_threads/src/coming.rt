@@ -2,7 +2,7 @@
 
 use crate::counting::is_done;
 use crate::looking::{Awaited, await_it, word_of};
-use live_board::Turnstile;
+use command_live::Turnstile;
 use std::sync::atomic::{AtomicBool, Ordering};
 use txn_gate::Gates;
 

@@ -1,7 +1,7 @@
 //! A turnstile that counts the turns of a worker.
 
 use crate::looking::{Awaited, await_it, word_of};
-use live_board::Turnstile;
+use command_live::Turnstile;
 use quiesce_word::Word;
 use std::sync::atomic::{AtomicBool, AtomicU32, Ordering};
 use txn_gate::Gates;

@@ -1,7 +1,7 @@
 //! A turnstile that holds a node of one line while the nodes of another go on.
 
 use crate::looking::{Awaited, await_it, word_of};
-use live_board::Turnstile;
+use command_live::Turnstile;
 use std::sync::atomic::{AtomicBool, Ordering};
 use txn_gate::Gates;
 

@@ -1,9 +1,8 @@
 //! A turnstile at which workers wait for an observer.
 
 use crate::looking::{Awaited, await_it};
-use live_board::Turnstile;
+use command_live::{Observers, Turnstile};
 use std::sync::atomic::{AtomicBool, Ordering};
-use watch_view::Observers;
 
 /// One of them noted the first commit.
 impl Awaited for Observers {

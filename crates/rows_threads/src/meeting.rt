@@ -1,7 +1,7 @@
 //! A turnstile at which all workers meet.
 
 use crate::looking::{Awaited, await_it};
-use live_board::Turnstile;
+use command_live::Turnstile;
 use std::sync::atomic::{AtomicBool, AtomicU32, Ordering};
 
 /// Holds whoever comes to a turn, the thread of the change too, until all of so many workers have come to one.

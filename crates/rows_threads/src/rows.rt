@@ -6,8 +6,7 @@ use crate::held::Held;
 use crate::looking_on::LookingOn;
 use crate::meeting::Meeting;
 use crate::running::{Row, judge_report, run_beside, run_failing, run_row, run_words};
-use command_program::Status;
-use live_board::Free;
+use command_live::{Free, Observers, Sighting, Status};
 use std::alloc::Global;
 use std::process::Abort;
 use std::str::from_utf8;
@@ -15,7 +14,6 @@ use std::sync::Wait;
 use std::test::Fail;
 use std::thread::Threads;
 use txn_gate::Gates;
-use watch_view::{Observers, Sighting};
 
 const TABLE: &str = "component philosopher(int meals) { require dine; }
 component place(int first) { provide dine; require left, right; }

@@ -5,18 +5,16 @@ ghost use Rattle.txn_gate.specs.Seats.{IsChangeSeatOf, change_in, collected_in};
 ghost use Rattle.txn_spec.specs.Views.{nothing_done};
 
 use cfg_io::{MemShelf, MemSink, Shelf};
-use command_live::live;
-use command_program::{Status, prepare, still};
+use command_live::{
+    Free, Observers, Sighting, Status, Turnstile, live, prepare, run_on_threads, still,
+};
 use config_graph::List;
-use live_board::{Free, Turnstile};
-use live_run::run_on_threads;
 use std::alloc::Global;
 use std::process::Abort;
 use std::sync::Wait;
 use std::test::Fail;
 use std::thread::Threads;
 use txn_gate::{ChangeSeat, Gates};
-use watch_view::{Observers, Sighting};
 
 /// Room for the text of a report. Places ask for their forks again and again, so it may be long where a thread stands
 /// still that holds one.

@@ -2,7 +2,7 @@
 use Rattle.std.proofs.Common.{refl}
 use Rattle.command_spec.specs.Known.{all_commands, on_one_thread}
 use Rattle.command_words.proofs.WordsLaws.{one_command, threads_asked}
-use Rattle.command_program.proofs.KnowingLaws.{on_one}
+use Rattle.command_apply.proofs.KnowingLaws.{on_one}
 use Rattle.command_live.proofs.Knowing.{known_to_all}
 use Rattle.command_live.proofs.all_commands.run_read.Goals as goal
 use Rattle.std.proofs.lemmas.Bool.{false≢true}

@@ -1,5 +1,54 @@
--- What a run does for a command follows from what it does.
+-- Words of no form, and want of memory, have one answer each, and no seat comes back.
+use Rattle.std.proofs.Common.{map, refl, string_bytes}
+use Rattle.command_answers.specs.Answers.{no_memory, usage}
+use Rattle.command_answers.specs.declared.status.Status.TheVariants as status
+use Rattle.command_spec.specs.Known.{on_threads}
+use Rattle.command_spec.specs.Runs.{no_form, not_read, run_of}
+use Rattle.command_apply.proofs.RunningLaws.{runs_alone}
+use Rattle.command_live.proofs.Returning.{ends_no_run}
 use Rattle.command_live.proofs.on_threads.live.Goals as goal
+use Rattle.std.proofs.lemmas.Bool.{false≢true}
 
-pub returns-clause-answered : goal.returns-clause-answered
-returns-clause-answered g c = c.runs_answer_their_commands.ensures _ _ c.live_words.ensures.runs
+pub run_asked-requires-clause-asked : goal.run_asked-requires-clause-asked
+run_asked-requires-clause-asked g c κs alive = (map string_bytes c.args.words.now, rw c.in-Ok-Some.field-0-is at c.in-Ok-Some.ensures.found)
+
+pub returns-in-Ok-Some-clause-runs : goal.returns-in-Ok-Some-clause-runs
+returns-in-Ok-Some-clause-runs g c = c.run_asked.ensures.runs _ (rw c.in-Ok-Some.field-0-is at c.in-Ok-Some.ensures.found)
+
+pub returns-in-Ok-Some-clause-answered : goal.returns-in-Ok-Some-clause-answered
+returns-in-Ok-Some-clause-answered g c = c.runs_answer_their_commands.ensures _ _ (c.run_asked.ensures.runs _ (rw c.in-Ok-Some.field-0-is at c.in-Ok-Some.ensures.found))
+
+pub returns-in-Ok-Some-clause-agrees : goal.returns-in-Ok-Some-clause-agrees
+returns-in-Ok-Some-clause-agrees g c = c.run_asked.ensures.agrees _ (rw c.in-Ok-Some.field-0-is at c.in-Ok-Some.ensures.found)
+
+pub returns-in-Ok-Some-clause-untouched : goal.returns-in-Ok-Some-clause-untouched
+returns-in-Ok-Some-clause-untouched g c none =
+    c.run_asked.ensures.untouched (λ known. none _ (known, rw c.in-Ok-Some.field-0-is at c.in-Ok-Some.ensures.found))
+
+pub returns-in-Ok-None-clause-runs : goal.returns-in-Ok-None-clause-runs
+returns-in-Ok-None-clause-runs g c =
+    let seen = run_of g.H.Shelf g.K.Sink (map string_bytes c.args.words.now) c.args.shelf.now c.args.shelf.now c.args.out.now c.write_usage.new.out c.write_usage.result in
+    runs_alone on_threads seen usage refl (no_form (λ command asks. (rw c.in-Ok-None.field-0-is at c.in-Ok-None.ensures.none) command asks.1)) (c.write_usage.ensures seen)
+
+pub returns-in-Ok-None-clause-answered : goal.returns-in-Ok-None-clause-answered
+returns-in-Ok-None-clause-answered g c command asks = absurd ((rw c.in-Ok-None.field-0-is at c.in-Ok-None.ensures.none) command asks.1)
+
+pub returns-in-Ok-None-clause-back : goal.returns-in-Ok-None-clause-back
+returns-in-Ok-None-clause-back g c =
+    let seen = run_of g.H.Shelf g.K.Sink (map string_bytes c.args.words.now) c.args.shelf.now c.args.shelf.now c.args.out.now c.write_usage.new.out c.write_usage.result in
+    (λ some. absurd (false≢true some), λ is. absurd (ends_no_run status.Usage _ seen refl (c.write_usage.ensures seen) is))
+
+pub returns-in-Err-clause-runs : goal.returns-in-Err-clause-runs
+returns-in-Err-clause-runs g c =
+    let seen = run_of g.H.Shelf g.K.Sink (map string_bytes c.args.words.now) c.args.shelf.now c.args.shelf.now c.args.out.now c.write_no_memory.new.out c.write_no_memory.result in
+    runs_alone on_threads seen no_memory refl not_read (c.write_no_memory.ensures seen)
+
+pub returns-in-Err-clause-answered : goal.returns-in-Err-clause-answered
+returns-in-Err-clause-answered g c =
+    let seen = run_of g.H.Shelf g.K.Sink (map string_bytes c.args.words.now) c.args.shelf.now c.args.shelf.now c.args.out.now c.write_no_memory.new.out c.write_no_memory.result in
+    c.runs_answer_their_commands.ensures _ _ (runs_alone on_threads seen no_memory refl not_read (c.write_no_memory.ensures seen))
+
+pub returns-in-Err-clause-back : goal.returns-in-Err-clause-back
+returns-in-Err-clause-back g c =
+    let seen = run_of g.H.Shelf g.K.Sink (map string_bytes c.args.words.now) c.args.shelf.now c.args.shelf.now c.args.out.now c.write_no_memory.new.out c.write_no_memory.result in
+    (λ some. absurd (false≢true some), λ is. absurd (ends_no_run status.NoMemory _ seen refl (c.write_no_memory.ensures seen) is))

@@ -5,8 +5,8 @@ use Rattle.command_answers.specs.declared.status.Status.TheVariants as status
 use Rattle.command_spec.specs.Known.{on_threads}
 use Rattle.command_spec.specs.Runs.{no_form, run_of}
 use Rattle.command_words.proofs.WordsLaws.{threads_asked}
-use Rattle.command_program.proofs.RunningLaws.{not_known, runs_alone}
-use Rattle.command_program.proofs.KnowingLaws.{not_on_threads}
+use Rattle.command_apply.proofs.RunningLaws.{not_known, runs_alone}
+use Rattle.command_apply.proofs.KnowingLaws.{not_on_threads}
 use Rattle.command_live.proofs.Returning.{ends_no_run}
 use Rattle.command_live.proofs.on_threads.run_asked.Goals as goal
 use Rattle.std.proofs.lemmas.Bool.{false≢true}

@@ -4,7 +4,7 @@ use Rattle.command_spec.specs.Runs.{run_of}
 use Rattle.command_spec.specs.Schedules.{IsReportBy, IsShownBy, threads}
 use Rattle.command_words.specs.declared.words.Command.TheVariants as commands
 use Rattle.command_live.specs.Agreeing.{AgreesWithSeat, ComesBack}
-use Rattle.command_program.proofs.RunningLaws.{runs_by}
+use Rattle.command_apply.proofs.RunningLaws.{runs_by}
 use Rattle.command_live.proofs.Returning.{comes_wider, of_back, reports_so, stop_no_run}
 use Rattle.command_live.proofs.on_threads.run_live.Goals as goal
 use Rattle.std.proofs.lemmas.Bool.{false≢true}

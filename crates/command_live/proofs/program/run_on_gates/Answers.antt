@@ -3,7 +3,7 @@ use Rattle.std.proofs.Common.{ap, map, refl, string_bytes}
 use Rattle.command_answers.specs.Answers.{no_memory}
 use Rattle.command_spec.specs.Known.{all_commands}
 use Rattle.command_spec.specs.Runs.{not_read, run_of}
-use Rattle.command_program.proofs.RunningLaws.{runs_alone}
+use Rattle.command_apply.proofs.RunningLaws.{runs_alone}
 use Rattle.command_live.proofs.Knowing.{nothing_asked}
 use Rattle.command_live.proofs.program.run_on_gates.Goals as goal
 

@@ -6,13 +6,13 @@ use Rattle.command_spec.specs.Courses.{says}
 use Rattle.command_spec.specs.Lines.{Progress}
 use Rattle.command_spec.specs.Schedules.{IsReportBy, IsShownBy, threads}
 use Rattle.command_spec.specs.Scripts.{prepares}
-use Rattle.command_program.specs.Coming.{Shows}
-use Rattle.command_program.specs.Preparing.{IsPrepared}
-use Rattle.command_program.specs.declared.answer.Answer.{Answer}
-use Rattle.command_program.specs.declared.answer.Stop.{Stop}
-use Rattle.command_program.specs.declared.answer.Stop.TheVariants as stops
-use Rattle.command_program.proofs.ComingLaws.{comes_stop, ends_no_run}
-use Rattle.command_program.proofs.ReportingLaws.{ran_of}
+use Rattle.command_apply.specs.Coming.{Shows}
+use Rattle.command_apply.specs.Preparing.{IsPrepared}
+use Rattle.command_apply.specs.declared.Answer.{Answer}
+use Rattle.command_apply.specs.declared.Stop.{Stop}
+use Rattle.command_apply.specs.declared.Stop.TheVariants as stops
+use Rattle.command_apply.proofs.ComingLaws.{comes_stop, ends_no_run}
+use Rattle.command_apply.proofs.ReportingLaws.{ran_of}
 use Rattle.command_live.specs.Agreeing.{AgreesWithSeat}
 use Rattle.command_live.proofs.running.answer_script.Goals as goal
 

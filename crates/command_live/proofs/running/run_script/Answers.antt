@@ -1,11 +1,11 @@
 -- The report of the run is answered, and agrees with the seat; behind it stand the lines of its observers.
 use Rattle.std.proofs.Common.{◌++◌, ◌∙◌, Result, Ok, ap}
 use Rattle.command_spec.specs.Schedules.{IsShownBy, threads}
-use Rattle.command_program.specs.Preparing.{statements_in}
+use Rattle.command_apply.specs.Preparing.{statements_in}
 use Rattle.command_live.specs.Agreeing.{AgreesWithSeat}
-use Rattle.command_program.specs.declared.answer.Answer.{Answer}
-use Rattle.command_program.specs.declared.answer.Stop.{Stop}
-use Rattle.command_program.proofs.ReportingLaws.{is_shown}
+use Rattle.command_apply.specs.declared.Answer.{Answer}
+use Rattle.command_apply.specs.declared.Stop.{Stop}
+use Rattle.command_apply.proofs.ReportingLaws.{is_shown}
 use Rattle.report_writing.specs.Reports.{report_text}
 use Rattle.watch_lines.specs.WatchText.{watch_text}
 use Rattle.command_live.proofs.running.run_script.Goals as goal
