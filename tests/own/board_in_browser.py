@@ -41,6 +41,12 @@ OVERLAPS = """(() => { const of = (it) => it.getBoundingClientRect(), boxes = [.
 const rates = [...document.querySelectorAll('#graph .rate')].filter((it) => it.textContent).map(of);
 const meets = (one, other) => one !== other && one.left < other.right && other.left < one.right && one.top < other.bottom && other.top < one.bottom;
 return [boxes, rates].map((all) => rates.filter((one) => all.some((other) => meets(one, other))).length); })()"""
+# links that lead through a box which is none of their ends
+THROUGH = """(() => { const boxes = board.graph.order.filter((box) => !box.isFrame);
+const lies = (box, { x, y }) => x > box.x && x < box.x + box.width && y > box.y && y < box.y + box.height;
+const points = (path) => Array.from({ length: 100 }, (_, at) => path.getPointAtLength((at / 99) * path.getTotalLength()));
+return board.graph.edges.filter(({ from, to, path }) => boxes.some((box) => box !== from && box !== to && points(path).some((point) => lies(box, point))))
+  .map(({ from, to }) => `${from.key} ${to.key}`); })()"""
 
 
 class Hand:
@@ -237,6 +243,7 @@ def try_numbers(hand, board, _):
         hand.open(board)
         hand.until("rates", "[...document.querySelectorAll('#graph .rate')].filter((it) => it.textContent).length === 8")
         hand.same("numbers that lie on a box, or on another, %d wide" % size[0], [0, 0], hand.ask(OVERLAPS))
+        hand.same("links that lead through a box", [], hand.ask(THROUGH))
         hand.picture("board-hub-%d" % size[0])
     hand.browser.size(*WIDE)
 

@@ -21,8 +21,8 @@ function rate(number) {
   return number >= 10 ? number.toFixed(0) : `${number}`;
 }
 
-function milliseconds(seconds) {
-  return `${(seconds * 1000).toFixed(1)} ms`;
+function time(seconds) {
+  return seconds < 1 ? `${(seconds * 1000).toFixed(1)} ms` : `${seconds.toFixed(1)} s`;
 }
 
 // Paths that a field lists, with commas between.
@@ -239,7 +239,7 @@ class Board {
     const rows = past.map((one) => {
       const ended = cell("span", one.ended === "made" ? "made" : `${one.ended}: ${one.said}`);
       ended.className = one.ended === "made" ? "made" : "failed";
-      return [new Date(one.at * 1000).toLocaleTimeString("en-GB"), one.call, ended, milliseconds(one.held_seconds), milliseconds(one.waited_seconds), one.held.join(", ")];
+      return [new Date(one.at * 1000).toLocaleTimeString("en-GB"), one.call, ended, time(one.held_seconds), time(one.waited_seconds), one.held.join(", ")];
     });
     byId("past").lastElementChild.replaceChildren(rows.length ? table(["at", "to", "how it ended", "held", "of it waiting", "what was held"], rows) : cell("p", "None yet."));
   }
@@ -365,7 +365,7 @@ class Board {
     byId("told").replaceChildren(cell("p", `Changing to ${call}.`));
     const answer = await this.ask("change", question);
     if (answer.ended !== "made") return this.failed(answer);
-    byId("told").replaceChildren(cell("p", cell("strong", `${call} stands.`)), definitions([["held", answer.held.join(", ") || "nothing"], ["for", milliseconds(answer.held_seconds)], ["of it waiting", milliseconds(answer.waited_seconds)]]));
+    byId("told").replaceChildren(cell("p", cell("strong", `${call} stands.`)), definitions([["held", answer.held.join(", ") || "nothing"], ["for", time(answer.held_seconds)], ["of it waiting", time(answer.waited_seconds)]]));
     for (const field of ["moving", "losing"]) byId(field).value = "";
   }
 

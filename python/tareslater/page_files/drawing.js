@@ -72,7 +72,7 @@ class Drawing {
       const from = this.tree.shown(link.from), to = this.tree.shown(link.to);
       if (from === to && link.from !== link.to) continue;
       const key = `${from.key}\u0000${to.key}`;
-      if (!found.has(key)) found.set(key, { from, to, links: [], path: element("path", { d: curve(from, to), "data-from": from.key, "data-to": to.key }) });
+      if (!found.has(key)) found.set(key, { from, to, links: [], path: element("path", { d: curve(from, to, this.tree.way(from, to)), "data-from": from.key, "data-to": to.key }) });
       found.get(key).links.push(link);
     }
     return [...found.values()];
@@ -214,10 +214,18 @@ function label(kind, x, y, words) {
   return made;
 }
 
-function curve(from, to) {
+// From one box to another, by a way past others.
+function curve(from, to, way) {
   const [x1, y1, x2, y2] = [from.x + from.width, from.y + from.height / 2, to.x, to.y + to.height / 2];
   if (from === to) return `M${x1 - 14} ${from.y}C${x1 - 14} ${from.y - 30},${x1 - 44} ${from.y - 30},${x1 - 44} ${from.y}`;
-  if (x2 > x1) return `M${x1} ${y1}C${x1 + (x2 - x1) / 2} ${y1},${x2 - (x2 - x1) / 2} ${y2},${x2 - 1} ${y2}`;
+  if (x2 > x1) {
+    let [x, y, drawn] = [x1, y1, `M${x1} ${y1}`];
+    for (const { left, right, y: down } of [...way, { left: x2 - 1, right: x2 - 1, y: y2 }]) {
+      drawn += `C${(x + left) / 2} ${y},${(x + left) / 2} ${down},${left} ${down}${right > left ? `H${right}` : ""}`;
+      [x, y] = [right, down];
+    }
+    return drawn;
+  }
   const down = Math.max(from.y + from.height, to.y + to.height) + 26;
   return `M${x1} ${y1}C${x1 + 50} ${y1},${x1 + 50} ${down},${(x1 + x2) / 2} ${down}S${x2 - 50} ${y2},${x2 - 1} ${y2}`;
 }

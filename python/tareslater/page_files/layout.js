@@ -5,17 +5,20 @@ const GAP = { across: 46, down: 14 };
 const WIDEST = 1500; // a row of layers that is wider goes on below
 const GRID = 1.7; // how many times as wide as high many boxes without links are laid out
 const COLUMN = 12; // so few stand below one another
+const BEND = { width: 0, height: 14 }; // of the way that a link has between the boxes of a layer
+const BENDS = 2000; // with more of them links lead straight
 
-// The places of boxes with these sizes, between which links lead: [{x, y}], and how large all is.
+// The places of boxes with these sizes, between which links lead: [{x, y}]; the ways of links that lead over layers, as [from, to, way], where
+// a way is [{left, right, y}]; and how large all is.
 function laidOut(sizes, links) {
   const isLinked = new Array(sizes.length).fill(false);
   for (const [from, to] of links) isLinked[from] = isLinked[to] = true;
   const linked = sizes.map((_, box) => box).filter((box) => isLinked[box]);
   const alone = sizes.map((_, box) => box).filter((box) => !isLinked[box]);
   const places = new Array(sizes.length);
-  const above = linked.length ? layered(sizes, links, linked, places) : { width: 0, height: 0 };
+  const above = linked.length ? layered(sizes, links, linked, places) : { ways: [], width: 0, height: 0 };
   const below = grid(sizes, alone, places, above.height ? above.height + GAP.down * 2 : 0, above.width);
-  return { places, width: Math.max(above.width, below.width), height: Math.max(above.height, below.height) };
+  return { places, ways: above.ways, width: Math.max(above.width, below.width), height: Math.max(above.height, below.height) };
 }
 
 function grid(sizes, boxes, places, top, least) {
@@ -126,19 +129,37 @@ function heights(rows, near, sizes) {
   return middle;
 }
 
-function layered(sizes, links, boxes, places) {
-  const forward = withoutCycles(links, boxes), rows = layersOf(boxes, forward), near = neighbours(boxes, forward);
+// A link that leads over layers has a bend in each of them, which is a box for the layout: links between neighbouring layers, and bends.
+function bent(rows, forward, sizes) {
+  const layer = new Map(rows.flatMap((row, at) => row.map((box) => [box, at]))), links = [], bends = [];
+  const over = forward.reduce((sum, [from, to]) => sum + layer.get(to) - layer.get(from) - 1, 0);
+  if (over > BENDS) return { links: forward, bends };
+  for (const [from, to] of forward) {
+    const way = [];
+    for (let at = layer.get(from) + 1; at < layer.get(to); at++) {
+      way.push(sizes.push(BEND) - 1);
+      rows[at].push(way[way.length - 1]);
+    }
+    [...way, to].forEach((box, at) => links.push([at ? way[at - 1] : from, box]));
+    if (way.length) bends.push([from, to, way]);
+  }
+  return { links, bends };
+}
+
+function layered(boxSizes, boxLinks, boxes, found) {
+  const forward = withoutCycles(boxLinks, boxes), rows = layersOf(boxes, forward), sizes = [...boxSizes], places = [];
+  const { links, bends } = bent(rows, forward, sizes), near = neighbours(rows.flat(), links);
   ordered(rows, near);
   const middle = heights(rows, near, sizes), bands = bandsOf(rows, sizes);
   let top = 0, widest = 0;
-  for (const band of bands) {
+  for (const [number, band] of bands.entries()) {
     const all = band.flat();
     const least = Math.min(...all.map((box) => middle.get(box) - sizes[box].height / 2));
     let x = 0, bottom = top;
     for (const row of band) {
       const width = Math.max(...row.map((box) => sizes[box].width));
       for (const box of row) {
-        places[box] = { x: x + (width - sizes[box].width) / 2, y: top + middle.get(box) - sizes[box].height / 2 - least };
+        places[box] = { x: x + (width - sizes[box].width) / 2, y: top + middle.get(box) - sizes[box].height / 2 - least, left: x, right: x + width, number };
         bottom = Math.max(bottom, places[box].y + sizes[box].height);
       }
       x += width + GAP.across;
@@ -146,7 +167,10 @@ function layered(sizes, links, boxes, places) {
     widest = Math.max(widest, x - GAP.across);
     top = bottom + GAP.down * 3;
   }
-  return { width: widest, height: top - GAP.down * 3 };
+  for (const box of boxes) found[box] = { x: places[box].x, y: places[box].y };
+  const wayOf = (bend) => ({ left: places[bend].left, right: places[bend].right, y: places[bend].y + BEND.height / 2 });
+  const isInRow = ([from, to]) => places[from].number === places[to].number; // of layers, none of which goes on below
+  return { ways: bends.filter(isInRow).map(([from, to, way]) => [from, to, way.map(wayOf)]), width: widest, height: top - GAP.down * 3 };
 }
 
 // Layers that would be too wide in one row go on below, as lines of a text.

@@ -143,8 +143,9 @@ class Tree {
     const inner = [...box.inner.values()], number = new Map(inner.map((one, at) => [one.key, at]));
     inner.forEach((one) => this.measure(one));
     const links = [...box.links.values()].map((ends) => ends.map((one) => number.get(one.key)));
-    const { places, width, height } = laidOut(inner, links);
+    const { places, ways, width, height } = laidOut(inner, links);
     inner.forEach((one, at) => (one.within = places[at]));
+    box.ways = new Map(ways.map(([from, to, way]) => [`${inner[from].key}\u0000${inner[to].key}`, way]));
     const border = box === this.root ? 0 : BOX.inner;
     box.width = Math.max(width, box === this.root ? 0 : shortened(box.name).length * BOX.sign + 20) + 2 * border;
     box.height = height + 2 * border + (box === this.root ? 0 : BOX.head - BOX.inner);
@@ -156,12 +157,24 @@ class Tree {
     return Math.min(BOX.most, Math.max(BOX.least, 20 + BOX.sign * Math.max(shortened(box.name).length + 5, shortened(second).length * 0.92)));
   }
 
+  // The way between two boxes right in one, past others there: [{left, right, y}].
+  way(from, to) {
+    const found = from.above === to.above && from.above.ways ? from.above.ways.get(`${from.key}\u0000${to.key}`) : null;
+    const [x, y] = this.corner(from.above);
+    return (found || []).map((bend) => ({ left: bend.left + x, right: bend.right + x, y: bend.y + y }));
+  }
+
+  // Where what is in a box begins.
+  corner(box) {
+    return box === this.root ? [box.x, box.y] : [box.x + BOX.inner, box.y + BOX.head];
+  }
+
   settle(box, x, y, found) {
     [box.x, box.y] = [x, y];
     if (box !== this.root) found.push(box);
     if (!box.isFrame || !box.isOpen) return;
-    const [left, top] = box === this.root ? [0, 0] : [BOX.inner, BOX.head];
-    for (const one of box.inner.values()) this.settle(one, x + left + one.within.x, y + top + one.within.y, found);
+    const [left, top] = this.corner(box);
+    for (const one of box.inner.values()) this.settle(one, left + one.within.x, top + one.within.y, found);
   }
 }
 
