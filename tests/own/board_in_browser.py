@@ -95,6 +95,12 @@ class Hand:
         self.browser.visit(board.address)
         self.until("it follows", "Object.keys(board.now.of).length")
 
+    def leave(self):
+        """Goes to no page, and forgets that the board of the last one wasn't reached any more."""
+        self.browser.call("Page.navigate", url="about:blank")
+        self.ask("0")
+        self.browser.events.clear()
+
     def faultless(self, what):
         """Nothing went wrong on the page, up to now."""
         self.same("faults of %s" % what, [], self.faults())
@@ -292,6 +298,7 @@ async def with_board(hand, rows, **words):
                     hand.tries.want("%s comes to its end" % row.__name__, False, broken)
     if rows[-1] is try_looks:
         await loop.run_in_executor(None, hand.until, "that the board is gone", "document.querySelector('#about').innerText.startsWith('The board isn')")
+    await loop.run_in_executor(None, hand.leave)
 
 
 def try_all(tries, program, pictures):
