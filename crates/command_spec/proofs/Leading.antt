@@ -1,5 +1,5 @@
 -- Where the shelf tells each file that a script uses, its lines lead on or one of them is refused.
-use Rattle.std.proofs.Common.{◌≡◌, ◌∙◌, ◌≤◌, ◌<◌, ◌⊎◌, inl, inr, ℕ, ℤ, Bool, true, false, List, [], ◌∷◌, ◌++◌, Some, IsSomeAnd, codes, length, refl, sym, ap, subst}
+use Rattle.std.proofs.Common.{◌≡◌, ◌∙◌, ◌≤◌, ◌<◌, ◌⊎◌, inl, inr, ℕ, ℤ, Bool, true, false, List, [], ◌∷◌, ◌++◌, Option, Some, None, IsSomeAnd, codes, length, refl, sym, ap, subst}
 use Rattle.std.specs.Prelude.{◌||◌}
 use Rattle.std.proofs.lemmas.Bool.{cases_lt}
 use Rattle.base.specs.Each.{EachAfter}
@@ -21,6 +21,7 @@ use Rattle.darwin_types.specs.declared.error.TypeError.{TypeError}
 use Rattle.elaborator.specs.Elaboration.{HasNoFault, ElaboratesTo}
 use Rattle.elaborator.specs.Faults.{Faults}
 use Rattle.elaborator.specs.declared.error.ElabError.{ElabError}
+use Rattle.command_words.specs.declared.words.Change.{Change}
 use Rattle.command_answers.specs.RefusalLines.{elaborate_words, plan_words}
 use Rattle.change_spec.specs.Scripts.{more_made}
 use Rattle.command_answers.specs.Answers.{description}
@@ -29,6 +30,7 @@ use Rattle.command_spec.specs.Descriptions.{IsChecked, IsTextRefusal}
 use Rattle.command_spec.specs.Endings.{Refuses}
 use Rattle.command_spec.specs.Files.{IsTold}
 use Rattle.command_spec.specs.Lines.{GraphUse, starts, changes, RunLine, uses, calls, does, Progress, begun, of_lines, with_description, with_called_graph, with_statement, Allows, Forbids, CallLeads, IsCallRefusal, by_elaboration, by_deed}
+use Rattle.command_spec.specs.Plans.{lines_of_change, uses_other}
 use Rattle.command_spec.specs.Scripts.{LeadTo, Uses, lines_of_body, lines_of_script}
 use Rattle.command_spec.specs.Sorts.{limit_of, of_description}
 use Rattle.change_plan.specs.Refusals.{CanPlan, IsRefusal}
@@ -46,6 +48,18 @@ had_before test above line other some =
     by true b other some = refl
     by false true other some = cc
     by false false other some = cc
+
+-- a line isn't out of order below these
+abbrev IsInOrder : List ScriptLine → ScriptLine → Type 0
+IsInOrder above line = is_out_of_order above line.body ≡ false
+
+in_order : (above lines : List ScriptLine) → EachAfter StandsInOrder above lines → EachAfter IsInOrder above lines
+in_order above [] each = tt
+in_order above (line ∷ lines) each = (each.0.right, in_order (above ++ line ∷ []) lines each.1)
+
+-- a line that says this
+abbrev saying : Body → ScriptLine
+saying body = record { number = 1; body = body }
 
 -- ---- the lines
 
@@ -182,12 +196,12 @@ module _ (names : (t : Tree) → NoFault t ⊎ ((e : TypeError) × HasFault t e)
         rest p (record { used = λ any. used_still (ap is_file is) any; named = λ any. named_still (ap is_start is) any })
 
   all_go :
-      (lines above : List ScriptLine) (p : Progress) → Fits above p → EachAfter StandsInOrder above lines → HasAll f (lines_of_script lines) → LeadOrStop f (lines_of_script lines) p
+      (lines above : List ScriptLine) (p : Progress) → Fits above p → EachAfter IsInOrder above lines → HasAll f (lines_of_script lines) → LeadOrStop f (lines_of_script lines) p
   all_go [] above p fits order held = inl (p, here)
   all_go (line ∷ lines) above p fits order held =
       line_goes above line (lines_of_script lines) p fits
       (λ q below. all_go lines (above ++ line ∷ []) q below order.1 (λ file used. held file (used_below line.body (lines_of_script lines) file used)))
-      line.body refl order.0.right held
+      line.body refl order.0 held
     where
       used_below : (body : Body) (below : List RunLine) (file : List ℕ) → Uses below file → Uses (lines_of_body body ++ below) file
       used_below (bodies.File name) below file used = inr used
@@ -198,8 +212,32 @@ module _ (names : (t : Tree) → NoFault t ⊎ ((e : TypeError) × HasFault t e)
       used_below bodies.Show below file used = used
       used_below bodies.Stop below file used = used
 
+  at_first : Fits [] begun
+  at_first = record { used = λ any. cc; named = λ any. cc }
+
   pub lead_or_stop :
       (bytes : List ℕ) (script : Script) → IsScript bytes script → HasAll f (lines_of_script script.lines) → LeadOrStop f (lines_of_script script.lines) begun
   lead_or_stop bytes script is held =
-      let at_first : Fits [] begun = record { used = λ any. cc; named = λ any. cc } in
-      all_go script.lines [] begun at_first (script_stands bytes script is) held
+      all_go script.lines [] begun at_first (in_order [] script.lines (script_stands bytes script is)) held
+
+  -- and so do those of a change, which stand as in a script
+  pub change_leads_or_stops : (c : Change) → HasAll f (lines_of_change c) → LeadOrStop f (lines_of_change c) begun
+  change_leads_or_stops c held =
+      by c.other refl
+    where
+      with_other : Option (List ℕ) → List RunLine
+      with_other other =
+          uses c.file ∷ calls starts c.call.top c.call.args ∷ (uses_other other ++ calls (changes 0 []) c.target.top c.target.args ∷ [])
+
+      of : (other : Option (List ℕ)) → HasAll f (with_other other) → LeadOrStop f (with_other other) begun
+      of None all =
+          all_go (saying (bodies.File c.file) ∷ saying (bodies.Start c.call.top c.call.args) ∷ saying (bodies.Change c.target.top c.target.args 0 []) ∷ [])
+          [] begun at_first (refl, (refl, (refl, tt))) all
+      of (Some other) all =
+          all_go
+          (saying (bodies.File c.file) ∷ saying (bodies.Start c.call.top c.call.args) ∷ saying (bodies.File other)
+          ∷ saying (bodies.Change c.target.top c.target.args 0 []) ∷ [])
+          [] begun at_first (refl, (refl, (refl, (refl, tt)))) all
+
+      by : (other : Option (List ℕ)) → c.other ≡ other → LeadOrStop f (lines_of_change c) begun
+      by other is = subst (λ ls. LeadOrStop f ls begun) (ap with_other (sym is)) (of other (subst (HasAll f) (ap with_other is) held))

@@ -14,6 +14,8 @@ ghost use Rattle.command_spec.specs.Endings.{Refuses, RefusesNothing, is_of_file
 ghost use Rattle.command_spec.specs.Lines.{RunLine, Progress, begun, of_lines};
 ghost use Rattle.command_spec.specs.Outcomes.{Judged, Ran, SummedUp};
 ghost use Rattle.command_spec.specs.Runs.{Run, Runs};
+ghost use Rattle.command_spec.specs.Plans.{lines_of_change};
+ghost use Rattle.command_words.specs.declared.words.Change.{Change};
 ghost use Rattle.command_spec.specs.Scripts.{Elaborates, LeadTo, Uses, lines_of_script, prepares};
 ghost use Rattle.command_spec.specs.RunReports.{IsReportOf};
 ghost use Rattle.change_spec.specs.Scripts.{StatementsOf};
@@ -82,7 +84,7 @@ pub fn a_script_has_one_run()
 }
 
 /// A law: the lines of a script lead to one end at most, and none of them is refused then. Where the shelf has each file
-/// that they use, they lead on or one of them is refused.
+/// that they use, they lead on or one of them is refused; and so do the lines that say a change.
 pub fn lines_lead_or_are_refused()
     ensures one_end { (files : Files) (lines : List RunLine) (end other : Progress)
         → LeadTo (Some files) begun lines end → LeadTo (Some files) begun lines other → end ≡ other }
@@ -93,6 +95,11 @@ pub fn lines_lead_or_are_refused()
         → ((end : Progress) × LeadTo (Some files) begun (lines_of_script script.lines) end)
         ⊎ ((file : List ℕ) × (words : List (List ℕ))
         × Refuses files (of_lines begun (lines_of_script script.lines)) (description file words)) }
+    ensures of_a_change { (files : Files) (change : Change)
+        → ((file : List ℕ) → Uses (lines_of_change change) file → (text : List ℕ) × (files file ≡ Some text))
+        → ((end : Progress) × LeadTo (Some files) begun (lines_of_change change) end)
+        ⊎ ((file : List ℕ) × (words : List (List ℕ))
+        × Refuses files (of_lines begun (lines_of_change change)) (description file words)) }
 {
     a_fault_or_none();
     a_graph_or_a_fault();
