@@ -243,12 +243,12 @@ def try_zoom(hand, board, _):
 
 
 def try_numbers(hand, board, _):
-    """Where many links begin at one box, each has its number, wide and narrow."""
+    """Where many links begin at one box, each has room for its number, wide and narrow, and leads past other boxes."""
     for size in (WIDE, NARROW):
         hand.browser.size(*size)
         hand.open(board)
-        hand.until("rates", "[...document.querySelectorAll('#graph .rate')].filter((it) => it.textContent).length === 8")
-        hand.same("numbers that lie on a box, or on another, %d wide" % size[0], [0, 0], hand.ask(OVERLAPS))
+        hand.same("links with a number", 8, hand.ask("document.querySelectorAll('#graph .rate').length"))
+        hand.same("numbers that lie on a box, or on another, %d wide" % size[0], [0, 0], hand.ask("board.graph.edges.forEach(({ rate }) => (rate.textContent = '8.8k')), %s" % OVERLAPS))
         hand.same("links that lead through a box", [], hand.ask(THROUGH))
         hand.picture("board-hub-%d" % size[0])
     hand.browser.size(*WIDE)
